@@ -1,0 +1,3 @@
+pub mod Targets
+pub mod Types
+pub mod Views

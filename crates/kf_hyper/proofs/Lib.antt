@@ -1,0 +1,12 @@
+pub mod Proportions
+pub mod Abstraction
+pub mod AtMostOne
+pub mod Factors
+pub mod Gathering
+pub mod Listing
+pub mod Ordered
+pub mod Posteriors
+pub mod Reading
+pub mod Scaling
+pub mod Steps
+pub mod Weights

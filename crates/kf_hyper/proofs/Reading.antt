@@ -1,0 +1,62 @@
+-- What a hyper's shape says of one of its classes.
+use Rattle.std.proofs.Common.{◌≡◌, ℕ, ◌/◌, ◌<◌, ◌≤◌, pos, List, map, sum_by, sym, ◌∙◌, ap, subst, arith, length, get_or}
+use Rattle.std.proofs.lemmas.List.{get_or-map, length-map}
+use Rattle.std.proofs.lemmas.List.Sums.{get_or-le-sum_by}
+use Rattle.std.proofs.lemmas.Nat.Gcd.{le_of_dvd}
+use Rattle.std.specs.Int.{◌∣◌}
+use Rattle.kf_frac.specs.Divisors.{gcd_of}
+use Rattle.kf_frac.specs.Fractions.{limit, PartsFit, reduced_num, reduced_den}
+use Rattle.kf_frac.proofs.CommonDivisors.{gcd_positive}
+use Rattle.kf_frac.proofs.LowestTerms.{reduced_num_abs, reduced_den_is}
+use Rattle.kf_hyper.specs.declared.entry.Entry.{Entry}
+use Rattle.kf_hyper.specs.declared.class.Class.{Class}
+use Rattle.kf_hyper.specs.Columns.{total}
+use Rattle.kf_hyper.specs.Hypers.{Inner, IsInner}
+use Rattle.kf_hyper.specs.Shapes.{IsShape, inner_of}
+use Rattle.kf_hyper.proofs.Scaling.{total_positive}
+
+-- a quotient is at most what is divided
+quotient_le : (m g : ℕ) → 0 < g → m / g ≤ m
+quotient_le m g some = grind arith
+
+-- a fraction whose parts fit is not too wide in lowest terms
+pub reduced_fit : (n d : ℕ) → 0 < d → n ≤ limit → d ≤ limit → PartsFit (reduced_num (pos n) d) (reduced_den (pos n) d)
+reduced_fit n d some num den =
+    let g : ℕ = gcd_of n d in
+    let pg : 0 < g = gcd_positive n d some in
+    record {
+      num = omega (arith, reduced_num_abs (pos n) d, quotient_le n g pg, num);
+      den = omega (arith, reduced_den_is (pos n) d, quotient_le d g pg, den);
+    }
+
+module _ (classes : List Class) (i : ℕ) (c : Class) (size scale : ℕ) (shape : IsShape size scale (map inner_of classes)) (inside : i < length (map inner_of classes)) (is : c ≡ get_or classes i c) where
+  within : i < length classes
+  within = simp length-map at inside
+
+  here : get_or (map inner_of classes) i (inner_of c) ≡ inner_of c
+  here = get_or-map inner_of classes i c (inner_of c) within ∙ sym (ap inner_of is)
+
+  pub total_within : c.total ≤ scale
+  total_within =
+      let part : (get_or (map inner_of classes) i (inner_of c)).total ≤ sum_by (λ (j : Inner). j.total) (map inner_of classes) = get_or-le-sum_by (λ (j : Inner). j.total) (map inner_of classes) i (inner_of c) inside in
+      omega (arith, part, ap (λ (j : Inner). j.total) here, shape.whole)
+
+  is_inner : IsInner c.inner
+  is_inner = subst (λ (j : Inner). IsInner j.entries) here (shape.inner i (inner_of c) inside)
+
+  pub whole_some : c.whole ≡ total c.inner → 0 < c.whole
+  whole_some summed = omega (arith, summed, total_positive c.inner is_inner.column)
+
+  pub whole_narrow : c.whole ≡ total c.inner → c.whole ≤ limit
+  whole_narrow summed =
+      let used : 0 < c.total = subst (λ (j : Inner). 0 < j.total) here (shape.used i (inner_of c) inside) in
+      let divides : total c.inner ∣ c.total = subst (λ (j : Inner). total j.entries ∣ j.total) here (shape.multiple i (inner_of c) inside) in
+      omega (arith, summed, le_of_dvd used divides, total_within, shape.narrow)
+
+  -- the inner that readers show is the class's
+  pub shown_here : (d : Inner) → get_or (map inner_of classes) i d ≡ inner_of c
+  shown_here d = get_or-map inner_of classes i c d within ∙ sym (ap inner_of is)
+
+-- an entry's weight is at most the sum
+pub entry_within : (entries : List Entry) (k : ℕ) (d : Entry) → k < length entries → (get_or entries k d).weight ≤ total entries
+entry_within entries k d within = get_or-le-sum_by (λ (e : Entry). e.weight) entries k d within

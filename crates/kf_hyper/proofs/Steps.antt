@@ -1,0 +1,129 @@
+-- The classes of one more column, and what all of them make.
+use Rattle.std.proofs.Common.{◌≡◌, ℕ, ◌+◌, ◌*◌, ◌<◌, ◌≤◌, List, [], ◌∷◌, ◌++◌, Bool, true, false, All, map, sum_by, refl, sym, ◌∙◌, ap, subst, arith, suc, zero, length, get_or, take, if◌then◌else◌, unwrap_or, Some}
+use Rattle.std.proofs.Math.Nat.{dvd-add, dvd-mul_left}
+use Rattle.std.proofs.lemmas.List.{take_more}
+use Rattle.std.proofs.lemmas.List.Elements.{All-head, All-tail, All-nil, All-cons, All-push, All-pop}
+use Rattle.std.proofs.lemmas.List.Sums.{sum_by-cons, sum_by_push}
+use Rattle.std.proofs.lemmas.List.Sums.{sum_by_more_le}
+use Rattle.std.proofs.lemmas.Map.Steps.{lookup-le-sum}
+use Rattle.std.specs.BTreeMap.{insert_entry, is_at}
+use Rattle.std.specs.Map.{lookup, keys_of, values_of}
+use Rattle.std.specs.List.Sorted.{IsStrictlySortedBy}
+use Rattle.std.specs.Int.{◌∣◌}
+use Rattle.kf_hyper.specs.declared.entry.Entry.{Entry}
+use Rattle.kf_hyper.specs.declared.column.Column.{Column}
+use Rattle.kf_hyper.specs.Columns.{IsBelow, total, proportional}
+use Rattle.kf_hyper.specs.Joint.{mass}
+use Rattle.kf_hyper.specs.Hypers.{IsInner, class_total}
+use Rattle.kf_hyper.specs.Classes.{key_order, scaled, IsReduced, HasInner, ClassesOf, keyed, gathered}
+use Rattle.kf_hyper.proofs.Gathering.{Key, Inserts, fresh, added, past, inserted}
+use Rattle.kf_hyper.proofs.Scaling.{total_positive, total_reduced, proportional_reduced}
+
+abbrev Pair : Type 0
+Pair = List Entry × ℕ
+
+module _ (f : List Entry → ℕ → ℕ) (adds : (k : List Entry) (a b : ℕ) → f k (a + b) ≡ f k a + f k b) (key : Key) (t : ℕ) where
+  abbrev all_of : List (Key × ℕ) → ℕ
+  all_of es = sum_by (λ (c : Pair). f c.0 c.1) (keyed es)
+
+  all_of-cons : (e : Key × ℕ) (es : List (Key × ℕ)) → all_of (e ∷ es) ≡ f e.0.items e.1 + all_of es
+  all_of-cons e es = sum_by-cons (λ (c : Pair). f c.0 c.1) (e.0.items, e.1) (keyed es)
+
+  -- a sum over the classes grows by what is added
+  sum_inserts : {es fs : List (Key × ℕ)} → Inserts key t es fs → all_of fs ≡ all_of es + f key.items t
+  sum_inserts (fresh es) = omega (arith, all_of-cons (key, t) es)
+  sum_inserts (added k n es same) =
+      let at_key : f k.items t ≡ f key.items t = ap (λ (l : List Entry). f l t) same in
+      omega (arith, all_of-cons (k, n + t) es, all_of-cons (k, n) es, adds k.items n t)
+  sum_inserts (past e es fs rest) = omega (arith, all_of-cons e es, all_of-cons e fs, sum_inserts rest)
+
+module _ (P : Pair → Type 0) (key : Key) (t : ℕ) (new : P (key.items, t)) (more : (n : ℕ) → P (key.items, n) → P (key.items, n + t)) where
+  all_inserts : {es fs : List (Key × ℕ)} → Inserts key t es fs → All P (keyed es) → All P (keyed fs)
+  all_inserts (fresh es) all = All-cons P (key.items, t) (keyed es) new all
+  all_inserts (added k n es same) all =
+      All-cons P (k.items, n + t) (keyed es)
+      (subst (λ (l : List Entry). P (l, n + t)) (sym same) (more n (subst (λ (l : List Entry). P (l, n)) same (All-head P (k.items, n) (keyed es) all))))
+      (All-tail P (k.items, n) (keyed es) all)
+  all_inserts (past e es fs rest) all =
+      All-cons P (e.0.items, e.1) (keyed fs) (All-head P (e.0.items, e.1) (keyed es) all) (all_inserts rest (All-tail P (e.0.items, e.1) (keyed es) all))
+
+product_positive : (a b : ℕ) → 0 < a → 0 < b → 0 < a * b
+product_positive (suc a) (suc b) p q = omega arith
+product_positive zero b p q = absurd (omega arith)
+product_positive (suc a) zero p q = absurd (omega arith)
+
+if_adds : (b : Bool) (m n : ℕ) → (if b then m + n else 0) ≡ (if b then m else 0) + (if b then n else 0)
+if_adds true m n = refl
+if_adds false m n = refl
+
+reduced_positive : (column inner : List Entry) → IsReduced column inner → 0 < total column
+reduced_positive column inner is = rw (total_reduced column inner is) (product_positive is.factor (total inner) is.some (total_positive inner is.is_inner.column))
+
+below_scaled : (size factor : ℕ) (inner : List Entry) → IsBelow size (map (scaled factor) inner) → IsBelow size inner
+below_scaled size factor [] below = All-nil (λ (e : Entry). e.value < size)
+below_scaled size factor (e ∷ es) below =
+    All-cons (λ (e : Entry). e.value < size) e es (All-head (λ (e : Entry). e.value < size) (scaled factor e) (map (scaled factor) es) below)
+    (below_scaled size factor es (All-tail (λ (e : Entry). e.value < size) (scaled factor e) (map (scaled factor) es) below))
+
+below_reduced : (size factor : ℕ) (column inner : List Entry) → column ≡ map (scaled factor) inner → IsBelow size column → IsBelow size inner
+below_reduced size factor column inner is below = below_scaled size factor inner (subst (IsBelow size) is below)
+
+-- no columns have no classes
+pub classes_none : ClassesOf [] []
+classes_none = record {
+  reduced = All-nil HasInner;
+  inners = All-nil (λ (c : Pair). IsInner c.0);
+  used = All-nil (λ (c : Pair). 0 < c.1);
+  whole = All-nil (λ (c : Pair). total c.0 ∣ c.1);
+  totals = λ inner is. refl;
+  mass = refl;
+  within = λ size below. All-nil (λ (c : Pair). IsBelow size c.0);
+}
+
+pub classes_more : (columns : List Column) (column : Column) (key : Key) {es fs : List (Key × ℕ)} → IsReduced column key.items → ClassesOf columns (keyed es) → Inserts key (total column) es fs
+    → ClassesOf (columns ++ column ∷ []) (keyed fs)
+classes_more columns column key {es} {fs} is had how =
+    let t : ℕ = total column in
+    let some : 0 < t = reduced_positive column key.items is in
+    let divides : total key.items ∣ t = subst (λ (n : ℕ). total key.items ∣ n) (sym (total_reduced column key.items is)) (dvd-mul_left (total key.items) is.factor) in
+    record {
+      reduced = All-push HasInner columns column had.reduced (record { inner = key.items; is_reduced = is });
+      inners = all_inserts (λ (c : Pair). IsInner c.0) key t is.is_inner (λ n h. h) how had.inners;
+      used = all_inserts (λ (c : Pair). 0 < c.1) key t some (λ n h. omega arith) how had.used;
+      whole = all_inserts (λ (c : Pair). total c.0 ∣ c.1) key t divides (λ n h. dvd-add (total key.items) h divides) how had.whole;
+      totals = λ inner is_inner.
+          let grown : gathered (keyed fs) inner ≡ gathered (keyed es) inner + (if proportional key.items inner then t else 0) =
+          sum_inserts (λ (k : List Entry) (n : ℕ). if proportional k inner then n else 0) (λ k a b. if_adds (proportional k inner) a b) key t how in
+          let same : (if proportional key.items inner then t else 0) ≡ (if proportional column inner then t else 0) =
+          ap (λ (b : Bool). if b then t else 0) (sym (proportional_reduced column key.items inner is)) in
+          let push : class_total (columns ++ column ∷ []) inner ≡ class_total columns inner + (if proportional column inner then t else 0) =
+          sum_by_push (λ (c : Column). if proportional c inner then total c else 0) columns column in
+          omega (arith, grown, same, push, had.totals inner is_inner);
+      mass =
+          let grown : sum_by (λ (c : Pair). c.1) (keyed fs) ≡ sum_by (λ (c : Pair). c.1) (keyed es) + t =
+          sum_inserts (λ (k : List Entry) (n : ℕ). n) (λ k a b. refl) key t how in
+          let push : mass (columns ++ column ∷ []) ≡ mass columns + t = sum_by_push total columns column in
+          omega (arith, grown, push, had.mass);
+      within = λ size below.
+          let parts = All-pop (IsBelow size) (columns ++ column ∷ []) columns (Some column) refl below in
+          all_inserts (λ (c : Pair). IsBelow size c.0) key t (below_reduced size is.factor column key.items is.multiple parts.1) (λ n h. h) how (had.within size parts.0);
+    }
+
+sum-keyed : (es : List (Key × ℕ)) → sum_by (λ (n : ℕ). n) (values_of es) ≡ sum_by (λ (c : Pair). c.1) (keyed es)
+sum-keyed [] = refl
+sum-keyed (e ∷ es) = omega (arith, sum_by-cons (λ (n : ℕ). n) e.1 (values_of es), sum_by-cons (λ (c : Pair). c.1) (e.0.items, e.1) (keyed es), sum-keyed es)
+
+-- what a class has before a column, and the column's total, fit into the sum of all
+pub class_fits : (columns : List Column) (i : ℕ) (column : Column) (test : Key → Bool) (es : List (Key × ℕ)) → i < length columns → column ≡ get_or columns i column
+    → ClassesOf (take i columns) (keyed es) → unwrap_or (lookup test es) 0 + total column ≤ mass columns
+class_fits columns i column test es within is had =
+    let before : unwrap_or (lookup test es) 0 ≤ sum_by (λ (n : ℕ). n) (values_of es) = lookup-le-sum test es in
+    let more : mass (take i columns) + total (get_or columns i column) ≤ mass columns = sum_by_more_le total columns i column within in
+    omega (arith, before, more, sum-keyed es, had.mass, ap total is)
+
+pub classes_step : (columns : List Column) (i : ℕ) (column : Column) (key : Key) (es : List (Key × ℕ)) (n : ℕ) → i < length columns → column ≡ get_or columns i column → IsReduced column key.items
+    → ClassesOf (take i columns) (keyed es) → IsStrictlySortedBy key_order (keys_of es) → n ≡ unwrap_or (lookup (is_at (key_order key)) es) 0 + total column
+    → ClassesOf (take (i + 1) columns) (keyed (insert_entry key_order es key n))
+classes_step columns i column key es n within is reduced had sorted sum =
+    let end : take (i + 1) columns ≡ take i columns ++ column ∷ [] = take_more columns i column within ∙ ap (λ (c : Column). take i columns ++ c ∷ []) (sym is) in
+    rw (end, sum) (classes_more (take i columns) column key reduced had (inserted key (total column) es sorted))

@@ -1,0 +1,23 @@
+-- What a hyper shows of itself.
+use Rattle.std.specs.Prelude.{ℕ, List, [], map, slice_index_or}
+use Rattle.kf_value.specs.Targets.{Item}
+use Rattle.kf_value.specs.Views.{items_of}
+use Rattle.kf_hyper.specs.declared.hyper.Hyper.{Hyper}
+use Rattle.kf_hyper.specs.Hypers.{Inner}
+use Rattle.kf_hyper.specs.Shapes.{inner_of}
+
+-- its inners with their totals, in their order
+abbrev pub inners_of : Hyper → List Inner
+inners_of h = map inner_of h.classes.items
+
+-- the i-th inner, from 0
+abbrev pub inner_at : Hyper → ℕ → Inner
+inner_at h i = slice_index_or (inners_of h) i (record { entries = []; total = 0 })
+
+-- what each total is divided by to give an outer
+abbrev pub scale_of : Hyper → ℕ
+scale_of h = h.scale
+
+-- what it is about
+abbrev pub target_of : Hyper → List Item
+target_of h = items_of h.target

@@ -1,0 +1,70 @@
+ghost use Rattle.std.specs.Prelude.{◌≡◌};
+ghost use Rattle.kf_hyper.specs.Columns.{IsColumn};
+
+use crate::EntryList;
+use std::marker::Model;
+
+/// A column of a joint matrix: at least one value, each once, ascending, with weights of at least 1.
+#[derive(Drop)]
+pub struct Column {
+    entries: EntryList,
+}
+
+impl Model for Column {
+    ghost use Rattle.std.specs.Prelude.{List};
+    ghost use Rattle.kf_hyper.specs.declared.entry.Entry.{Entry};
+    ghost use Rattle.kf_hyper.specs.Columns.{IsColumn};
+
+    ghost Value = { List Entry };
+
+    ghost view = { λ c. c.entries };
+
+    ghost invariant = { λ c. IsColumn c.entries };
+}
+
+impl Column {
+    /// The column with these entries.
+    pub fn new(entries: EntryList) -> Column
+        requires { IsColumn entries }
+        ensures { result ≡ entries }
+    {
+        Column { entries }
+    }
+
+    /// The values with their weights, ascending.
+    pub fn entries(&self) -> &EntryList
+        ensures kept { result.now ≡ self.now }
+        ensures column { IsColumn result.now }
+    {
+        &self.entries
+    }
+}
+
+/// Columns in their order.
+#[derive(Drop)]
+pub struct ColumnList {
+    items: Vec<Column>,
+}
+
+impl Model for ColumnList {
+    ghost use Rattle.std.specs.Prelude.{List};
+    ghost use Rattle.kf_hyper.specs.declared.column.Column.{Column};
+
+    ghost Value = { List Column };
+
+    ghost view = { λ l. l.items.items };
+}
+
+impl ColumnList {
+    pub fn new(items: Vec<Column>) -> Self
+        ensures { result ≡ items.items }
+    {
+        ColumnList { items }
+    }
+
+    pub fn as_slice(&self) -> &[Column]
+        ensures { result.now ≡ self.now }
+    {
+        self.items.as_slice()
+    }
+}

@@ -1,0 +1,47 @@
+ghost use Rattle.std.specs.Prelude.{◌≡◌, ◌≤◌, ◌<◌, ◌^◌};
+ghost use Rattle.kf_hyper.specs.Joint.{IsJoint};
+
+use crate::ColumnList;
+use std::marker::Model;
+
+/// A joint matrix: columns of whole weights over a common scale of 1 to 2^127 - 1, which their sum doesn't pass.
+#[derive(Drop)]
+pub struct Columns {
+    scale: u128,
+    columns: ColumnList,
+}
+
+impl Model for Columns {
+    ghost use Rattle.kf_hyper.specs.Joint.{Joint, IsJoint};
+
+    ghost Value = { Joint };
+
+    ghost view = { λ c. record { scale = c.scale; columns = c.columns } };
+
+    ghost invariant = { λ c. IsJoint (record { scale = c.scale; columns = c.columns }) };
+}
+
+impl Columns {
+    /// These columns over this scale.
+    pub fn new(scale: u128, columns: ColumnList) -> Columns
+        requires { IsJoint (record { scale = scale; columns = columns }) }
+        ensures { result ≡ record { scale = scale; columns = columns } }
+    {
+        Columns { scale, columns }
+    }
+
+    /// What every weight is divided by to give a probability.
+    pub fn scale(&self) -> u128
+        ensures kept { result ≡ self.now.scale }
+        ensures joint { IsJoint self.now }
+    {
+        self.scale
+    }
+
+    pub fn columns(&self) -> &ColumnList
+        ensures kept { result.now ≡ self.now.columns }
+        ensures joint { IsJoint self.now }
+    {
+        &self.columns
+    }
+}

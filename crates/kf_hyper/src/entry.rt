@@ -1,0 +1,41 @@
+ghost use Rattle.std.specs.Prelude.{◌≡◌};
+
+use std::marker::Model;
+
+/// The whole weight of one value. The order is that of the values, then that of the weights.
+#[derive(Clone, Copy, Debug, PartialEq, Eq, PartialOrd, Ord)]
+pub struct Entry {
+    /// The number of a value, from 0.
+    pub value: u64,
+    /// Its weight, over the scale of the list of columns.
+    pub weight: u128,
+}
+
+/// Values with their weights.
+#[derive(Drop)]
+pub struct EntryList {
+    items: Vec<Entry>,
+}
+
+impl Model for EntryList {
+    ghost use Rattle.std.specs.Prelude.{List};
+    ghost use Rattle.kf_hyper.specs.declared.entry.Entry.{Entry};
+
+    ghost Value = { List Entry };
+
+    ghost view = { λ l. l.items.items };
+}
+
+impl EntryList {
+    pub fn new(items: Vec<Entry>) -> Self
+        ensures { result ≡ items.items }
+    {
+        EntryList { items }
+    }
+
+    pub fn as_slice(&self) -> &[Entry]
+        ensures { result.now ≡ self.now }
+    {
+        self.items.as_slice()
+    }
+}

@@ -1,0 +1,16 @@
+//! Columns of whole weights, and the hyper-distribution of a list of columns.
+#![tactic(auto)]
+
+mod class;
+mod classes;
+mod column;
+mod columns;
+mod entry;
+mod hyper;
+mod law;
+
+pub use column::{Column, ColumnList};
+pub use columns::Columns;
+pub use entry::{Entry, EntryList};
+pub use hyper::{Hyper, abstract_columns};
+pub use law::at_most_one_hyper;

@@ -1,0 +1,5 @@
+pub mod Found
+pub mod Giving
+pub mod Pieces
+pub mod Rooms
+pub mod Taking

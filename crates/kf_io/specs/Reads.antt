@@ -1,0 +1,11 @@
+-- What a read gives of a file whose bytes are told.
+use Rattle.std.specs.Prelude.{◌≡◌, ℕ, ◌+◌, ◌<◌, List, [], ◌++◌, length, take, drop}
+
+-- a read at `at` put k of the file's bytes into the buffer, and none only where the file has none there
+pub record Gives (file : List ℕ) (at k : ℕ) (buf : List ℕ) : Type 0 where
+  pub bytes : drop at file ≡ take k buf ++ drop (at + k) file
+  pub end : k ≡ 0 → 0 < length buf → drop at file ≡ []
+
+-- the file begins with these bytes
+abbrev pub IsFront : List ℕ → List ℕ → Type 0
+IsFront file bytes = file ≡ bytes ++ drop (length bytes) file

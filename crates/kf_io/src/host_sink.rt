@@ -1,0 +1,35 @@
+ghost use Rattle.std.specs.Prelude.{◌≡◌, ◌<◌, ◌≤◌, None, length, IfOk};
+
+use crate::{Failed, Sink};
+use std::io::Write;
+
+/// A stream of the system: standard output, standard error or an open file.
+#[derive(Drop)]
+pub struct HostSink<W: Write> {
+    stream: W,
+    faults: u64,
+}
+
+impl<W: Write> HostSink<W> {
+    pub fn new(stream: W) -> Self {
+        HostSink { stream, faults: 0 }
+    }
+}
+
+impl<W: Write> Sink for HostSink<W> {
+    ghost taken = { λ _. None };
+
+    ghost faults = { λ s. s.faults };
+
+    ghost room = { λ _. 0 };
+
+    fn write(&mut self, bytes: &[u8]) -> Result<usize, Failed> {
+        match self.stream.write(bytes) {
+            Ok(count) if count > 0 || bytes.is_empty() => Ok(count),
+            _ => {
+                self.faults = self.faults.saturating_add(1);
+                Err(Failed)
+            }
+        }
+    }
+}

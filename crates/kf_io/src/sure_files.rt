@@ -1,0 +1,64 @@
+ghost use Rattle.std.specs.Prelude.{◌≡◌, ◌<◌, ◌≤◌, List, ℕ, Some, length, IfOk, IsOk};
+ghost use Rattle.std.specs.Option.{ForSome};
+ghost use Rattle.kf_io.specs.Entries.{bytes_of};
+ghost use Rattle.kf_io.specs.Faults.{CountsFaults};
+ghost use Rattle.kf_io.specs.Reads.{Gives};
+
+use crate::give::give;
+use crate::mem_files::place_of;
+use crate::{Failed, FileList, Files};
+use std::marker::Model;
+
+/// Files in memory that never fail. A name that isn't held is an empty file.
+#[derive(Drop)]
+pub struct SureFiles {
+    files: FileList,
+    piece: usize,
+}
+
+impl Model for SureFiles {
+    ghost use Rattle.std.specs.Prelude.{◌<◌};
+    ghost use Rattle.kf_io.specs.Entries.{SureState};
+
+    ghost Value = { SureState };
+
+    ghost view = { λ s. record { files = s.files; piece = s.piece } };
+
+    ghost invariant = { λ s. 0 < s.piece };
+}
+
+impl SureFiles {
+    /// Files of which a read gives at most `piece` bytes.
+    pub fn new(files: FileList, piece: usize) -> Self
+        requires { 0 < piece }
+        ensures made { result ≡ record { files = files; piece = piece } }
+        ensures told { ⟦<SureFiles as Files>⟧.contents result ≡ Some (bytes_of files) }
+    {
+        SureFiles { files, piece }
+    }
+}
+
+impl Files for SureFiles {
+    ghost contents = { λ s. Some (bytes_of s.files) };
+
+    ghost faults = { λ _ _. 0 };
+
+    fn read(&mut self, name: &str, at: u64, buf: &mut [u8]) -> Result<usize, Failed>
+        ensures bound { IfOk result (λ k. k ≤ length buf.new) }
+        ensures given { IfOk result (λ k. ForSome (Some (bytes_of self.old.files)) (λ files. Gives (files name.now) at k buf.new)) }
+        ensures unchanged { Some (bytes_of self.new.files) ≡ Some (bytes_of self.old.files) }
+        ensures cause { CountsFaults name.now (λ _. 0) (λ _. 0) result }
+
+        ensures piece { IfOk result (λ k. k ≤ self.old.piece) }
+        ensures never_fails { IsOk result }
+        ensures kept { self.new ≡ self.old }
+    {
+        match place_of(self.files.as_slice(), name) {
+            Some(place) => {
+                let file = &self.files.as_slice()[place];
+                Ok(give(file.bytes.as_slice(), at, self.piece, buf))
+            }
+            None => Ok(0),
+        }
+    }
+}

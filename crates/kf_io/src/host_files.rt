@@ -2,12 +2,15 @@ ghost use Rattle.std.specs.Prelude.{◌≡◌, ◌≤◌, None, length, IfOk};
 
 use crate::{Failed, Files};
 use std::io::{self, Read, Seek, SeekFrom};
+use std::marker::Model;
 use std::{fs, rt};
 
 /// The files of the system.
 ///
 /// The file that was read last stays open: a read of the same name at the place where it stands goes on
 /// from there without seeking, so a pipe can be read too. Another name or place opens anew.
+///
+/// Clauses see it as its count of faults, which is that of every name.
 #[derive(Drop)]
 pub struct HostFiles<'a, R: rt::Files + AllocGlobal> {
     runtime: &'a R,
@@ -23,8 +26,17 @@ struct Opened<F> {
     place: u64,
 }
 
+impl<'a, R: rt::Files + AllocGlobal> Model for HostFiles<'a, R> {
+    ghost use Rattle.std.specs.Prelude.{ℕ};
+
+    ghost Value = { ℕ };
+
+    ghost view = { λ s. s.faults };
+}
+
 impl<'a, R: rt::Files + AllocGlobal> HostFiles<'a, R> {
     pub fn new(runtime: &'a R) -> Self
+        ensures { result ≡ 0 }
     {
         HostFiles {
             runtime,
@@ -36,7 +48,7 @@ impl<'a, R: rt::Files + AllocGlobal> HostFiles<'a, R> {
     // Goes on where the last read ended, or else opens the file anew.
     fn read_on(&mut self, name: &str, at: u64, buf: &mut [u8]) -> io::Result<usize>
         ensures bound { IfOk result (λ k. k ≤ length buf.new) }
-        ensures faults { self.new.faults ≡ self.old.faults }
+        ensures faults { self.new ≡ self.old }
     {
         match self.last.take() {
             Some(mut last) if last.name.as_str() == name && last.place == at => {
@@ -52,7 +64,7 @@ impl<'a, R: rt::Files + AllocGlobal> HostFiles<'a, R> {
     // Opens the file, and keeps it open if there is memory for its name.
     fn read_anew(&mut self, name: &str, at: u64, buf: &mut [u8]) -> io::Result<usize>
         ensures bound { IfOk result (λ k. k ≤ length buf.new) }
-        ensures faults { self.new.faults ≡ self.old.faults }
+        ensures faults { self.new ≡ self.old }
     {
         let mut file = fs::open(self.runtime, name)?;
         if at > 0 {
@@ -70,7 +82,7 @@ impl<'a, R: rt::Files + AllocGlobal> HostFiles<'a, R> {
 impl<R: rt::Files + AllocGlobal> Files for HostFiles<'_, R> {
     ghost contents = { λ _. None };
 
-    ghost faults = { λ s _. s.faults };
+    ghost faults = { λ faults _. faults };
 
     fn read(&mut self, name: &str, at: u64, buf: &mut [u8]) -> Result<usize, Failed> {
         match self.read_on(name, at, buf) {

@@ -2,16 +2,29 @@ ghost use Rattle.std.specs.Prelude.{◌≡◌, ◌<◌, ◌≤◌, None, length,
 
 use crate::{Failed, Sink};
 use std::io::Write;
+use std::marker::Model;
 
 /// A stream of the system: standard output, standard error or an open file.
+///
+/// Clauses see it as its count of faults.
 #[derive(Drop)]
 pub struct HostSink<W: Write> {
     stream: W,
     faults: u64,
 }
 
+impl<W: Write> Model for HostSink<W> {
+    ghost use Rattle.std.specs.Prelude.{ℕ};
+
+    ghost Value = { ℕ };
+
+    ghost view = { λ s. s.faults };
+}
+
 impl<W: Write> HostSink<W> {
-    pub fn new(stream: W) -> Self {
+    pub fn new(stream: W) -> Self
+        ensures { result ≡ 0 }
+    {
         HostSink { stream, faults: 0 }
     }
 }
@@ -19,7 +32,7 @@ impl<W: Write> HostSink<W> {
 impl<W: Write> Sink for HostSink<W> {
     ghost taken = { λ _. None };
 
-    ghost faults = { λ s. s.faults };
+    ghost faults = { λ faults. faults };
 
     ghost room = { λ _. 0 };
 

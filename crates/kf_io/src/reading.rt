@@ -3,13 +3,18 @@ ghost use Rattle.std.specs.Option.{ForSome};
 ghost use Rattle.kf_io.specs.Faults.{Rose};
 ghost use Rattle.kf_io.specs.Reads.{IsFront};
 
-use crate::{Failed, Files, ReadError};
+use crate::{Files, ReadError};
 use std::alloc::Global;
 
 const LIMIT: usize = 1_048_576;
 
 // Reads one piece to the end of what was read, and says whether there was one.
-fn read_piece<F: Files>(files: &mut F, name: &str, bytes: &mut Vec<u8>, buf: &mut [u8]) -> Result<bool, ReadError>
+fn read_piece<F: Files>(
+    files: &mut F,
+    name: &str,
+    bytes: &mut Vec<u8>,
+    buf: &mut [u8],
+) -> Result<bool, ReadError>
     requires { 0 < length buf.old }
     ensures grows { IfOk result (λ more. more ≡ true → vec_len bytes.old < vec_len bytes.new) }
     ensures bound { vec_len bytes.new ≤ vec_len bytes.old + length buf.old }
@@ -22,14 +27,9 @@ fn read_piece<F: Files>(files: &mut F, name: &str, bytes: &mut Vec<u8>, buf: &mu
     ensures later { (n : List ℕ) → F.faults files.old n ≤ F.faults files.new n }
     ensures short { result ≢ Err ReadError.TooLong }
 {
-    match files.read(name, bytes.len() as u64, buf) {
-        Err(Failed) => Err(ReadError::Failed),
-        Ok(0) => Ok(false),
-        Ok(count) => match bytes.extend_from_slice(&buf[..count]) {
-            Ok(()) => Ok(true),
-            Err(_) => Err(ReadError::Mem),
-        },
-    }
+    let count = files.read(name, bytes.len() as u64, buf)?;
+    bytes.extend_from_slice(&buf[..count])?;
+    Ok(count > 0)
 }
 
 /// The whole contents of the file of this name, which may have 1,048,576 bytes at most.

@@ -10,12 +10,12 @@ use Rattle.kf_io.proofs.mem_sink.MemSinkSink.write.Goals.{then-contains-via-then
 pub returns-then-contains-clause-certain : goal.returns-then-contains-clause-certain
 returns-then-contains-clause-certain c some fits =
     elim c.then-contains.branch [
-      then-contains-via-then-contains w ↦
-        let listed : Contains c.args.self.now.fail c.args.self.now.calls = search rules in
-        absurd (omega (arith, certain_none c.args.self.now listed))
-    | then-contains-via-else-contains+then-not-is_empty w ↦
-        let full : room_left c.args.self.now ≡ 0 = grind (arith, common_steps, nat_tests) in
-        absurd (omega (arith, certain_most c.args.self.now, full))
+      | then-contains-via-then-contains w ↦
+          let listed : Contains c.args.self.now.fail c.args.self.now.calls = search rules in
+          absurd (omega (arith, certain_none c.args.self.now listed))
+      | then-contains-via-else-contains+then-not-is_empty w ↦
+          let full : room_left c.args.self.now ≡ 0 = grind (arith, common_steps, nat_tests) in
+          absurd (omega (arith, certain_most c.args.self.now, full))
     ]
 
 pub returns-clause-left : goal.returns-clause-left

@@ -1,5 +1,5 @@
 -- What one read gives of a file.
-use Rattle.std.proofs.Common.{◌≡◌, ℕ, ◌+◌, ◌≤◌, ◌<◌, List, ◌++◌, length, take, drop, sym, ◌∙◌, ap, arith, take-append-drop, length-take, length-append, drop-drop}
+use Rattle.std.proofs.Common.{◌≡◌, ℕ, ◌+◌, ◌≤◌, List, ◌++◌, length, take, drop, sym, ◌∙◌, ap, arith, take-append-drop, length-take, length-append, drop-drop}
 use Rattle.std.proofs.lemmas.List.{take_at}
 use Rattle.kf_io.specs.Reads.{Gives}
 

@@ -6,6 +6,7 @@ use Rattle.std.specs.Str.{bytes_eq}
 use Rattle.kf_io.specs.Faults.{raised}
 use Rattle.kf_io.specs.declared.lists.FileEntry.{FileEntry}
 
+-- whether a file has this name
 abbrev pub has_name : List ℕ → FileEntry → Bool
 has_name name file = bytes_eq file.name name
 

@@ -1,9 +1,9 @@
 // Each public call on its happy path, and what no clause says: that real files and streams do as told.
 use crate::*;
 use std::alloc::{AllocError, Global};
-use std::fd::AsRawFd;
 use std::fs::OpenOptions;
 use std::io::Write;
+use std::os::fd::AsRawFd;
 use std::test::Fail;
 use std::{fs, io, process};
 
@@ -87,7 +87,7 @@ fn a_sink_in_memory_takes_what_its_room_and_calls_allow(rt: HostRuntime) -> Resu
     for (room, fail, want) in [
         (9, [7].as_slice(), "abcdefghi"),
         (9, [0].as_slice(), ""),
-        (9, [2].as_slice(), "abcd"),
+        (9, [2].as_slice(), "abc"),
         (5, [].as_slice(), "abcde"),
         (0, [].as_slice(), ""),
     ] {
@@ -157,6 +157,9 @@ fn a_stream_of_the_system_takes_all_or_fails(rt: HostRuntime) -> Result<(), Fail
     assert_eq!(rt; text.as_str(), "all of it");
     fs::remove_file(&rt, path.as_str())?;
     let full = OpenOptions::new().write(true).open(&rt, "/dev/full")?;
-    assert_eq!(rt; write_all(&mut HostSink::new(full), b"all of it"), Err(Failed));
+    assert_eq!(rt;
+        write_all(&mut HostSink::new(full), b"all of it"),
+        Err(Failed)
+    );
     Ok(())
 }

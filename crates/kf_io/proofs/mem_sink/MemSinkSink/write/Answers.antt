@@ -1,4 +1,4 @@
-use Rattle.std.proofs.Common.{◌≡◌, ℕ, ◌+◌, ◌≤◌, List, true, arith, ap, rules, length, take, ◌++◌, length-take, length-append}
+use Rattle.std.proofs.Common.{◌≡◌, ℕ, arith, ap, rules, length, take, ◌++◌, length-take, length-append}
 use Rattle.std.specs.List.{Contains}
 use Rattle.std.proofs.lemmas.Grind.{common_steps}
 use Rattle.std.proofs.lemmas.Bool.Decides.{nat_tests}

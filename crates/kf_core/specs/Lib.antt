@@ -1,0 +1,5 @@
+pub mod FirstForm
+pub mod FirstView
+pub mod Joint
+pub mod Numerals
+pub mod Rows

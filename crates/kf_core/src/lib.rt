@@ -1,0 +1,10 @@
+//! What a program means: its runs, their scale and their joint weights.
+#![tactic(auto)]
+
+mod first;
+mod lines;
+mod number;
+mod read;
+
+pub use first::{First, FirstError, ModList};
+pub use read::read_first;

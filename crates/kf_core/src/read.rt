@@ -10,10 +10,8 @@ use std::alloc::Global;
 fn read_observe_lines(alloc: Global, src: &[u8]) -> Result<Vec<u32>, FirstError>
     ensures lines { IfOk result (λ mods. src.now ≡ flat_map observe_line mods.items) }
     ensures mods { IfOk result (λ mods. All IsModulus mods.items) }
-    ensures not_first {
-        result ≡ Err FirstError.NotFirst
-          → (mods : List ℕ) → All IsModulus mods → src.now ≢ flat_map observe_line mods
-    }
+    ensures not_first { result ≡ Err FirstError.NotFirst
+        → (mods : List ℕ) → All IsModulus mods → src.now ≢ flat_map observe_line mods }
 {
     let mut mods = Vec::new(alloc);
     let mut rest = src;
@@ -34,9 +32,7 @@ fn read_observe_lines(alloc: Global, src: &[u8]) -> Result<Vec<u32>, FirstError>
 /// `NotFirst` comes just where the text is not of that form, unless memory ran out first.
 pub fn read_first(alloc: Global, src: &[u8]) -> Result<First, FirstError>
     ensures read { IfOk result (λ first. IsFirst src.now (form_of first)) }
-    ensures not_first {
-        result ≡ Err FirstError.NotFirst → (form : FirstForm) → ¬ IsFirst src.now form
-    }
+    ensures not_first { result ≡ Err FirstError.NotFirst → (form : FirstForm) → ¬ IsFirst src.now form }
 
     // Whatever the result: a text has at most one form.
     ensures one_form { (f g : FirstForm) → IsFirst src.now f → IsFirst src.now g → f ≡ g }

@@ -1,5 +1,5 @@
 -- The digits of numbers at the front of a text.
-use Rattle.std.proofs.Common.{◌≡◌, ◌≢◌, Some, None, Bor, nat_eq, ℕ, zero, suc, ◌+◌, cond, Ok, Err, lit<, one-add, add-zero, ⊎_elim, ◌^◌, ◌<◌, ◌≤◌, ◌⊎◌, Bool, true, false, ◌&&◌, IsTrue, IfSome, IfNone, Option, Result, List, [], ◌∷◌, ◌++◌, length, take, drop, get_or, MatchOption, MatchResult, sym, ap, refl, ◌∙◌, subst, arith, rules, inl, inr}
+use Rattle.std.proofs.Common.{◌≡◌, ◌≢◌, Some, None, Bor, nat_eq, ℕ, zero, suc, ◌+◌, cond, Ok, Err, lit<, one-add, add-zero, ⊎_elim, ◌^◌, ◌<◌, ◌≤◌, Bool, true, false, ◌&&◌, IfSome, IfNone, Option, Result, List, [], ◌∷◌, ◌++◌, length, take, drop, get_or, MatchOption, sym, ap, refl, ◌∙◌, arith}
 use Rattle.std.specs.Char.{is_ascii_digit}
 use Rattle.std.specs.Cmp.Lexicographic.{pointwise}
 use Rattle.std.specs.Fmt.{decimal}
@@ -13,7 +13,6 @@ use Rattle.std.proofs.lemmas.Fmt.{digits_decimal, digits_value-decimal, decimal-
 use Rattle.std.proofs.lemmas.List.{append_cancel_left, get_or-drop, get_or_past}
 use Rattle.std.proofs.lemmas.List.Folds.{length-prefix_len}
 use Rattle.std.proofs.lemmas.List.Sums.{prefix_len_stops}
-use Rattle.std.proofs.lemmas.Result.{OkIff-at_ok}
 use Rattle.std.proofs.lemmas.Slice.Eq.{strip_prefix_is}
 use Rattle.std.proofs.lemmas.Str.{IsUtf8-from_ascii}
 use Rattle.std.proofs.lemmas.Str.Parse.{IsNumeralModel, numerals_by_value, tells_all_ascii_digits, parse_digits}
@@ -39,9 +38,8 @@ same_front (x ∷ ds) [] r s p q h k e = absurd (not_both x s (ds ++ r) (sym e) 
 same_front (x ∷ ds) (y ∷ es) r s p q h k e =
     let head : x ≡ y = cc in
     let tail : ds ++ r ≡ es ++ s = cc in
-    let rest : (ds ≡ es) × (r ≡ s) = same_front ds es r s (and_parts _ _ p).1 (and_parts _ _ q).1 h k tail in
-    let same : ds ≡ es = rest.0 in
-    ((cc), rest.1)
+    let rest = same_front ds es r s (and_parts _ _ p).1 (and_parts _ _ q).1 h k tail in
+    (λ i. head i ∷ rest.0 i, rest.1)
 
 -- the digits of a number, and the rest, are fixed by the bytes
 pub same_digits : (text bytes ds r : List ℕ) (n : ℕ) (s : List ℕ) → n < 2 ^ 64 → all_ascii_digits ds ≡ true → EndsNumber r → bytes ≡ text ++ (ds ++ r) → IsNumberAfter text bytes n s → (ds ≡ decimal n) × (r ≡ s)

@@ -1,12 +1,12 @@
 -- A text has at most one form, line by line.
-use Rattle.std.proofs.Common.{◌≡◌, ◌≢◌, Option, Result, Some, None, Ok, Err, IfSome, IfNone, ◌==◌, subst, ℕ, ◌^◌, ◌<◌, ◌≤◌, ◌+◌, Bool, true, false, List, [], ◌∷◌, ◌++◌, length, sym, ap, refl, ◌∙◌, arith, codes, flat_map, All}
+use Rattle.std.proofs.Common.{◌≡◌, ◌≢◌, Option, Result, Some, None, Ok, Err, IfSome, IfNone, ◌==◌, subst, ℕ, ◌<◌, ◌≤◌, Bool, true, false, List, [], ◌∷◌, ◌++◌, length, sym, ap, refl, ◌∙◌, arith, codes, flat_map, All}
 use Rattle.std.proofs.lemmas.List.{append_cancel_left, append_assoc, append-nil, length-append}
 use Rattle.std.proofs.lemmas.List.Concat.{flat_map-append}
 use Rattle.std.proofs.lemmas.List.Elements.{All-head, All-tail}
 use Rattle.std.specs.Fmt.{decimal}
 use Rattle.std.specs.Option.{ok_or}
 use Rattle.kf_core.proofs.Digits.{same_number}
-use Rattle.kf_core.specs.FirstForm.{FirstForm, IsFirst, IsHigh, IsModulus, line_end, variable_line, observe_line, first_text}
+use Rattle.kf_core.specs.FirstForm.{FirstForm, IsFirst, IsHigh, IsModulus, line_end, variable_line, observe_line}
 use Rattle.kf_core.specs.Numerals.{IsNumberAfter}
 
 -- the number of an observing line at the front of the bytes

@@ -1,2 +1,4 @@
 mod Digits
+mod Examples
 pub mod Forms
+pub mod Runs

@@ -5,6 +5,8 @@ mod first;
 mod lines;
 mod number;
 mod read;
+#[cfg(test)]
+mod tests;
 
 pub use first::{First, FirstError, ModList};
 pub use read::read_first;

@@ -5,6 +5,8 @@ use crate::number::{read_number_after, read_text};
 
 const GREATEST_HIGH: u32 = 65_535;
 
+const LEAST_MODULUS: u32 = 1;
+
 const GREATEST_MODULUS: u32 = 999_999_999;
 
 // The greatest value that the line at the front of `src` gives the variable, and the lines that follow.
@@ -28,7 +30,7 @@ pub fn read_observe_line(src: &[u8]) -> Option<(u32, &[u8])>
     ensures none { IfNone result ((k : ℕ) (rest : List ℕ) → IsModulus k → src.now ≢ observe_line k ++ rest) }
 {
     let (modulus, rest) = read_number_after(src, b"observe x mod ", GREATEST_MODULUS)?;
-    if modulus == 0 {
+    if modulus < LEAST_MODULUS {
         return None;
     }
     Some((modulus, read_text(rest, b";\n")?))

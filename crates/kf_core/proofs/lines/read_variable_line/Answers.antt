@@ -1,7 +1,7 @@
 -- A line that stands at the front gives its two numbers, which are one, and its end; where one is missing there is none.
-use Rattle.std.proofs.Common.{ℕ, ◌≡◌, ◌++◌, List, arith, ◌∙◌, sym}
+use Rattle.std.proofs.Common.{◌≡◌, ◌++◌, ◌∙◌, sym}
 use Rattle.kf_core.proofs.Forms.{after_high, high_number, high_read, again_number, again_read, variable_parts}
-use Rattle.kf_core.specs.FirstForm.{line_end, variable_line}
+use Rattle.kf_core.specs.FirstForm.{line_end}
 use Rattle.kf_core.proofs.lines.read_variable_line.Goals as goal
 
 pub returns-in_err-high-clause-none : goal.returns-in_err-high-clause-none

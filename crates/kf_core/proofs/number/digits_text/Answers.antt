@@ -1,5 +1,5 @@
 -- Digits are text.
-use Rattle.std.proofs.Common.{rules, arith}
+use Rattle.std.proofs.Common.{arith}
 use Rattle.std.specs.Str.{IsUtf8}
 use Rattle.std.proofs.lemmas.Grind.{common_steps}
 use Rattle.kf_core.proofs.Digits.{digits_utf8}

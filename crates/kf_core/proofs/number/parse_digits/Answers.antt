@@ -1,5 +1,5 @@
 -- Without a leading zero, digits are the decimal of their value.
-use Rattle.std.proofs.Common.{ℕ, ◌≡◌, length, get_or, arith}
+use Rattle.std.proofs.Common.{◌≡◌, length, get_or}
 use Rattle.kf_core.proofs.Digits.{not_padded, plain_short, parsed}
 use Rattle.kf_core.proofs.number.parse_digits.Goals as goal
 use Rattle.kf_core.proofs.number.parse_digits.Goals.{else-digits-gt1-via-then-digits-gt1+else-digits-eq48, else-digits-gt1-via-else-digits-gt1}

@@ -1,5 +1,5 @@
 -- The digits at the front are those of any number that stands there, so there is no other.
-use Rattle.std.proofs.Common.{ℕ, ◌≡◌, ◌<◌, ◌^◌, ◌++◌, ap, arith, ◌∙◌}
+use Rattle.std.proofs.Common.{◌≡◌, ◌<◌, ◌^◌, ◌++◌, ap, arith, ◌∙◌}
 use Rattle.kf_core.proofs.Digits.{same_digits, same_number}
 use Rattle.kf_core.specs.Numerals.{IsNumberAfter}
 use Rattle.kf_core.proofs.number.read_number_after.Goals as goal

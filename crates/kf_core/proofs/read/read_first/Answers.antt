@@ -1,6 +1,6 @@
-use Rattle.std.proofs.Common.{ℕ, ◌≡◌, ◌++◌, sym, ◌∙◌, flat_map}
+use Rattle.std.proofs.Common.{◌≡◌, ◌++◌, sym, ◌∙◌, flat_map}
 use Rattle.std.proofs.lemmas.Result.{err_from_is_err_and}
-use Rattle.kf_core.specs.FirstForm.{FirstForm, IsFirst, IsHigh, observe_line, variable_line}
+use Rattle.kf_core.specs.FirstForm.{IsHigh, observe_line, variable_line}
 use Rattle.kf_core.proofs.Forms.{same_form, same_variable, same_error, none_from_err, some_from_ok}
 use Rattle.kf_core.proofs.read.read_first.Goals as goal
 

@@ -1,5 +1,5 @@
 -- Each line takes its bytes from the rest; where none stands there, no lines make up the whole.
-use Rattle.std.proofs.Common.{ℕ, ◌≡◌, ◌≢◌, ◌++◌, [], ◌∷◌, List, sym, ◌∙◌, rules, flat_map, All, length}
+use Rattle.std.proofs.Common.{◌≡◌, ◌++◌, sym, ◌∙◌}
 use Rattle.std.proofs.lemmas.List.Elements.{All-push}
 use Rattle.kf_core.specs.FirstForm.{IsModulus, observe_line}
 use Rattle.kf_core.proofs.Forms.{lines_left, no_line, lines_more, none_from_err, some_from_ok}

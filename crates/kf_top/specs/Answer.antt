@@ -1,0 +1,47 @@
+-- What an answer states, and the words of a refusal.
+use Rattle.std.specs.Prelude.{◌≡◌, ℕ, List, [], ◌∷◌, ◌++◌, Bool, true, codes, if◌then◌else◌}
+use Rattle.kf_value.specs.Targets.{Item}
+use Rattle.kf_core.specs.Joint.{Cell}
+use Rattle.kf_hyper.specs.Hypers.{Inner}
+use Rattle.kf_top.specs.Columns.{IsHyperOf}
+use Rattle.kf_top.specs.Texts.{hyper_text}
+
+-- what the bytes of an answer state
+pub data Statement : Type 0 where
+  -- the hyper of a joint over a scale, for a target
+  HyperOf : List Item → ℕ → List Cell → Statement
+
+-- the bytes for out, and whether the answer is yes
+pub record Shown : Type 0 where
+  pub yes : Bool
+  pub bytes : List ℕ
+
+-- the bytes are the text of the joint's hyper
+pub record StatesHyper (target : List Item) (scale : ℕ) (joint : List Cell) (shown : Shown) : Type 0 where
+  pub inners : List Inner
+  pub is_hyper : IsHyperOf joint inners
+  pub text : shown.bytes ≡ hyper_text target scale inners
+  pub yes : shown.yes ≡ true
+
+abbrev pub States : Shown → Statement → Type 0
+States shown (HyperOf target scale joint) = StatesHyper target scale joint shown
+
+-- why there is no such answer, from the words and the files' bytes alone
+pub data Refused : Type 0 where
+  Usage : Refused
+  TooLong : List ℕ → Refused
+  NotFirst : List ℕ → Refused
+
+-- a line on standard error; `name` is the file's, or empty
+abbrev pub said : List ℕ → List ℕ → List ℕ
+said name what = codes "kuifje: " ++ (name ++ (what ++ 10 ∷ []))
+
+abbrev pub status_of : Refused → ℕ
+status_of Usage = 2
+status_of (TooLong name) = 11
+status_of (NotFirst name) = 5
+
+abbrev pub line_of : Refused → List ℕ
+line_of Usage = said [] (codes "usage: kuifje COMMAND [FILES] [--gain G] [--turns N] [--json]")
+line_of (TooLong name) = said name (codes ": longer than 1048576 bytes")
+line_of (NotFirst name) = said name (codes ": not of the first form")

@@ -1,0 +1,113 @@
+-- How a run ends: its status, and what it did to the sinks and to the counts of faults.
+use Rattle.std.specs.Prelude.{◌≡◌, ◌≢◌, ℕ, ◌≤◌, ◌<◌, List, [], length, Contains, codes, None, Some, Ok, Err, if◌then◌else◌}
+use Rattle.std.specs.declared.option.Option.{Option}
+use Rattle.std.specs.declared.result.Result.{Result}
+use Rattle.std.specs.Option.{ForSome}
+use Rattle.std.specs.Io.KnownBytes.{Appends, Keeps}
+use Rattle.kf_io.specs.Faults.{Rose}
+use Rattle.kf_io.specs.Writes.{AppendsSome}
+use Rattle.kf_top.specs.Task.{task_of, files_of}
+use Rattle.kf_top.specs.Answer.{Statement, Shown, States, Refused, Usage, said, line_of, status_of}
+use Rattle.kf_top.specs.Outcome.{Outcome}
+
+-- ---- answers
+
+-- a status, the bytes for out and the bytes for err
+pub record Answer : Type 0 where
+  pub status : ℕ
+  pub out : List ℕ
+  pub err : List ℕ
+
+-- the answer that shows bytes: status 0 for yes, 1 for no
+abbrev pub showing : Shown → Answer
+showing shown = record { status = if shown.yes then 0 else 1; out = shown.bytes; err = [] }
+
+abbrev pub refusing : Refused → Answer
+refusing refused = record { status = status_of refused; out = []; err = line_of refused }
+
+-- the answer that an outcome comes to
+abbrev pub Settled : Result Statement Refused → Answer → Type 0
+Settled (Ok statement) answer = (shown : Shown) × States shown statement × (answer ≡ showing shown)
+Settled (Err refused) answer = answer ≡ refusing refused
+
+-- the defined answer to words over files
+pub record IsAnswer (words : List (List ℕ)) (contents : List ℕ → List ℕ) (answer : Answer) : Type 0 where
+  pub result : Result Statement Refused
+  pub outcome : Outcome words contents result
+  pub settled : Settled result answer
+
+-- ---- sinks
+
+-- a sink before and after a call: its bytes, where told, its count of faults, and the room that it was certain to have
+pub record Sunk : Type 0 where
+  pub bytes_before : Option (List ℕ)
+  pub bytes : Option (List ℕ)
+  pub faults_before : ℕ
+  pub faults : ℕ
+  pub room_before : ℕ
+
+abbrev pub sunk : {S : Type 0} → (S → Option (List ℕ)) → (S → ℕ) → (S → ℕ) → S → S → Sunk
+sunk taken faults room old new = record { bytes_before = taken old; bytes = taken new; faults_before = faults old; faults = faults new; room_before = room old }
+
+abbrev pub TookNothing : Sunk → Type 0
+TookNothing s = Keeps s.bytes_before s.bytes
+
+abbrev pub Took : Sunk → List ℕ → Type 0
+Took s bytes = Appends s.bytes_before s.bytes bytes
+
+abbrev pub TookFront : Sunk → List ℕ → Type 0
+TookFront s bytes = AppendsSome s.bytes_before s.bytes bytes
+
+abbrev pub HasFailed : Sunk → Type 0
+HasFailed s = Rose s.faults_before s.faults
+
+-- the line, or a front of it where the sink's count rose
+pub record TookLine (s : Sunk) (line : List ℕ) : Type 0 where
+  pub front : TookFront s line
+  pub whole : ¬ HasFailed s → Took s line
+
+-- ---- ends
+
+pub record Shows (answer : Answer) (out err : Sunk) (status : ℕ) : Type 0 where
+  pub status_is : status ≡ answer.status
+  pub out_took : Took out answer.out
+  pub err_took : TookLine err answer.err
+
+-- the run ended with a defined answer
+pub record Answered (words : List (List ℕ)) (contents : List ℕ → List ℕ) (out err : Sunk) (status : ℕ) : Type 0 where
+  pub answer : Answer
+  pub is_answer : IsAnswer words contents answer
+  pub shows : Shows answer out err status
+
+-- out took only a front of a defined answer, for which it wasn't certain to have room
+pub record AnsweredInPart (words : List (List ℕ)) (contents : List ℕ → List ℕ) (out : Sunk) : Type 0 where
+  pub answer : Answer
+  pub is_answer : IsAnswer words contents answer
+  pub shown : answer.status ≤ 1
+  pub front : TookFront out answer.out
+  pub no_room : out.room_before < length answer.out
+
+-- where nothing failed, the run ends with the defined answer, or memory was wanting
+pub record Completes (words : List (List ℕ)) (told : Option (List ℕ → List ℕ)) (before now : List ℕ → ℕ) (out err : Sunk) (status : ℕ) : Type 0 where
+  pub whole : ForSome told (λ contents. ((name : List ℕ) → Contains (files_of words) name → ¬ Rose (before name) (now name)) → ¬ HasFailed out
+      → status ≢ 12 → Answered words contents out err status)
+
+-- each status has its cause
+pub record HasCauses (words : List (List ℕ)) (told : Option (List ℕ → List ℕ)) (before now : List ℕ → ℕ) (out err : Sunk) (status : ℕ) : Type 0 where
+  -- every status but read failed, write failed and want of memory is that of the defined answer
+  pub decided : ForSome told (λ contents. status ≢ 3 → status ≢ 4 → status ≢ 12 → Answered words contents out err status)
+  pub usage : status ≡ 2 → (task_of words ≡ None) × TookLine err (line_of Usage)
+  pub usage_shown : task_of words ≡ None → status ≢ 12 → status ≡ 2
+  pub read : status ≡ 3 → (name : List ℕ) × Contains (files_of words) name × Rose (before name) (now name) × TookLine err (said name (codes ": read failed"))
+  pub read_shown : (name : List ℕ) → Contains (files_of words) name → before name < now name → status ≢ 12 → status ≡ 3
+  pub write : status ≡ 4 → HasFailed out × TookLine err (said [] (codes "write failed"))
+  pub write_shown : out.faults_before < out.faults → status ≡ 4
+  -- what out took before its fault is a front of the defined answer
+  pub part : ForSome told (λ contents. status ≡ 4 → AnsweredInPart words contents out)
+  pub refused : 5 ≤ status → status ≢ 12 → (r : Refused) × (status ≡ status_of r) × TookLine err (line_of r)
+  pub memory : status ≡ 12 → TookLine err (said [] (codes "want of memory"))
+
+-- nothing is written before the answer is whole, and err is only told of a status above 1
+pub record IsQuiet (out err : Sunk) (status : ℕ) : Type 0 where
+  pub out_quiet : status ≢ 0 → status ≢ 1 → status ≢ 4 → TookNothing out
+  pub err_quiet : status ≤ 1 → TookNothing err

@@ -1,0 +1,41 @@
+-- The work's result against the defined outcome, and the causes of its stops.
+use Rattle.std.specs.Prelude.{◌≡◌, ℕ, List, Vec, Ok, Err, Contains}
+use Rattle.std.specs.declared.alloc.Global.{Global}
+use Rattle.kf_core.specs.declared.first.First.{First}
+use Rattle.kf_core.specs.FirstForm.{FirstForm}
+use Rattle.kf_core.specs.FirstView.{form_of}
+use Rattle.std.specs.declared.result.Result.{Result}
+use Rattle.kf_io.specs.Faults.{Rose}
+use Rattle.kf_top.specs.Answer as answer
+use Rattle.kf_top.specs.Outcome.{Step}
+use Rattle.kf_top.specs.declared.stops.Refusal.{Refusal}
+use Rattle.kf_top.specs.declared.stops.Refusal.TheVariants as refusal
+use Rattle.kf_top.specs.declared.stops.Stop.{Stop}
+use Rattle.kf_top.specs.declared.stops.Stop.TheVariants as stop
+
+abbrev pub refused : Refusal → answer.Refused
+refused (refusal.TooLong name) = answer.TooLong name.now
+refused (refusal.NotFirst name) = answer.NotFirst name.now
+
+-- the result is one that the step may have, or its cause isn't in the words and the files' bytes
+abbrev pub Answers : {A B : Type 0} → (A → B → Type 0) → Result A Stop → Step B → Type 0
+Answers {A} {B} Meets (Ok x) step = (y : B) × Meets x y × step (Ok y)
+Answers Meets (Err (stop.Refused r)) step = step (Err (refused r))
+Answers Meets (Err (stop.ReadFailed name)) step = Unit {0}
+Answers Meets (Err stop.Mem) step = Unit {0}
+
+-- where a read failed, it is of one of these files, whose count rose; a refusal changed no count
+abbrev pub StopCause : List (List ℕ) → (List ℕ → ℕ) → (List ℕ → ℕ) → Stop → Type 0
+StopCause names before now (stop.Refused r) = now ≡ before
+StopCause names before now (stop.ReadFailed name) = Contains names name.now × Rose (before name.now) (now name.now)
+StopCause names before now stop.Mem = Unit {0}
+
+abbrev pub Causes : {A : Type 0} → List (List ℕ) → (List ℕ → ℕ) → (List ℕ → ℕ) → Result A Stop → Type 0
+Causes names before now (Ok x) = now ≡ before
+Causes names before now (Err s) = StopCause names before now s
+
+abbrev pub is_bytes : Vec ℕ Global → List ℕ → Type 0
+is_bytes v bytes = v.items ≡ bytes
+
+abbrev pub is_form : First → FirstForm → Type 0
+is_form first form = form_of first ≡ form

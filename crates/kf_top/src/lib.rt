@@ -1,0 +1,13 @@
+//! The top call: from words and files to bytes and a status.
+#![tactic(auto)]
+
+mod first_hyper;
+mod stops;
+mod texts;
+mod top;
+mod words;
+mod work;
+
+pub use texts::hyper_text;
+pub use top::run;
+pub use words::{Job, WordsError, read_words};

@@ -1,0 +1,61 @@
+use std::alloc::{AllocError, AllocFailed};
+use kf_value::Mem;
+
+/// Why the words and the files' bytes have no answer.
+#[derive(Debug, Drop)]
+pub enum Refusal<'a> {
+    /// The file has more than 1,048,576 bytes.
+    TooLong(&'a str),
+    /// The file's text is not of the first form.
+    NotFirst(&'a str),
+}
+
+/// Why there is no answer.
+#[derive(Debug, Drop)]
+pub enum Stop<'a> {
+    Refused(Refusal<'a>),
+    /// A read of this file failed.
+    ReadFailed(&'a str),
+    /// Want of memory.
+    Mem,
+}
+
+impl From<AllocError> for Stop<'_> {
+    ghost use Rattle.std.specs.Prelude.{◌≡◌};
+    ghost use Rattle.kf_top.specs.declared.stops.Stop.TheVariants as stop;
+
+    ghost from_gives = { λ _ e. e ≡ stop.Mem };
+
+    fn from(_: AllocError) -> Self {
+        Stop::Mem
+    }
+}
+
+impl From<Mem> for Stop<'_> {
+    ghost use Rattle.std.specs.Prelude.{◌≡◌};
+    ghost use Rattle.kf_top.specs.declared.stops.Stop.TheVariants as stop;
+
+    ghost from_gives = { λ _ e. e ≡ stop.Mem };
+
+    fn from(_: Mem) -> Self {
+        Stop::Mem
+    }
+}
+
+impl<T: Drop> From<AllocFailed<T>> for Stop<'_> {
+    ghost use Rattle.std.specs.Prelude.{◌≡◌};
+    ghost use Rattle.kf_top.specs.declared.stops.Stop.TheVariants as stop;
+
+    ghost from_gives = { λ _ e. e ≡ stop.Mem };
+
+    fn from(_: AllocFailed<T>) -> Self {
+        Stop::Mem
+    }
+}
+
+/// What goes to standard output, and whether the answer is yes.
+#[derive(Drop)]
+pub struct Done {
+    pub yes: bool,
+    pub bytes: Vec<u8>,
+}

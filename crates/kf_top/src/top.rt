@@ -1,0 +1,92 @@
+ghost use Rattle.std.specs.Prelude.{◌≡◌, List, ℕ, map, string_bytes, codes};
+ghost use Rattle.kf_top.specs.Answer.{said, line_of, status_of};
+ghost use Rattle.kf_top.specs.Stops.{refused};
+ghost use Rattle.kf_top.specs.Ends.{sunk, TookLine, Completes, HasCauses, IsQuiet};
+
+use crate::stops::{Refusal, Stop};
+use crate::words::{WordsError, read_words};
+use crate::work::work;
+use kf_io::{Failed, Files, Sink, write_all, write_pieces};
+use std::alloc::Global;
+
+// Tells a line piece by piece. A fault of err changes nothing else.
+fn tell<E: Sink>(err: &mut E, name: &str, what: &str)
+    ensures { TookLine (sunk E.taken E.faults E.room err.old err.new) (said name.now what.now) }
+{
+    let _ = write_pieces(err, &["kuifje: ", name, what, "\n"]);
+}
+
+// Tells the refusal, and gives its status.
+fn refuse<E: Sink>(err: &mut E, refusal: &Refusal<'_>) -> u8
+    ensures line { TookLine (sunk E.taken E.faults E.room err.old err.new) (line_of (refused refusal.now)) }
+    ensures status { result ≡ status_of (refused refusal.now) }
+{
+    match refusal {
+        Refusal::TooLong(name) => {
+            tell(err, name, ": longer than 1048576 bytes");
+            11
+        }
+        Refusal::NotFirst(name) => {
+            tell(err, name, ": not of the first form");
+            5
+        }
+    }
+}
+
+/// Does what the words ask for: reads their files, writes the answer to `out`, and gives the status.
+///
+/// The first word, the program's name, isn't looked at. The whole answer is built before its first byte
+/// is written. A refusal goes to `err` as one line; a fault of `err` changes nothing else.
+pub fn run<F: Files, O: Sink, E: Sink>(
+    alloc: Global,
+    words: &[String],
+    files: &mut F,
+    out: &mut O,
+    err: &mut E,
+) -> u8
+    ensures complete { Completes (map string_bytes words.now) (F.contents files.old) (F.faults files.old) (F.faults files.new)
+        (sunk O.taken O.faults O.room out.old out.new) (sunk E.taken E.faults E.room err.old err.new) result }
+    ensures causes { HasCauses (map string_bytes words.now) (F.contents files.old) (F.faults files.old) (F.faults files.new)
+        (sunk O.taken O.faults O.room out.old out.new) (sunk E.taken E.faults E.room err.old err.new) result }
+    ensures quiet { IsQuiet (sunk O.taken O.faults O.room out.old out.new) (sunk E.taken E.faults E.room err.old err.new) result }
+{
+    let job = match read_words(alloc, words) {
+        Ok(job) => job,
+        Err(WordsError::Usage) => {
+            tell(
+                err,
+                "",
+                "usage: kuifje COMMAND [FILES] [--gain G] [--turns N] [--json]",
+            );
+            return 2;
+        }
+        Err(WordsError::Mem) => {
+            tell(err, "", "want of memory");
+            return 12;
+        }
+    };
+    match work(alloc, files, &job) {
+        Ok(done) => match write_all(out, &done.bytes) {
+            Ok(()) => {
+                if done.yes {
+                    0
+                } else {
+                    1
+                }
+            }
+            Err(Failed) => {
+                tell(err, "", "write failed");
+                4
+            }
+        },
+        Err(Stop::Refused(refusal)) => refuse(err, &refusal),
+        Err(Stop::ReadFailed(name)) => {
+            tell(err, name, ": read failed");
+            3
+        }
+        Err(Stop::Mem) => {
+            tell(err, "", "want of memory");
+            12
+        }
+    }
+}

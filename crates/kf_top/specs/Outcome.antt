@@ -40,8 +40,13 @@ first_target form = record { initial = false; name = codes "x"; ty = Range (pos 
 abbrev pub first_statement : FirstForm → Statement
 first_statement form = HyperOf (first_target form) (scale_of form) (joint_of form)
 
+-- what the bytes of a file come to
+abbrev pub TextOutcome : List ℕ → List ℕ → Step Statement
+TextOutcome file bytes = After (FormOf file bytes) (λ form. Gives (Ok (first_statement form)))
+
+-- `hyper`: the file is read, then its text
 abbrev pub HyperOutcome : (List ℕ → List ℕ) → List ℕ → Step Statement
-HyperOutcome contents file = After (Gives (source_of contents file)) (λ bytes. After (FormOf file bytes) (λ form. Gives (Ok (first_statement form))))
+HyperOutcome contents file = After (Gives (source_of contents file)) (TextOutcome file)
 
 abbrev pub TaskOutcome : (List ℕ → List ℕ) → Task → Step Statement
 TaskOutcome contents (Hyper file turns) = HyperOutcome contents file

@@ -1,2 +1,6 @@
+pub mod Adding
 pub mod Ending
+pub mod Gathering
+pub mod Listing
 pub mod Steps
+pub mod Whole

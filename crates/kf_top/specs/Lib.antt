@@ -1,6 +1,7 @@
 pub mod Answer
 pub mod Columns
 pub mod Ends
+pub mod Gathering
 pub mod Outcome
 pub mod Stops
 pub mod Task

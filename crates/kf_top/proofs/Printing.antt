@@ -1,7 +1,7 @@
 -- Texts that are appended piece by piece.
-use Rattle.std.proofs.Common.{◌≡◌, ℕ, ◌<◌, ℤ, List, [], ◌∷◌, ◌++◌, length, map, drop, get_or, sym, ◌∙◌, ap, suc, append_assoc, append-nil, codes, refl, drop-cons, add-one, ◌+◌, ◌-◌, take, arith}
+use Rattle.std.proofs.Common.{◌≡◌, ℕ, ◌<◌, ℤ, List, [], ◌∷◌, ◌++◌, length, map, drop, get_or, sym, ◌∙◌, ap, append_assoc, append-nil, codes, refl, ◌-◌, take, arith}
 use Rattle.std.proofs.lemmas.List.{take_rest}
-use Rattle.std.specs.List.{flat_map, enumerate_from}
+use Rattle.std.specs.List.{flat_map}
 use Rattle.std.specs.Fmt.{signed_decimal}
 use Rattle.kf_frac.specs.declared.frac.Frac.{Frac}
 use Rattle.kf_frac.specs.Fractions.{fraction_text, reduced_num, reduced_den, denominator_text}
@@ -21,7 +21,7 @@ abbrev pub further_text : TargetItem → List ℕ
 further_text i = codes ", " ++ target_text (item_of i ∷ [])
 
 -- the text of a target is that of its first item, then those of the further ones
-pub target_first : (i : TargetItem) (others : List TargetItem) → target_text (map item_of (i ∷ others)) ≡ target_text (item_of i ∷ []) ++ flat_map further_text others
+target_first : (i : TargetItem) (others : List TargetItem) → target_text (map item_of (i ∷ others)) ≡ target_text (item_of i ∷ []) ++ flat_map further_text others
 target_first i [] = sym (append-nil (target_text (item_of i ∷ [])))
 target_first i (j ∷ others) = ap (λ (t : List ℕ). target_text (item_of i ∷ []) ++ (codes ", " ++ t)) (target_first j others)
 

@@ -1,12 +1,9 @@
 ghost use Rattle.std.specs.Prelude.{◌≡◌, ◌<◌, ◌++◌, ◌∷◌, [], IfOk, OnOk, flat_map, length, map};
-ghost use Rattle.kf_frac.specs.Fractions.{fraction_text};
-ghost use Rattle.kf_frac.specs.Views.{num_of, den_of};
 ghost use Rattle.kf_value.specs.Targets.{item_of, target_text};
 ghost use Rattle.kf_hyper.specs.Columns.{entry_at, total};
 ghost use Rattle.kf_hyper.specs.Views.{inner_at, inners_of, scale_of, target_of};
 ghost use Rattle.kf_top.specs.Texts.{head_lines, entry_line, inner_lines, hyper_text as text_of_hyper};
 
-use kf_frac::Frac;
 use kf_hyper::Hyper;
 use kf_value::{Mem, TargetItem, print_target};
 use std::alloc::Global;

@@ -10,7 +10,7 @@ use Rattle.kf_frac.proofs.CommonDivisors.{gcd_positive}
 use Rattle.kf_frac.proofs.LowestTerms.{reduced_num_abs, reduced_den_is}
 use Rattle.kf_hyper.specs.declared.entry.Entry.{Entry}
 use Rattle.kf_hyper.specs.declared.class.Class.{Class}
-use Rattle.kf_hyper.specs.Columns.{total}
+use Rattle.kf_hyper.specs.Columns.{IsBelow, total}
 use Rattle.kf_hyper.specs.Hypers.{Inner, IsInner}
 use Rattle.kf_hyper.specs.Shapes.{IsShape, inner_of}
 use Rattle.kf_hyper.proofs.Scaling.{total_positive}
@@ -43,6 +43,9 @@ module _ (classes : List Class) (i : ℕ) (c : Class) (size scale : ℕ) (shape 
 
   is_inner : IsInner c.inner
   is_inner = subst (λ (j : Inner). IsInner j.entries) here (shape.inner i (inner_of c) inside)
+
+  pub values_within : IsBelow size c.inner
+  values_within = subst (λ (j : Inner). IsBelow size j.entries) here (shape.within i (inner_of c) inside)
 
   pub whole_some : c.whole ≡ total c.inner → 0 < c.whole
   whole_some summed = omega (arith, summed, total_positive c.inner is_inner.column)

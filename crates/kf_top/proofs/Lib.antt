@@ -2,5 +2,6 @@ pub mod Adding
 pub mod Ending
 pub mod Gathering
 pub mod Listing
+pub mod Printing
 pub mod Steps
 pub mod Whole

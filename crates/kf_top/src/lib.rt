@@ -3,6 +3,8 @@
 
 mod first_hyper;
 mod stops;
+#[cfg(test)]
+mod tests;
 mod texts;
 mod top;
 mod words;

@@ -1,8 +1,9 @@
 ghost use Rattle.std.specs.Prelude.{◌≡◌, ◌<◌, ◌≤◌, length, pos, List};
 ghost use Rattle.kf_frac.specs.Fractions.{limit, reduced_num, reduced_den};
 ghost use Rattle.kf_frac.specs.Views.{num_of, den_of};
+ghost use Rattle.kf_value.specs.Targets.{target_size};
 ghost use Rattle.kf_value.specs.Views.{items_of};
-ghost use Rattle.kf_hyper.specs.Columns.{total, entry_at};
+ghost use Rattle.kf_hyper.specs.Columns.{IsBelow, total, entry_at};
 ghost use Rattle.kf_hyper.specs.Views.{inners_of, inner_at, scale_of, target_of};
 
 use super::Hyper;
@@ -35,7 +36,8 @@ impl Hyper {
     /// The inner with the number `i`, from 0: its values with whole weights without common factor.
     pub fn inner(&self, i: usize) -> &Column
         requires { i < length (inners_of self.now) }
-        ensures { result.now ≡ (inner_at self.now i).entries }
+        ensures kept { result.now ≡ (inner_at self.now i).entries }
+        ensures within { IsBelow (target_size (target_of self.now)) result.now }
     {
         &self.classes[i].inner
     }

@@ -1,0 +1,35 @@
+-- Texts that are appended piece by piece.
+use Rattle.std.proofs.Common.{◌≡◌, ℕ, ◌<◌, ℤ, List, [], ◌∷◌, ◌++◌, length, map, drop, get_or, sym, ◌∙◌, ap, append_assoc, append-nil, codes, refl, ◌-◌, take, arith}
+use Rattle.std.proofs.lemmas.List.{take_rest}
+use Rattle.std.specs.List.{flat_map}
+use Rattle.std.specs.Fmt.{signed_decimal}
+use Rattle.kf_frac.specs.declared.frac.Frac.{Frac}
+use Rattle.kf_frac.specs.Fractions.{fraction_text, reduced_num, reduced_den, denominator_text}
+use Rattle.kf_frac.proofs.LowestTerms.{text_of_reduced}
+use Rattle.kf_value.specs.declared.target_item.TargetItem.{TargetItem}
+use Rattle.kf_value.specs.Targets.{item_of, target_text}
+
+-- a fraction in lowest terms is written as the one that it was made of
+pub share_text : (f : Frac) (n : ℤ) (d : ℕ) → f.num ≡ reduced_num n d → f.den ≡ reduced_den n d → fraction_text f.num f.den ≡ fraction_text n d
+unfolding fraction_text
+share_text f n d num den =
+    let same : signed_decimal f.num ++ denominator_text f.den ≡ fraction_text n d = rw (num, den) refl in
+    text_of_reduced f.num f.den f.reduced ∙ same
+
+-- an item after the first, with what stands before it
+abbrev pub further_text : TargetItem → List ℕ
+further_text i = codes ", " ++ target_text (item_of i ∷ [])
+
+-- the text of a target is that of its first item, then those of the further ones
+target_first : (i : TargetItem) (others : List TargetItem) → target_text (map item_of (i ∷ others)) ≡ target_text (item_of i ∷ []) ++ flat_map further_text others
+target_first i [] = sym (append-nil (target_text (item_of i ∷ [])))
+target_first i (j ∷ others) = ap (λ (t : List ℕ). target_text (item_of i ∷ []) ++ (codes ", " ++ t)) (target_first j others)
+
+-- the first item stands, and the further ones are left
+pub first_printed : (items : List TargetItem) (first : TargetItem) (out now : List ℕ) → 0 < length items → first ≡ get_or items 0 first
+    → now ≡ out ++ target_text (item_of first ∷ [])
+    → now ++ flat_map further_text (take (length items - 1) (drop 1 items)) ≡ out ++ target_text (map item_of items)
+first_printed [] first out now some is grown = absurd (omega arith)
+first_printed (i ∷ others) first out now some is grown =
+    rw (take_rest (i ∷ others) 1, grown, append_assoc, is)
+    (ap (λ (t : List ℕ). out ++ t) (sym (target_first i others)))

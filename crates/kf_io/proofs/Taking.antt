@@ -2,9 +2,9 @@
 use Rattle.std.proofs.Common.{◌≡◌, ℕ, ◌+◌, ◌-◌, List, length, arith, length-drop, length-append, ◌++◌, take, drop, None, Some, ◌∙◌, ap, append_assoc}
 use Rattle.std.proofs.Math.Seq.{take-add, take-append-add}
 use Rattle.std.proofs.lemmas.List.{take_all, take-append-le}
-use Rattle.std.specs.Io.KnownBytes.{Appends, Keeps}
-use Rattle.kf_io.specs.Writes.{AppendsSome}
+use Rattle.std.specs.Io.KnownBytes.{Appends}
 use Rattle.std.specs.declared.option.Option.{Option}
+use Rattle.kf_io.specs.Writes.{AppendsSome}
 
 -- one piece and then the next
 pub took_on : (a b c : Option (List ℕ)) (xs ys : List ℕ) → Appends a b xs → Appends b c ys → Appends a c (xs ++ ys)
@@ -18,13 +18,6 @@ pub took_more : (a b c : Option (List ℕ)) (bytes : List ℕ) (d k : ℕ) → A
 took_more a b c bytes d k p q =
     let rest : take (length bytes - d) (drop d bytes) ≡ drop d bytes = take_all _ _ (omega (arith, length-drop d bytes)) in
     rw (take-add d k bytes) (took_on a b c _ _ p (rw rest at q))
-
--- a fault keeps what was taken
-pub took_kept : (a b c : Option (List ℕ)) (xs : List ℕ) → Appends a b xs → Keeps b c → Appends a c xs
-took_kept None b c xs p q = tt
-took_kept (Some x) None c xs p q = absurd p
-took_kept (Some x) (Some y) None xs p q = absurd q
-took_kept (Some x) (Some y) (Some z) xs p q = q ∙ p
 
 -- a front of the first piece is a front of both
 pub front_more : (a b : Option (List ℕ)) (xs ys : List ℕ) → AppendsSome a b xs → AppendsSome a b (xs ++ ys)

@@ -35,6 +35,7 @@ impl<'a, R: rt::Files + AllocGlobal> Model for HostFiles<'a, R> {
 }
 
 impl<'a, R: rt::Files + AllocGlobal> HostFiles<'a, R> {
+    /// No file is open yet, and none has failed.
     pub fn new(runtime: &'a R) -> Self
         ensures { result ≡ 0 }
     {

@@ -22,6 +22,7 @@ impl<W: Write> Model for HostSink<W> {
 }
 
 impl<W: Write> HostSink<W> {
+    /// No write has failed yet.
     pub fn new(stream: W) -> Self
         ensures { result ≡ 0 }
     {

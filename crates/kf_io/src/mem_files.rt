@@ -32,7 +32,8 @@ impl Model for MemFiles {
 }
 
 impl MemFiles {
-    /// Files of which a read gives at most `piece` bytes, and fails where its number stands in `fail`.
+    /// A read gives at most `piece` bytes. It fails where its number stands in `fail` or no file has the
+    /// name, which raises the count of that name alone; the names that no file has share one count.
     pub fn new(alloc: Global, files: FileList, piece: usize, fail: CallList) -> Result<Self, Mem>
         requires { 0 < piece }
         ensures made { IfOk result (λ made. made ≡ fresh_files files piece fail) }

@@ -30,8 +30,8 @@ impl Model for MemSink {
 }
 
 impl MemSink {
-    /// A sink for `room` bytes, of which a write takes at most `piece`, and fails where its number
-    /// stands in `fail`. The memory for the room is taken at once.
+    /// A write takes at most `piece` bytes. It fails where its number stands in `fail`, or where there is
+    /// something to take and no room. The memory for `room` bytes is taken here, and a write takes none.
     pub fn new(alloc: Global, room: usize, piece: usize, fail: CallList) -> Result<Self, Mem>
         requires { 0 < piece }
         ensures made { IfOk result (λ made. made ≡ fresh_sink room piece fail) }

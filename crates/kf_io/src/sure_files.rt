@@ -28,7 +28,7 @@ impl Model for SureFiles {
 }
 
 impl SureFiles {
-    /// Files of which a read gives at most `piece` bytes.
+    /// A read gives at most `piece` bytes.
     pub fn new(files: FileList, piece: usize) -> Self
         requires { 0 < piece }
         ensures made { result ≡ record { files = files; piece = piece } }

@@ -16,7 +16,8 @@ bytes_of files name = option_map_or (λ file. file.bytes) (find (has_name name) 
 
 -- the count of the first file of this name, and for all other names together the last one
 abbrev pub count_of : List FileEntry → List ℕ → ℕ → List ℕ → ℕ
-count_of files counts other name = option_map_or (λ place. slice_index counts place) (position (has_name name) files) other
+count_of files counts other name =
+    option_map_or (λ place. slice_index counts place) (position (has_name name) files) other
 
 -- files whose reads never fail
 pub record SureState : Type 0 where
@@ -39,7 +40,8 @@ pub record FilesState : Type 0 where
 
 -- files before the first call
 abbrev pub fresh_files : List FileEntry → ℕ → List ℕ → FilesState
-fresh_files files piece fail = record { files = files; piece = piece; fail = fail; calls = 0; counts = replicate (length files) 0; other = 0 }
+fresh_files files piece fail =
+    record { files = files; piece = piece; fail = fail; calls = 0; counts = replicate (length files) 0; other = 0 }
 
 -- a read fails where its number is listed, or no file has the name
 abbrev pub ReadFails : FilesState → List ℕ → Type 0
@@ -53,4 +55,5 @@ faults_of s = count_of s.files s.counts s.other
 pub record RaisesOne (before now : FilesState) (name : List ℕ) : Type 0 where
   pub kept : now ≡ record before { calls = raised before.calls; counts = now.counts; other = now.other }
   pub one : faults_of now name ≡ raised (faults_of before name)
-  pub others : (n : List ℕ) → position (has_name n) before.files ≢ position (has_name name) before.files → faults_of now n ≡ faults_of before n
+  pub others : (n : List ℕ) → position (has_name n) before.files ≢ position (has_name name) before.files
+      → faults_of now n ≡ faults_of before n

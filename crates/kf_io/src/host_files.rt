@@ -7,8 +7,8 @@ use std::{fs, rt};
 
 /// The files of the system.
 ///
-/// The file that was read last stays open: a read of the same name at the place where it stands goes on
-/// from there without seeking, so a pipe can be read too. Another name or place opens anew.
+/// The file that was read last stays open: a read of the same name at the place where it stands
+/// goes on from there without seeking, so a pipe can be read too. Another name or place opens anew.
 ///
 /// Clauses see it as its count of faults, which is that of every name.
 #[derive(Drop)]

@@ -1,4 +1,5 @@
-//! Files and sinks as a program meets them: what they hold, where that is told, and how often they failed.
+//! Files and sinks as a program meets them: what they hold, where that is told, and how often they
+//! failed.
 #![tactic(auto)]
 
 mod errors;

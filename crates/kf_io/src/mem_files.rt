@@ -1,6 +1,5 @@
 ghost use Rattle.std.specs.Prelude.{◌≡◌, ◌<◌, ◌≤◌, ◌↔◌, List, ℕ, Some, position, length, IfOk, OnOk, OnErr, IsErr};
-ghost use Rattle.std.specs.Option.{ForSome};
-ghost use Rattle.kf_io.specs.Entries.{has_name, bytes_of, count_of, fresh_files, ReadFails, RaisesOne};
+ghost use Rattle.kf_io.specs.Entries.{has_name, bytes_of, faults_of, fresh_files, ReadFails, RaisesOne};
 ghost use Rattle.kf_io.specs.Faults.{CountsFaults, raised};
 ghost use Rattle.kf_io.specs.Reads.{Gives};
 
@@ -26,7 +25,14 @@ impl Model for MemFiles {
 
     ghost Value = { FilesState };
 
-    ghost view = { λ s. record { files = s.files; piece = s.piece; fail = s.fail; calls = s.calls; counts = s.counts.items; other = s.other } };
+    ghost view = { λ s. record {
+      files = s.files;
+      piece = s.piece;
+      fail = s.fail;
+      calls = s.calls;
+      counts = s.counts.items;
+      other = s.other;
+    } };
 
     ghost invariant = { λ s. (0 < s.piece) × (vec_len s.counts ≡ length s.files) };
 }
@@ -37,8 +43,10 @@ impl MemFiles {
     pub fn new(alloc: Global, files: FileList, piece: usize, fail: CallList) -> Result<Self, Mem>
         requires { 0 < piece }
         ensures made { IfOk result (λ made. made ≡ fresh_files files piece fail) }
-        ensures told { IfOk result (λ made. ⟦<MemFiles as Files>⟧.contents made ≡ Some (bytes_of files)) }
-        ensures counts { IfOk result (λ made. (name : List ℕ) → ⟦<MemFiles as Files>⟧.faults made name ≡ 0) }
+        ensures told { IfOk result (λ made.
+            ⟦<MemFiles as Files>⟧.contents made ≡ Some (bytes_of files)) }
+        ensures counts { IfOk result (λ made.
+            (name : List ℕ) → ⟦<MemFiles as Files>⟧.faults made name ≡ 0) }
     {
         let counts = vec![in alloc; 0u64; files.as_slice().len()]?;
         Ok(MemFiles {
@@ -62,17 +70,18 @@ pub(crate) fn place_of(files: &[FileEntry], name: &str) -> Option<usize>
 impl Files for MemFiles {
     ghost contents = { λ s. Some (bytes_of s.files) };
 
-    ghost faults = { λ s. count_of s.files s.counts s.other };
+    ghost faults = { faults_of };
 
     fn read(&mut self, name: &str, at: u64, buf: &mut [u8]) -> Result<usize, Failed>
         ensures bound { IfOk result (λ k. k ≤ length buf.new) }
-        ensures given { IfOk result (λ k. ForSome (Some (bytes_of self.old.files)) (λ files. Gives (files name.now) at k buf.new)) }
-        ensures unchanged { Some (bytes_of self.new.files) ≡ Some (bytes_of self.old.files) }
-        ensures cause { CountsFaults name.now (count_of self.old.files self.old.counts self.old.other) (count_of self.new.files self.new.counts self.new.other) result }
+        ensures given { IfOk result (λ k. Gives (bytes_of self.old.files name.now) at k buf.new) }
+        ensures unchanged { self.new.files ≡ self.old.files }
+        ensures cause { CountsFaults name.now (faults_of self.old) (faults_of self.new) result }
 
         ensures piece { IfOk result (λ k. k ≤ self.old.piece) }
         ensures fails { IsErr result ↔ ReadFails self.old name.now }
-        ensures after_ok { OnOk result (self.new ≡ record self.old { calls = raised self.old.calls }) }
+        ensures after_ok { OnOk result
+            (self.new ≡ record self.old { calls = raised self.old.calls }) }
         ensures after_fault { OnErr result (RaisesOne self.old self.new name.now) }
     {
         let call = self.calls;

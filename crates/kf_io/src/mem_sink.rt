@@ -1,5 +1,4 @@
 ghost use Rattle.std.specs.Prelude.{◌≡◌, ◌<◌, ◌≤◌, ◌+◌, ◌++◌, ◌↔◌, [], None, Some, length, take, IfOk, OnErr, IsOk, IsErr};
-ghost use Rattle.std.specs.Io.KnownBytes.{Appends, Keeps};
 ghost use Rattle.kf_io.specs.Faults.{CountsFault, raised};
 ghost use Rattle.kf_io.specs.Writes.{fresh_sink, certain_room, write_count, WriteFails};
 
@@ -24,9 +23,17 @@ impl Model for MemSink {
 
     ghost Value = { SinkState };
 
-    ghost view = { λ s. record { bytes = s.bytes.items; room = s.room; piece = s.piece; fail = s.fail; calls = s.calls; faults = s.faults } };
+    ghost view = { λ s. record {
+      bytes = s.bytes.items;
+      room = s.room;
+      piece = s.piece;
+      fail = s.fail;
+      calls = s.calls;
+      faults = s.faults;
+    } };
 
-    ghost invariant = { λ s. (0 < s.piece) × (vec_len s.bytes ≤ s.room) × (s.room ≤ vec_capacity s.bytes) };
+    ghost invariant = { λ s.
+        (0 < s.piece) × (vec_len s.bytes ≤ s.room) × (s.room ≤ vec_capacity s.bytes) };
 }
 
 impl MemSink {
@@ -37,7 +44,8 @@ impl MemSink {
         ensures made { IfOk result (λ made. made ≡ fresh_sink room piece fail) }
         ensures empty { IfOk result (λ made. ⟦<MemSink as Sink>⟧.taken made ≡ Some []) }
         ensures count { IfOk result (λ made. ⟦<MemSink as Sink>⟧.faults made ≡ 0) }
-        ensures room { IfOk result (λ made. fail ≡ [] → ⟦<MemSink as Sink>⟧.room made ≡ room) }
+        ensures room { IfOk result (λ made.
+            fail ≡ [] → ⟦<MemSink as Sink>⟧.room made ≡ room) }
     {
         let bytes = Vec::with_capacity(alloc, room)?;
         Ok(MemSink {
@@ -68,16 +76,23 @@ impl Sink for MemSink {
     fn write(&mut self, bytes: &[u8]) -> Result<usize, Failed>
         ensures bound { IfOk result (λ k. k ≤ length bytes.now) }
         ensures some { IfOk result (λ k. 0 < length bytes.now → 0 < k) }
-        ensures took { IfOk result (λ k. Appends (Some self.old.bytes) (Some self.new.bytes) (take k bytes.now)) }
-        ensures failed { OnErr result (Keeps (Some self.old.bytes) (Some self.new.bytes)) }
+        ensures took { IfOk result (λ k. self.new.bytes ≡ self.old.bytes ++ take k bytes.now) }
+        ensures failed { OnErr result (self.new.bytes ≡ self.old.bytes) }
         ensures cause { CountsFault self.old.faults self.new.faults result }
-        ensures certain { 0 < length bytes.now → length bytes.now ≤ certain_room self.old → IsOk result }
+        ensures certain { 0 < length bytes.now
+            → length bytes.now ≤ certain_room self.old → IsOk result }
         ensures left { IfOk result (λ k. certain_room self.old ≤ certain_room self.new + k) }
 
         ensures count { IfOk result (λ k. k ≡ write_count self.old bytes.now) }
         ensures fails { IsErr result ↔ WriteFails self.old bytes.now }
-        ensures after_ok { IfOk result (λ k. self.new ≡ record self.old { bytes = self.old.bytes ++ take k bytes.now; calls = raised self.old.calls }) }
-        ensures after_fault { OnErr result (self.new ≡ record self.old { calls = raised self.old.calls; faults = raised self.old.faults }) }
+        ensures after_ok { IfOk result (λ k. self.new ≡ record self.old {
+          bytes = self.old.bytes ++ take k bytes.now;
+          calls = raised self.old.calls;
+        }) }
+        ensures after_fault { OnErr result (self.new ≡ record self.old {
+          calls = raised self.old.calls;
+          faults = raised self.old.faults;
+        }) }
     {
         let call = self.calls;
         self.calls = call.saturating_add(1);

@@ -18,11 +18,14 @@ fn read_piece<F: Files>(
     requires { 0 < length buf.old }
     ensures grows { IfOk result (λ k. vec_len bytes.new ≡ vec_len bytes.old + k) }
     ensures bound { IfOk result (λ k. k ≤ length buf.old) }
-    ensures told { IfOk result (λ _. ForSome (F.contents files.old) (λ c. IsFront (c name.now) bytes.old.items → IsFront (c name.now) bytes.new.items)) }
-    ensures whole { IfOk result (λ k. k ≡ 0 → ForSome (F.contents files.old) (λ c. IsFront (c name.now) bytes.old.items → bytes.new.items ≡ c name.now)) }
+    ensures told { IfOk result (λ _. ForSome (F.contents files.old) (λ c.
+        IsFront (c name.now) bytes.old.items → IsFront (c name.now) bytes.new.items)) }
+    ensures whole { IfOk result (λ k. k ≡ 0 → ForSome (F.contents files.old) (λ c.
+        IsFront (c name.now) bytes.old.items → bytes.new.items ≡ c name.now)) }
     ensures unchanged { F.contents files.new ≡ F.contents files.old }
     ensures same { result ≢ Err ReadError.Failed → F.faults files.new ≡ F.faults files.old }
-    ensures failed { IsErrOf result ReadError.Failed → Rose (F.faults files.old name.now) (F.faults files.new name.now) }
+    ensures failed { IsErrOf result ReadError.Failed
+        → Rose (F.faults files.old name.now) (F.faults files.new name.now) }
     ensures later { (n : List ℕ) → F.faults files.old n ≤ F.faults files.new n }
     ensures short { result ≢ Err ReadError.TooLong }
 {
@@ -33,16 +36,21 @@ fn read_piece<F: Files>(
 
 /// The whole contents of the file of this name, which may have 1,048,576 bytes at most.
 pub fn read_whole<F: Files>(alloc: Global, files: &mut F, name: &str) -> Result<Vec<u8>, ReadError>
-    ensures told { IfOk result (λ bytes. ForSome (F.contents files.old) (λ c. bytes.items ≡ c name.now)) }
+    ensures told { IfOk result (λ bytes.
+        ForSome (F.contents files.old) (λ c. bytes.items ≡ c name.now)) }
     ensures limit { IfOk result (λ bytes. vec_len bytes ≤ 1048576) }
-    ensures long { IsErrOf result ReadError.TooLong → ForSome (F.contents files.old) (λ c. 1048576 < length (c name.now)) }
+    ensures long { IsErrOf result ReadError.TooLong
+        → ForSome (F.contents files.old) (λ c. 1048576 < length (c name.now)) }
 
-    // Where this name's count doesn't rise, the file is read whole, or is too long, but for want of memory.
-    ensures complete { ForSome (F.contents files.old) (λ c. ¬ Rose (F.faults files.old name.now) (F.faults files.new name.now) → IsWhole (c name.now) result) }
+    // Where this name's count doesn't rise, the file is read whole or found too long, but for Mem.
+    ensures complete { ForSome (F.contents files.old) (λ c.
+        ¬ Rose (F.faults files.old name.now) (F.faults files.new name.now)
+        → IsWhole (c name.now) result) }
 
     ensures unchanged { F.contents files.new ≡ F.contents files.old }
     ensures same { result ≢ Err ReadError.Failed → F.faults files.new ≡ F.faults files.old }
-    ensures failed { IsErrOf result ReadError.Failed → Rose (F.faults files.old name.now) (F.faults files.new name.now) }
+    ensures failed { IsErrOf result ReadError.Failed
+        → Rose (F.faults files.old name.now) (F.faults files.new name.now) }
     ensures later { (n : List ℕ) → F.faults files.old n ≤ F.faults files.new n }
 {
     let mut bytes = Vec::new(alloc);

@@ -1,5 +1,4 @@
 ghost use Rattle.std.specs.Prelude.{◌≡◌, ◌<◌, ◌≤◌, List, ℕ, Some, length, IfOk, IsOk};
-ghost use Rattle.std.specs.Option.{ForSome};
 ghost use Rattle.kf_io.specs.Entries.{bytes_of};
 ghost use Rattle.kf_io.specs.Faults.{CountsFaults};
 ghost use Rattle.kf_io.specs.Reads.{Gives};
@@ -33,6 +32,7 @@ impl SureFiles {
         requires { 0 < piece }
         ensures made { result ≡ record { files = files; piece = piece } }
         ensures told { ⟦<SureFiles as Files>⟧.contents result ≡ Some (bytes_of files) }
+        ensures counts { (name : List ℕ) → ⟦<SureFiles as Files>⟧.faults result name ≡ 0 }
     {
         SureFiles { files, piece }
     }
@@ -45,8 +45,8 @@ impl Files for SureFiles {
 
     fn read(&mut self, name: &str, at: u64, buf: &mut [u8]) -> Result<usize, Failed>
         ensures bound { IfOk result (λ k. k ≤ length buf.new) }
-        ensures given { IfOk result (λ k. ForSome (Some (bytes_of self.old.files)) (λ files. Gives (files name.now) at k buf.new)) }
-        ensures unchanged { Some (bytes_of self.new.files) ≡ Some (bytes_of self.old.files) }
+        ensures given { IfOk result (λ k. Gives (bytes_of self.old.files name.now) at k buf.new) }
+        ensures unchanged { self.new.files ≡ self.old.files }
         ensures cause { CountsFaults name.now (λ _. 0) (λ _. 0) result }
 
         ensures piece { IfOk result (λ k. k ≤ self.old.piece) }

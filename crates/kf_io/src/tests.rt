@@ -1,4 +1,4 @@
-// Each public call on its happy path, and what no clause says: that real files and streams do as told.
+// Each public call on its happy path, and what no clause says: what real files and streams do.
 use crate::*;
 use std::alloc::{AllocError, Global};
 use std::fs::OpenOptions;

@@ -21,7 +21,8 @@ pub trait Files {
     /// A missing file is a fault.
     fn read(&mut self, name: &str, at: u64, buf: &mut [u8]) -> Result<usize, Failed>
         ensures bound { IfOk result (λ k. k ≤ length buf.new) }
-        ensures given { IfOk result (λ k. ForSome (contents self.old) (λ files. Gives (files name.now) at k buf.new)) }
+        ensures given { IfOk result (λ k.
+            ForSome (contents self.old) (λ files. Gives (files name.now) at k buf.new)) }
         ensures unchanged { contents self.new ≡ contents self.old }
         ensures cause { CountsFaults name.now (faults self.old) (faults self.new) result };
 }
@@ -41,7 +42,8 @@ pub trait Sink {
     fn write(&mut self, bytes: &[u8]) -> Result<usize, Failed>
         ensures bound { IfOk result (λ k. k ≤ length bytes.now) }
         ensures some { IfOk result (λ k. 0 < length bytes.now → 0 < k) }
-        ensures took { IfOk result (λ k. Appends (taken self.old) (taken self.new) (take k bytes.now)) }
+        ensures took { IfOk result (λ k.
+            Appends (taken self.old) (taken self.new) (take k bytes.now)) }
         ensures failed { OnErr result (Keeps (taken self.old) (taken self.new)) }
         ensures cause { CountsFault (faults self.old) (faults self.new) result }
 

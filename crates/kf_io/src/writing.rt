@@ -24,11 +24,15 @@ pub fn write_all<O: Sink>(sink: &mut O, bytes: &[u8]) -> Result<(), Failed>
 
 /// Writes texts one after the other. After `Failed` the sink took a front of them. Takes no memory.
 pub fn write_pieces<O: Sink>(sink: &mut O, pieces: &[&str]) -> Result<(), Failed>
-    ensures took { OnOk result (Appends (O.taken sink.old) (O.taken sink.new) (flat_map (λ p. p.now) pieces.now)) }
-    ensures front { OnErr result (AppendsSome (O.taken sink.old) (O.taken sink.new) (flat_map (λ p. p.now) pieces.now)) }
+    ensures took { OnOk result
+        (Appends (O.taken sink.old) (O.taken sink.new) (flat_map (λ p. p.now) pieces.now)) }
+    ensures front { OnErr result
+        (AppendsSome (O.taken sink.old) (O.taken sink.new) (flat_map (λ p. p.now) pieces.now)) }
     ensures cause { CountsFault (O.faults sink.old) (O.faults sink.new) result }
-    ensures certain { length (flat_map (λ p. p.now) pieces.now) ≤ O.room sink.old → IsOk result }
-    ensures left { OnOk result (O.room sink.old ≤ O.room sink.new + length (flat_map (λ p. p.now) pieces.now)) }
+    ensures certain { length (flat_map (λ p. p.now) pieces.now) ≤ O.room sink.old
+        → IsOk result }
+    ensures left { OnOk result
+        (O.room sink.old ≤ O.room sink.new + length (flat_map (λ p. p.now) pieces.now)) }
 {
     'pieces: for piece in pieces {
         write_all(sink, piece.as_bytes())?;

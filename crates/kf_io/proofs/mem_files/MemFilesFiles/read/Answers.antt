@@ -6,11 +6,10 @@ use Rattle.kf_io.proofs.Found.{gives_found}
 use Rattle.kf_io.proofs.mem_files.MemFilesFiles.read.Goals as goal
 
 pub returns-in-Some-clause-given : goal.returns-in-Some-clause-given
-returns-in-Some-clause-given c told tells =
+returns-in-Some-clause-given c =
     let file = c.index-as_slice-place.result in
     let held : c.self.inside.files ≡ c.args.self.now.files = ap (λ (s : FilesState). s.files) c.self.view_is in
-    gives_found c.args.self.now.files c.args.name.now c.in-Some.place file told _ _ _
+    gives_found c.args.self.now.files c.args.name.now c.in-Some.place file _ _ _
     (c.in-Some.ensures ∙ ap (position (has_name c.args.name.now)) (c.as_slice.ensures ∙ held))
     (c.index-as_slice-place.is ∙ ap (λ (l : List FileEntry). get_or l c.in-Some.place file) (c.as_slice-in-Some.ensures ∙ held))
-    tells
     (subst (λ (bytes : List ℕ). Gives bytes c.args.at c.give.result c.give.new.buf) c.as_slice-in-Some-2.ensures c.give.ensures.given)

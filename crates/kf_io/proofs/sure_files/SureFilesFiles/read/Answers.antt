@@ -13,12 +13,11 @@ returns-clause-given c =
     let held : c.self.inside.files ≡ files = ap (λ (s : SureState). s.files) c.self.view_is in
     let place = ap (position (has_name name)) (c.as_slice.ensures ∙ held) in
     elim c.match-place_of.branch [
-      | in-Some w ↦ rw (w.result-is, w.buf-is) (λ told tells.
+      | in-Some w ↦
           let file = w.index-as_slice-place.result in
-          gives_found files name w.in-Some.place file told _ _ _
+          rw (w.result-is, w.buf-is) (gives_found files name w.in-Some.place file _ _ _
           (w.in-Some.ensures ∙ place)
           (w.index-as_slice-place.is ∙ ap (λ (l : List FileEntry). get_or l w.in-Some.place file) (w.as_slice-in-Some.ensures ∙ held))
-          tells
           (subst (λ (bytes : List ℕ). Gives bytes c.args.at w.give.result w.give.new.buf) w.as_slice-in-Some-2.ensures w.give.ensures.given))
-      | in-None w ↦ rw (w.result-is, w.buf-is) (λ told tells. gives_none files name told _ _ (w.in-None.ensures ∙ place) tells)
+      | in-None w ↦ rw (w.result-is, w.buf-is) (gives_none files name _ _ (w.in-None.ensures ∙ place))
     ]

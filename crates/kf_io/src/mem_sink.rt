@@ -76,8 +76,6 @@ impl Sink for MemSink {
     fn write(&mut self, bytes: &[u8]) -> Result<usize, Failed>
         ensures bound { IfOk result (λ k. k ≤ length bytes.now) }
         ensures some { IfOk result (λ k. 0 < length bytes.now → 0 < k) }
-        ensures took { IfOk result (λ k. self.new.bytes ≡ self.old.bytes ++ take k bytes.now) }
-        ensures failed { OnErr result (self.new.bytes ≡ self.old.bytes) }
         ensures cause { CountsFault self.old.faults self.new.faults result }
         ensures certain { 0 < length bytes.now
             → length bytes.now ≤ certain_room self.old → IsOk result }

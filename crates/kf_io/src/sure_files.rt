@@ -46,7 +46,6 @@ impl Files for SureFiles {
     fn read(&mut self, name: &str, at: u64, buf: &mut [u8]) -> Result<usize, Failed>
         ensures bound { IfOk result (λ k. k ≤ length buf.new) }
         ensures given { IfOk result (λ k. Gives (bytes_of self.old.files name.now) at k buf.new) }
-        ensures unchanged { self.new.files ≡ self.old.files }
         ensures cause { CountsFaults name.now (λ _. 0) (λ _. 0) result }
 
         ensures piece { IfOk result (λ k. k ≤ self.old.piece) }

@@ -75,14 +75,12 @@ impl Files for MemFiles {
     fn read(&mut self, name: &str, at: u64, buf: &mut [u8]) -> Result<usize, Failed>
         ensures bound { IfOk result (λ k. k ≤ length buf.new) }
         ensures given { IfOk result (λ k. Gives (bytes_of self.old.files name.now) at k buf.new) }
-        ensures unchanged { self.new.files ≡ self.old.files }
-        ensures cause { CountsFaults name.now (faults_of self.old) (faults_of self.new) result }
-
         ensures piece { IfOk result (λ k. k ≤ self.old.piece) }
         ensures fails { IsErr result ↔ ReadFails self.old name.now }
         ensures after_ok { OnOk result
             (self.new ≡ record self.old { calls = raised self.old.calls }) }
         ensures after_fault { OnErr result (RaisesOne self.old self.new name.now) }
+        ensures cause { CountsFaults name.now (faults_of self.old) (faults_of self.new) result }
     {
         let call = self.calls;
         self.calls = call.saturating_add(1);

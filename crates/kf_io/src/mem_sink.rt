@@ -1,4 +1,4 @@
-ghost use Rattle.std.specs.Prelude.{◌≡◌, ◌<◌, ◌≤◌, ◌+◌, ◌++◌, ◌↔◌, [], None, Some, length, take, IfOk, OnErr, IsOk, IsErr};
+ghost use Rattle.std.specs.Prelude.{◌≡◌, ◌<◌, ◌≤◌, ◌+◌, ◌++◌, ◌↔◌, [], Some, length, take, IfOk, OnErr, IsOk, IsErr};
 ghost use Rattle.kf_io.specs.Faults.{CountsFault, raised};
 ghost use Rattle.kf_io.specs.Writes.{fresh_sink, certain_room, write_count, WriteFails};
 
@@ -74,13 +74,6 @@ impl Sink for MemSink {
     ghost room = { certain_room };
 
     fn write(&mut self, bytes: &[u8]) -> Result<usize, Failed>
-        ensures bound { IfOk result (λ k. k ≤ length bytes.now) }
-        ensures some { IfOk result (λ k. 0 < length bytes.now → 0 < k) }
-        ensures cause { CountsFault self.old.faults self.new.faults result }
-        ensures certain { 0 < length bytes.now
-            → length bytes.now ≤ certain_room self.old → IsOk result }
-        ensures left { IfOk result (λ k. certain_room self.old ≤ certain_room self.new + k) }
-
         ensures count { IfOk result (λ k. k ≡ write_count self.old bytes.now) }
         ensures fails { IsErr result ↔ WriteFails self.old bytes.now }
         ensures after_ok { IfOk result (λ k. self.new ≡ record self.old {
@@ -91,6 +84,13 @@ impl Sink for MemSink {
           calls = raised self.old.calls;
           faults = raised self.old.faults;
         }) }
+
+        // What each sink ensures, and no clause above shows by itself.
+        ensures some { IfOk result (λ k. 0 < length bytes.now → 0 < k) }
+        ensures cause { CountsFault self.old.faults self.new.faults result }
+        ensures certain { 0 < length bytes.now
+            → length bytes.now ≤ certain_room self.old → IsOk result }
+        ensures left { IfOk result (λ k. certain_room self.old ≤ certain_room self.new + k) }
     {
         let call = self.calls;
         self.calls = call.saturating_add(1);

@@ -1,6 +1,5 @@
 ghost use Rattle.std.specs.Prelude.{◌≡◌, ◌<◌, ◌≤◌, List, ℕ, Some, length, IfOk, IsOk};
 ghost use Rattle.kf_io.specs.Entries.{bytes_of};
-ghost use Rattle.kf_io.specs.Faults.{CountsFaults};
 ghost use Rattle.kf_io.specs.Reads.{Gives};
 
 use crate::give::give;
@@ -46,8 +45,6 @@ impl Files for SureFiles {
     fn read(&mut self, name: &str, at: u64, buf: &mut [u8]) -> Result<usize, Failed>
         ensures bound { IfOk result (λ k. k ≤ length buf.new) }
         ensures given { IfOk result (λ k. Gives (bytes_of self.old.files name.now) at k buf.new) }
-        ensures cause { CountsFaults name.now (λ _. 0) (λ _. 0) result }
-
         ensures piece { IfOk result (λ k. k ≤ self.old.piece) }
         ensures never_fails { IsOk result }
         ensures kept { self.new ≡ self.old }

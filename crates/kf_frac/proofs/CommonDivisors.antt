@@ -1,8 +1,8 @@
 -- The greatest common divisor is what its name says.
 use Rattle.std.proofs.Common.{◌≡◌, ◌≢◌, ℕ, zero, suc, ◌+◌, ◌*◌, ◌/◌, ◌%◌, ◌<◌, ◌≤◌, max, refl, sym, ◌∙◌, ap, subst, arith, cond, true, false, Bool}
-use Rattle.std.proofs.Math.Nat.{mod-lt, le-max_left, mul-dvd-mul_left, dvd_of_mul-dvd-mul_left, mul-div_cancel', dvd-mul_right, one-dvd}
+use Rattle.std.proofs.Math.Nat.{mod-lt, le-max_left, mul-dvd-mul_left, dvd_of_mul-dvd-mul_left, mul-div_cancel', dvd-mul_right, one-dvd, dvd-mul_left}
 use Rattle.std.proofs.lemmas.Bool.Decides.{nat_tests}
-use Rattle.std.proofs.lemmas.Nat.Gcd.{dvd-zero, dvd_antisymm, le_of_dvd, dvd_of_mod-eq-zero, mod-eq-zero_of_dvd, IsGcd-from_zero, IsGcd-from_mod, IsGcd-swap, le_from_IsGcd}
+use Rattle.std.proofs.lemmas.Nat.Gcd.{dvd_trans, dvd-zero, dvd_antisymm, le_of_dvd, dvd_of_mod-eq-zero, mod-eq-zero_of_dvd, IsGcd-from_zero, IsGcd-from_mod, IsGcd-swap, le_from_IsGcd}
 use Rattle.std.specs.Int.{IsGcd, ◌∣◌}
 use Rattle.kf_frac.specs.Divisors.{divides_both, greatest_divisor, gcd_of}
 
@@ -23,7 +23,7 @@ tested d a b h = grind (arith, nat_tests)
 refuted : (d a b : ℕ) → divides_both d a b ≡ false → a % d ≡ 0 → b % d ≡ 0 → ⊥
 refuted d a b h p q = grind (arith, nat_tests)
 
-by_test : (t : Bool) (k r g : ℕ) → (t ≡ true → k ≡ g) → (t ≡ false → r ≡ g) → cond t k r ≡ g
+pub by_test : (t : Bool) (k r g : ℕ) → (t ≡ true → k ≡ g) → (t ≡ false → r ≡ g) → cond t k r ≡ g
 by_test true k r g p q = p refl
 by_test false k r g p q = q refl
 
@@ -116,3 +116,29 @@ gcd_multiples (suc k) a b =
           (subst (λ (x : ℕ). n * d ∣ x) (sym e) (is.2 (n * d) (mul-dvd-mul_left d n da) (mul-dvd-mul_left d n db))),
     ) in
     sym e ∙ ap (λ (x : ℕ). n * x) (sym (the_gcd a b m quotient))
+
+-- ---- numbers without common factor
+
+-- what divides a product and has no common factor with one part divides the other
+pub divides_other : (d a b : ℕ) → gcd_of a d ≡ 1 → d ∣ b * a → d ∣ b
+divides_other d a b h p =
+    let both : d ∣ gcd_of (b * a) (b * d) = (gcd_is (b * a) (b * d)).2 d p (dvd-mul_left d b) in
+    subst (λ (n : ℕ). d ∣ n) (gcd_multiples b a d ∙ ap (λ (n : ℕ). b * n) h ∙ omega arith) both
+
+-- what divides a number has no common factor with what that number has none with
+pub coprime_part : (a d k : ℕ) → gcd_of a d ≡ 1 → k ∣ d → gcd_of a k ≡ 1
+coprime_part a d k h p =
+    let g : ℕ = gcd_of a k in
+    let l : g ∣ gcd_of a d = (gcd_is a d).2 g (gcd_is a k).0 (dvd_trans g (gcd_is a k).1 p) in
+    dvd_antisymm (subst (λ (n : ℕ). g ∣ n) h l) (one-dvd g)
+
+-- a product has no common factor with what neither part has one with
+pub coprime_product : (a b d : ℕ) → gcd_of a d ≡ 1 → gcd_of b d ≡ 1 → gcd_of (a * b) d ≡ 1
+coprime_product a b d p q =
+    sym (gcd_is_the (a * b) d 1 (
+      one-dvd (a * b),
+      one-dvd d,
+      λ (k : ℕ) (l : k ∣ a * b) (m : k ∣ d).
+          let apart : gcd_of b k ≡ 1 = coprime_part b d k q m in
+          subst (λ (n : ℕ). k ∣ n) p ((gcd_is a d).2 k (divides_other k b a apart l) m),
+    ))

@@ -1,2 +1,6 @@
 pub mod CommonDivisors
+pub mod CommonMultiples
 pub mod LowestTerms
+pub mod Products
+pub mod Ring
+pub mod Scaling

@@ -1,5 +1,6 @@
 -- Common divisors and common multiples of whole numbers.
-use Rattle.std.specs.Prelude.{ℕ, zero, suc, ◌%◌, ◌==◌, ◌&&◌, max, Bool, if◌then◌else◌}
+use Rattle.std.specs.Prelude.{ℕ, zero, suc, ◌*◌, ◌%◌, ◌<◌, ◌≤◌, ◌==◌, ◌&&◌, max, Bool, if◌then◌else◌}
+use Rattle.std.specs.Int.{◌∣◌}
 
 -- whether d divides both a and b
 abbrev pub divides_both : ℕ → ℕ → ℕ → Bool
@@ -13,3 +14,19 @@ greatest_divisor (suc k) a b = if divides_both (suc k) a b then suc k else great
 -- the greatest common divisor: the greatest number that divides both; 0 for 0 and 0
 unfoldable pub gcd_of : ℕ → ℕ → ℕ
 gcd_of a b = greatest_divisor (max a b) a b
+
+-- m is the least positive number that both a and b divide
+pub record IsLcm (a b m : ℕ) : Type 0 where
+  pub positive : 0 < m
+  pub left : a ∣ m
+  pub right : b ∣ m
+  pub least : (k : ℕ) → 0 < k → a ∣ k → b ∣ k → m ≤ k
+
+-- the first of the k numbers from m on that both a and b divide; 0 where there is none
+unfoldable pub first_multiple : ℕ → ℕ → ℕ → ℕ → ℕ
+first_multiple zero m a b = 0
+first_multiple (suc k) m a b = if (m % a == 0) && (m % b == 0) then m else first_multiple k (suc m) a b
+
+-- the least common multiple of two positive numbers: the first number from 1 on that both divide
+unfoldable pub lcm_of : ℕ → ℕ → ℕ
+lcm_of a b = first_multiple (a * b) 1 a b

@@ -1,3 +1,4 @@
+pub mod Arithmetic
 pub mod Divisors
 pub mod Fractions
 pub mod Views

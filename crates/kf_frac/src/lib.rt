@@ -1,10 +1,19 @@
 //! Exact fractions of 128-bit parts, always in lowest terms.
 #![tactic(auto)]
 
+mod arithmetic;
 mod divisors;
 mod frac;
 mod making;
+mod product;
 
-pub use divisors::gcd;
+pub use arithmetic::{add, cmp, mul};
+pub use divisors::{gcd, lcm};
 pub use frac::Frac;
 pub use making::{Wide, make};
+
+/// The greatest absolute value of a part.
+const LIMIT: u128 = i128::MAX as u128;
+
+#[cfg(test)]
+mod tests;

@@ -18,7 +18,7 @@ use Rattle.kf_hyper.proofs.Posteriors.{same_inner}
 use Rattle.kf_hyper.proofs.Gathering.{list_total}
 use Rattle.kf_hyper.proofs.Scaling.{total-cons}
 
-abbrev In : {X : Type 0} → X → List X → Type 0
+abbrev pub In : {X : Type 0} → X → List X → Type 0
 In x [] = ⊥
 In x (y ∷ ys) = (x ≡ y) ⊎ In x ys
 
@@ -96,46 +96,49 @@ module _ (columns : List Column) (h k : List Inner) (is : IsHyper columns h) (is
 
 -- ---- two lists in strict order with the same elements are the same
 
-abbrev Ordered : List Inner → Type 0
-Ordered [] = Unit {0}
-Ordered (i ∷ is) = ((j : Inner) → In j is → list_order i.entries j.entries ≡ Less) × Ordered is
+module _ {X : Type 0} (Before : X → X → Type 0) (not_both : (a b : X) → Before a b → Before b a → ⊥) where
+  -- each element stands before all that follow
+  abbrev pub Ordered : List X → Type 0
+  Ordered [] = Unit {0}
+  Ordered (x ∷ xs) = ((y : X) → In y xs → Before x y) × Ordered xs
+
+  same_heads : (a b : X) (as' bs : List X) → Ordered (a ∷ as') → Ordered (b ∷ bs) → In a (b ∷ bs) → In b (a ∷ as') → a ≡ b
+  same_heads a b as' bs p q here there =
+      ⊎_elim (λ (e : a ≡ b). e)
+      (λ (in_bs : In a bs). ⊎_elim (λ (e : b ≡ a). sym e) (λ (in_as : In b as'). absurd (not_both a b (p.0 b in_as) (q.0 a in_bs))) there) here
+
+  -- what stands after the first stands after the other's first
+  past : (a b : X) (as' bs : List X) → a ≡ b → Ordered (a ∷ as') → ((x : X) → In x (a ∷ as') → In x (b ∷ bs)) → (x : X) → In x as' → In x bs
+  past a b as' bs same p sub x here =
+      ⊎_elim
+      (λ (e : x ≡ b). let less : Before a a = subst (Before a) (e ∙ sym same) (p.0 x here) in absurd (not_both a a less less))
+      (λ h. h) (sub x (inr here))
+
+  pub same_lists : (xs ys : List X) → Ordered xs → Ordered ys → ((x : X) → In x xs → In x ys) → ((x : X) → In x ys → In x xs) → xs ≡ ys
+  same_lists [] [] p q sub sup = refl
+  same_lists [] (b ∷ bs) p q sub sup = absurd (sup b (inl refl))
+  same_lists (a ∷ as') [] p q sub sup = absurd (sub a (inl refl))
+  same_lists (a ∷ as') (b ∷ bs) p q sub sup =
+      let same = same_heads a b as' bs p q (sub a (inl refl)) (sup b (inl refl)) in
+      let rest = same_lists as' bs p.1 q.1 (past a b as' bs same p sub) (past b a bs as' (sym same) q sup) in
+      λ i. same i ∷ rest i
+
+abbrev IsBefore : Inner → Inner → Type 0
+IsBefore i j = list_order i.entries j.entries ≡ Less
+
+not_both_before : (i j : Inner) → IsBefore i j → IsBefore j i → ⊥
+not_both_before i j p q =
+    let flip : Less ≡ ordering_reverse Less = sym p ∙ list_total.antisymm i.entries j.entries ∙ ap ordering_reverse q in
+    absurd (cc)
 
 later : (l : List Entry) (is : List Inner) → AllByRecursion (λ (m : List Entry). list_order l m ≡ Less) (map (λ (i : Inner). i.entries) is) → (j : Inner) → In j is → list_order l j.entries ≡ Less
 later l [] all j here = absurd here
 later l (i ∷ is) all j here = ⊎_elim (λ (e : j ≡ i). subst (λ (j : Inner). list_order l j.entries ≡ Less) (sym e) all.0) (λ h. later l is all.1 j h) here
 
-ordered : (is : List Inner) → IsStrictlySortedBy list_order (map (λ (i : Inner). i.entries) is) → Ordered is
+ordered : (is : List Inner) → IsStrictlySortedBy list_order (map (λ (i : Inner). i.entries) is) → Ordered IsBefore not_both_before is
 unfolding IsStrictlySortedBy
 ordered [] sorted = tt
 ordered (i ∷ is) sorted = (later i.entries is sorted.0, ordered is sorted.1)
 
-not_both : (u v : List Entry) → list_order u v ≡ Less → list_order v u ≡ Less → ⊥
-not_both u v p q =
-    let flip : Less ≡ ordering_reverse Less = sym p ∙ list_total.antisymm u v ∙ ap ordering_reverse q in
-    absurd (cc)
-
-same_heads : (a b : Inner) (as' bs : List Inner) → Ordered (a ∷ as') → Ordered (b ∷ bs) → In a (b ∷ bs) → In b (a ∷ as') → a ≡ b
-same_heads a b as' bs p q here there =
-    ⊎_elim (λ (e : a ≡ b). e)
-    (λ (in_bs : In a bs). ⊎_elim (λ (e : b ≡ a). sym e) (λ (in_as : In b as'). absurd (not_both a.entries b.entries (p.0 b in_as) (q.0 a in_bs))) there) here
-
--- what stands after the first stands after the other's first
-past : (a b : Inner) (as' bs : List Inner) → a ≡ b → Ordered (a ∷ as') → ((i : Inner) → In i (a ∷ as') → In i (b ∷ bs)) → (i : Inner) → In i as' → In i bs
-past a b as' bs same p sub i here =
-    ⊎_elim
-    (λ (e : i ≡ b).
-    let less : list_order a.entries a.entries ≡ Less = subst (λ (j : Inner). list_order a.entries j.entries ≡ Less) (e ∙ sym same) (p.0 i here) in
-    absurd (not_both a.entries a.entries less less))
-    (λ h. h) (sub i (inr here))
-
-same_lists : (h k : List Inner) → Ordered h → Ordered k → ((i : Inner) → In i h → In i k) → ((i : Inner) → In i k → In i h) → h ≡ k
-same_lists [] [] p q sub sup = refl
-same_lists [] (b ∷ bs) p q sub sup = absurd (sup b (inl refl))
-same_lists (a ∷ as') [] p q sub sup = absurd (sub a (inl refl))
-same_lists (a ∷ as') (b ∷ bs) p q sub sup =
-    let same = same_heads a b as' bs p q (sub a (inl refl)) (sup b (inl refl)) in
-    let rest = same_lists as' bs p.1 q.1 (past a b as' bs same p sub) (past b a bs as' (sym same) q sup) in
-    λ i. same i ∷ rest i
-
 pub at_most_one : AtMostOneHyper
-at_most_one columns h k is is' = same_lists h k (ordered h is.ascending) (ordered k is'.ascending) (found columns h k is is') (found columns k h is' is)
+at_most_one columns h k is is' = same_lists IsBefore not_both_before h k (ordered h is.ascending) (ordered k is'.ascending) (found columns h k is is') (found columns k h is' is)

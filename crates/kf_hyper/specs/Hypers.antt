@@ -1,5 +1,5 @@
 -- Hyper-distributions: one inner for each class of proportional columns (Alvim et al. 2020, from a joint matrix to its hyper).
-use Rattle.std.specs.Prelude.{◌≡◌, ℕ, ◌<◌, List, All, map, sum_by, count_by, if◌then◌else◌}
+use Rattle.std.specs.Prelude.{◌≡◌, ◌↔◌, ℕ, ◌*◌, ◌<◌, List, true, All, map, sum_by, count_by, if◌then◌else◌}
 use Rattle.std.specs.Ordering.{ordering_then, nat_cmp}
 use Rattle.std.specs.declared.cmp.Ordering.{Ordering}
 use Rattle.std.specs.Cmp.Lexicographic.{slice_cmp}
@@ -7,7 +7,7 @@ use Rattle.std.specs.List.Sorted.{IsStrictlySortedBy}
 use Prim.Native.Nat.{◌∣◌}
 use Rattle.kf_hyper.specs.declared.entry.Entry.{Entry}
 use Rattle.kf_hyper.specs.declared.column.Column.{Column}
-use Rattle.kf_hyper.specs.Columns.{IsColumn, total, proportional}
+use Rattle.kf_hyper.specs.Columns.{IsColumn, weight_at, total, proportional}
 
 -- only 1 divides every weight
 abbrev pub HasNoCommonFactor : List Entry → Type 0
@@ -46,3 +46,7 @@ pub record IsHyper (columns : List Column) (inners : List Inner) : Type 0 where
 -- columns have one hyper at the most
 abbrev pub AtMostOneHyper : Type 0
 AtMostOneHyper = (columns : List Column) (inners others : List Inner) → IsHyper columns inners → IsHyper columns others → inners ≡ others
+
+-- two columns are proportional exactly where all their cross products agree
+abbrev pub ProportionalMeans : Type 0
+ProportionalMeans = (u v : List Entry) → (proportional u v ≡ true) ↔ ((x y : ℕ) → weight_at u x * weight_at v y ≡ weight_at u y * weight_at v x)

@@ -13,4 +13,4 @@ pub use column::{Column, ColumnList};
 pub use columns::Columns;
 pub use entry::{Entry, EntryList};
 pub use hyper::{Hyper, abstract_columns};
-pub use law::at_most_one_hyper;
+pub use law::{at_most_one_hyper, proportional_means};

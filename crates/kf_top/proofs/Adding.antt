@@ -1,10 +1,10 @@
 -- One more value among the traces: its trace is taken out of the map, and put back with the value.
-use Rattle.std.proofs.Common.{◌≡◌, ◌≢◌, ℕ, ◌+◌, ◌<◌, ◌≤◌, List, [], ◌∷◌, ◌++◌, Bool, true, false, All, Vec, Some, None, Option, unwrap_or, map, refl, sym, ◌∙◌, ap, subst, arith, ◌⊎◌, ⊎_elim, inl, inr, nat_cmp, nat_lt, ◌==◌, cond}
+use Rattle.std.proofs.Common.{◌≡◌, ◌≢◌, ℕ, List, [], ◌∷◌, ◌++◌, Bool, true, false, Vec, Some, None, Option, unwrap_or, refl, sym, ◌∙◌, ap, subst, ◌⊎◌, ⊎_elim, inl, inr, nat_cmp, nat_lt, ◌==◌, cond}
 use Rattle.std.specs.declared.alloc.Global.{Global}
 use Rattle.std.specs.declared.cmp.Ordering.{Ordering}
 use Rattle.std.specs.declared.cmp.Ordering.TheVariants.{Less, Equal, Greater}
 use Rattle.std.specs.Ordering.{ordering_then, match_ordering, is_eq, ordering_reverse}
-use Rattle.std.specs.Cmp.{IsTotalOrder, on_total, nat_cmp_total}
+use Rattle.std.specs.Cmp.{IsTotalOrder, nat_cmp_total}
 use Rattle.std.specs.Cmp.Lexicographic.{slice_cmp, lists_total}
 use Rattle.std.specs.BTreeMap.{insert_entry, is_at}
 use Rattle.std.specs.Map.{lookup, remove_entry, keys_of}
@@ -141,8 +141,8 @@ module _ (key : Key) (x : Entry) (v none : Values) (empty : none.items ≡ []) w
       let there : is_at (trace_order key) e.0 ≡ false = ap is_eq greater in
       let apart : e.0.items ≢ key.items = not_itself e.0.items key.items (flipped key.items e.0.items greater) in
       let made : after (e ∷ es) ≡ e ∷ after es =
-          ap (λ (b : Bool). insert_entry trace_order (cond b es (e ∷ remove_entry (is_at (trace_order key)) es)) key v) there
-          ∙ ap (λ (r : Ordering). match_ordering r ((key, v) ∷ e ∷ remove_entry (is_at (trace_order key)) es) ((e.0, v) ∷ remove_entry (is_at (trace_order key)) es) (e ∷ after es)) greater in
+      ap (λ (b : Bool). insert_entry trace_order (cond b es (e ∷ remove_entry (is_at (trace_order key)) es)) key v) there
+      ∙ ap (λ (r : Ordering). match_ordering r ((key, v) ∷ e ∷ remove_entry (is_at (trace_order key)) es) ((e.0, v) ∷ remove_entry (is_at (trace_order key)) es) (e ∷ after es)) greater in
       rw made (past e es (after es) apart rest)
 
 pub adds : (key : Key) (x : Entry) (v none : Values) (empty : none.items ≡ []) (es : List (Key × Values)) → IsStrictlySortedBy trace_order (keys_of es)
@@ -153,6 +153,6 @@ adds key x v none empty (e ∷ es) sorted grown =
     ⊎_elim (λ (less : trace_order key e.0 ≡ Less). adds_before key x v none empty e es sorted less grown)
     (⊎_elim (λ (equal : trace_order key e.0 ≡ Equal). adds_here key x v none empty e es sorted equal grown)
     (λ (greater : trace_order key e.0 ≡ Greater).
-        adds_after key x v none empty e es greater (adds key x v none empty es (sorted_tail e es sorted)
-        (grown ∙ ap (λ (b : Bool). (unwrap_or (cond b (Some e.1) (lookup (is_at (trace_order key)) es)) none).items ++ x ∷ []) (ap is_eq greater)))))
+    adds_after key x v none empty e es greater (adds key x v none empty es (sorted_tail e es sorted)
+    (grown ∙ ap (λ (b : Bool). (unwrap_or (cond b (Some e.1) (lookup (is_at (trace_order key)) es)) none).items ++ x ∷ []) (ap is_eq greater)))))
     (orderings (trace_order key e.0))

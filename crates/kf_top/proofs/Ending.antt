@@ -1,17 +1,15 @@
 -- How each end of a run meets what is promised of its status.
-use Rattle.std.proofs.Common.{◌≡◌, ◌≢◌, ℕ, ◌+◌, ◌<◌, ◌≤◌, List, [], ◌∷◌, ◌++◌, length, take, Bool, true, false, Contains, codes, None, Some, Option, Result, Ok, Err, inl, inr, refl, sym, ◌∙◌, ap, subst, arith, if◌then◌else◌, append-nil, ⊎_elim}
+use Rattle.std.proofs.Common.{◌≡◌, ◌≢◌, ℕ, ◌<◌, ◌≤◌, List, [], length, Bool, true, false, codes, None, Some, Option, Result, Ok, Err, refl, sym, ◌∙◌, ap, subst, arith, if◌then◌else◌, append-nil, ⊎_elim}
 use Rattle.std.proofs.lemmas.Bool.{cases_lt}
 use Rattle.std.specs.Option.{ForSome}
 use Rattle.std.specs.Io.KnownBytes.{Appends, Keeps}
-use Rattle.kf_io.specs.Faults.{Rose}
-use Rattle.kf_io.specs.Writes.{AppendsSome}
-use Rattle.kf_top.specs.Task.{Task, task_of, files_of}
-use Rattle.kf_top.specs.Answer.{Statement, Shown, States, Refused, Usage, TooLong, NotFirst, said, line_of, status_of}
+use Rattle.kf_top.specs.Task.{Task, task_of}
+use Rattle.kf_top.specs.Answer.{Statement, Shown, States, Refused, Usage, said, line_of, status_of}
 use Rattle.kf_top.specs.Outcome.{Outcome, SomeOutcome, TaskOutcome}
 use Rattle.kf_top.specs.Stops.{refused}
 use Rattle.kf_top.specs.declared.stops.Refusal.{Refusal}
 use Rattle.kf_top.specs.declared.stops.Refusal.TheVariants as refusal
-use Rattle.kf_top.specs.Ends.{Answer, showing, refusing, Settled, IsAnswer, Sunk, TookNothing, Took, TookFront, HasFailed, TookLine, Shows, Answered, AnsweredInPart, Completes, HasCauses}
+use Rattle.kf_top.specs.Ends.{showing, refusing, IsAnswer, Sunk, TookNothing, Took, TookFront, HasFailed, TookLine, Answered, Completes, HasCauses}
 
 -- ---- sinks
 

@@ -1,5 +1,5 @@
 -- The values of each trace, one value after the other.
-use Rattle.std.proofs.Common.{◌≡◌, ◌≢◌, ℕ, ◌+◌, ◌<◌, ◌≤◌, List, [], ◌∷◌, ◌++◌, Bool, true, false, All, map, length, sum_by, refl, sym, ◌∙◌, ap, subst, arith, ◌⊎◌, ⊎_elim, inl, inr, suc, zero, add-one, append-nil, nat_eq, if◌then◌else◌, length-append}
+use Rattle.std.proofs.Common.{◌≡◌, ◌≢◌, ℕ, ◌+◌, ◌<◌, List, [], ◌∷◌, ◌++◌, Bool, true, false, All, length, sum_by, refl, sym, ◌∙◌, ap, subst, arith, ⊎_elim, inl, inr, suc, zero, add-one, append-nil, nat_eq, if◌then◌else◌, length-append}
 use Rattle.std.specs.Cmp.Lexicographic.{pointwise, bytes_decides}
 use Rattle.std.proofs.lemmas.List.Elements.{All-head, All-tail, All-nil, All-cons}
 use Rattle.std.proofs.lemmas.List.Sums.{sum_by-cons}
@@ -7,7 +7,7 @@ use Rattle.std.proofs.lemmas.Bool.{cases_eq}
 use Rattle.kf_core.specs.FirstForm.{FirstForm}
 use Rattle.kf_core.specs.Rows.{trace_of}
 use Rattle.kf_hyper.specs.declared.entry.Entry.{Entry}
-use Rattle.kf_top.specs.Gathering.{entries_below, Gathered, gathered, Has, GatheredBelow}
+use Rattle.kf_top.specs.Gathering.{entries_below, gathered, Has, GatheredBelow}
 use Rattle.kf_top.proofs.Adding.{Key, Values, Absent, Adds, fresh, added, past}
 
 abbrev pub Traced : Type 0

@@ -1,6 +1,5 @@
 -- One step and then the next, and what a stop's result is.
-use Rattle.std.proofs.Common.{◌≡◌, ℕ, List, ◌⊎◌, inl, inr, true, Result, Ok, Err, refl, sym, ◌∙◌, subst, ap}
-use Rattle.kf_top.specs.Answer as answer
+use Rattle.std.proofs.Common.{◌≡◌, ℕ, List, inl, inr, true, Ok, Err, refl, subst}
 use Rattle.kf_core.specs.FirstForm.{FirstForm, IsFirst}
 use Rattle.kf_core.specs.Rows.{scale_of}
 use Rattle.kf_core.specs.Joint.{joint_of}
@@ -9,7 +8,7 @@ use Rattle.kf_top.specs.Answer.{Shown, Statement, States}
 use Rattle.kf_top.specs.Columns.{IsHyperOf}
 use Rattle.kf_top.specs.Texts.{hyper_text}
 use Rattle.kf_top.specs.Outcome.{Step, After, FormOf, HyperOutcome, source_of, first_target, first_statement}
-use Rattle.kf_top.specs.Stops.{Answers, refused, is_form}
+use Rattle.kf_top.specs.Stops.{Answers, is_form}
 use Rattle.kf_top.specs.declared.stops.Stop.{Stop}
 use Rattle.kf_top.specs.declared.stops.Stop.TheVariants as stop
 

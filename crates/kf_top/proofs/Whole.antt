@@ -1,5 +1,5 @@
 -- The gathered values of all traces are the columns of the joint.
-use Rattle.std.proofs.Common.{◌≡◌, ◌≢◌, ℕ, ◌+◌, ◌*◌, ◌^◌, ◌<◌, ◌≤◌, List, [], ◌∷◌, ◌++◌, Bool, true, false, All, Contains, map, length, sum_by, refl, sym, ◌∙◌, ap, subst, arith, ◌⊎◌, ⊎_elim, inl, inr, suc, zero, add-one, append-nil, nat_eq, if◌then◌else◌, length-append, ◌==◌, get_or}
+use Rattle.std.proofs.Common.{◌≡◌, ◌≢◌, ℕ, ◌+◌, ◌^◌, ◌<◌, ◌≤◌, List, [], ◌∷◌, ◌++◌, Bool, true, false, All, Contains, map, length, sum_by, refl, sym, ◌∙◌, ap, subst, arith, ◌⊎◌, ⊎_elim, inl, inr, suc, zero, add-one, append-nil, nat_eq, if◌then◌else◌, ◌==◌, get_or}
 use Rattle.std.specs.Cmp.Lexicographic.{slice_cmp, pointwise, bytes_decides}
 use Rattle.std.specs.Ordering.{nat_cmp}
 use Rattle.std.specs.Map.{keys_of}
@@ -10,7 +10,7 @@ use Rattle.std.proofs.lemmas.List.Elements.{All-head, All-tail, All-nil, All-con
 use Rattle.std.proofs.lemmas.List.Sums.{sum_by-cons, sum_by-append}
 use Rattle.std.proofs.lemmas.Bool.{cases_eq, cases_lt, eq-eqb, ne_eqb}
 use Rattle.kf_core.specs.FirstForm.{FirstForm}
-use Rattle.kf_core.specs.Rows.{trace_of, scale_of}
+use Rattle.kf_core.specs.Rows.{trace_of}
 use Rattle.kf_core.specs.Joint.{joint_of, weight_of, HasTrace}
 use Rattle.kf_core.proofs.Runs.{weight_at_row, weight_at_other_trace, weight_past_high, HasTrace-trace_of, trace_of-HasTrace}
 use Rattle.kf_hyper.specs.declared.entry.Entry.{Entry}
@@ -18,11 +18,11 @@ use Rattle.kf_hyper.specs.declared.column.Column.{Column}
 use Rattle.kf_hyper.specs.Columns.{IsColumn, IsBelow, weight_at, total}
 use Rattle.kf_hyper.specs.Joint.{IsJoint, mass}
 use Rattle.kf_hyper.proofs.Proportions.{bool_cases}
-use Rattle.kf_hyper.proofs.Weights.{Above, column_above, weight_at-cons}
+use Rattle.kf_hyper.proofs.Weights.{Above, column_above}
 use Rattle.kf_top.specs.Columns.{IsColumnOf, AreColumnsOf}
 use Rattle.kf_top.specs.Gathering.{entries_below, Gathered, gathered, Has, GatheredBelow, trace_order}
 use Rattle.kf_top.proofs.Adding.{Key, Values}
-use Rattle.kf_top.proofs.Gathering.{Traced, one, entries_step, entries_same, entries_other}
+use Rattle.kf_top.proofs.Gathering.{Traced, one, entries_same, entries_other}
 
 -- ---- the entries of one trace
 
@@ -84,8 +84,8 @@ weight_other form t (suc i) x how =
     let before : weight_at (entries_below form t i) x ≡ 0 = weight_other form t i x (⊎_elim (λ (ne : trace_of form x ≡ t → ⊥). inl ne) (λ (le : suc i ≤ x). inr (omega arith)) how) in
     ⊎_elim
     (λ (same : trace_of form i ≡ t).
-        let other : i ≡ x → ⊥ = λ e. ⊎_elim (λ (ne : trace_of form x ≡ t → ⊥). ne (ap (trace_of form) (sym e) ∙ same)) (λ (le : suc i ≤ x). omega arith) how in
-        ap (λ (l : List Entry). weight_at l x) (grown form t i same) ∙ weight_push (entries_below form t i) i x ∙ ap (λ (b : Bool). weight_at (entries_below form t i) x + (if b then 1 else 0)) (ne_eqb i x other) ∙ omega arith)
+    let other : i ≡ x → ⊥ = λ e. ⊎_elim (λ (ne : trace_of form x ≡ t → ⊥). ne (ap (trace_of form) (sym e) ∙ same)) (λ (le : suc i ≤ x). omega arith) how in
+    ap (λ (l : List Entry). weight_at l x) (grown form t i same) ∙ weight_push (entries_below form t i) i x ∙ ap (λ (b : Bool). weight_at (entries_below form t i) x + (if b then 1 else 0)) (ne_eqb i x other) ∙ omega arith)
     (λ (apart : trace_of form i ≢ t). ap (λ (l : List Entry). weight_at l x) (ungrown form t i apart) ∙ before)
     (trace_cases (trace_of form i) t)
 
@@ -94,16 +94,16 @@ weight_here form t zero x same below = absurd (omega arith)
 weight_here form t (suc i) x same below =
     ⊎_elim
     (λ (e : i ≡ x).
-        let here : trace_of form i ≡ t = ap (trace_of form) e ∙ same in
-        ap (λ (l : List Entry). weight_at l x) (grown form t i here) ∙ weight_push (entries_below form t i) i x ∙ ap (λ (b : Bool). weight_at (entries_below form t i) x + (if b then 1 else 0)) (eq-eqb i x e)
-        ∙ omega (arith, weight_other form t i x (inr (omega arith))))
+    let here : trace_of form i ≡ t = ap (trace_of form) e ∙ same in
+    ap (λ (l : List Entry). weight_at l x) (grown form t i here) ∙ weight_push (entries_below form t i) i x ∙ ap (λ (b : Bool). weight_at (entries_below form t i) x + (if b then 1 else 0)) (eq-eqb i x e)
+    ∙ omega (arith, weight_other form t i x (inr (omega arith))))
     (λ (ne : i ≡ x → ⊥).
-        let before : weight_at (entries_below form t i) x ≡ 1 = weight_here form t i x same (omega arith) in
-        ⊎_elim
-        (λ (here : trace_of form i ≡ t).
-            ap (λ (l : List Entry). weight_at l x) (grown form t i here) ∙ weight_push (entries_below form t i) i x ∙ ap (λ (b : Bool). weight_at (entries_below form t i) x + (if b then 1 else 0)) (ne_eqb i x ne) ∙ omega arith)
-        (λ (apart : trace_of form i ≢ t). ap (λ (l : List Entry). weight_at l x) (ungrown form t i apart) ∙ before)
-        (trace_cases (trace_of form i) t))
+    let before : weight_at (entries_below form t i) x ≡ 1 = weight_here form t i x same (omega arith) in
+    ⊎_elim
+    (λ (here : trace_of form i ≡ t).
+    ap (λ (l : List Entry). weight_at l x) (grown form t i here) ∙ weight_push (entries_below form t i) i x ∙ ap (λ (b : Bool). weight_at (entries_below form t i) x + (if b then 1 else 0)) (ne_eqb i x ne) ∙ omega arith)
+    (λ (apart : trace_of form i ≢ t). ap (λ (l : List Entry). weight_at l x) (ungrown form t i apart) ∙ before)
+    (trace_cases (trace_of form i) t))
     (cases_eq i x)
 
 -- ---- some value has the trace
@@ -128,10 +128,10 @@ module _ (form : FirstForm) where
   weights_are t x =
       ⊎_elim
       (λ (below : x < n).
-          ⊎_elim
-          (λ (same : trace_of form x ≡ t). weight_here form t n x same below ∙ sym (weight_at_row form t x (omega arith) (sym same)))
-          (λ (apart : trace_of form x ≢ t). weight_other form t n x (inl apart) ∙ sym (weight_at_other_trace form t x (λ e. apart (sym e))))
-          (trace_cases (trace_of form x) t))
+      ⊎_elim
+      (λ (same : trace_of form x ≡ t). weight_here form t n x same below ∙ sym (weight_at_row form t x (omega arith) (sym same)))
+      (λ (apart : trace_of form x ≢ t). weight_other form t n x (inl apart) ∙ sym (weight_at_other_trace form t x (λ e. apart (sym e))))
+      (trace_cases (trace_of form x) t))
       (λ (past : n ≤ x). weight_other form t n x (inr past) ∙ sym (weight_past_high form t x (omega arith)))
       (cases_lt x n)
 
@@ -172,9 +172,9 @@ module _ (form : FirstForm) where
   traces_are : (ts : Gathered) → All Made ts → All Some' ts → All (HasTrace (joint_of form)) (map (λ (t : Traced). t.0) ts)
   traces_are ts made some =
       All-map (HasTrace (joint_of form)) (λ (t : Traced). t.0) ts (λ k d within.
-          let t : Traced = get_or ts k d in
-          let v = some_value form t.0 n (λ none. some k d within (made k d within ∙ none)) in
-          subst (HasTrace (joint_of form)) v.2 (HasTrace-trace_of form v.0 (omega (arith, v.1))))
+      let t : Traced = get_or ts k d in
+      let v = some_value form t.0 n (λ none. some k d within (made k d within ∙ none)) in
+      subst (HasTrace (joint_of form)) v.2 (HasTrace-trace_of form v.0 (omega (arith, v.1))))
 
   later_traces : (t : List ℕ) (es : List (Key × Values)) → AllByRecursion (λ (k : Key). slice_cmp nat_cmp t k.items ≡ Less) (keys_of es) → AllByRecursion (λ (u : List ℕ). slice_cmp nat_cmp t u ≡ Less) (map (λ (t : Traced). t.0) (gathered es))
   later_traces t [] all = tt
@@ -189,8 +189,10 @@ module _ (form : FirstForm) where
   are_columns es had sorted = record {
     traces = map (λ (t : Traced). t.0) (gathered es);
     ascending = sorted_traces es sorted;
-    all = λ t. (λ has. All-contains (HasTrace (joint_of form)) (map (λ (t : Traced). t.0) (gathered es)) t (traces_are (gathered es) had.entries had.some) has,
-        λ has. let v = trace_of-HasTrace form t has in has_contains t (gathered es) (subst (λ (u : List ℕ). Has u (gathered es)) (sym v.2) (had.all v.0 (omega (arith, v.1)))));
+    all = λ t. (
+      λ has. All-contains (HasTrace (joint_of form)) (map (λ (t : Traced). t.0) (gathered es)) t (traces_are (gathered es) had.entries had.some) has,
+      λ has. let v = trace_of-HasTrace form t has in has_contains t (gathered es) (subst (λ (u : List ℕ). Has u (gathered es)) (sym v.2) (had.all v.0 (omega (arith, v.1)))),
+    );
     each = columns_zip (gathered es) had.entries had.some;
   }
 

@@ -1,5 +1,5 @@
 -- What an answer states, and the words of a refusal.
-use Rattle.std.specs.Prelude.{◌≡◌, ℕ, List, [], ◌∷◌, ◌++◌, Bool, true, codes, if◌then◌else◌}
+use Rattle.std.specs.Prelude.{◌≡◌, ℕ, List, [], ◌∷◌, ◌++◌, Bool, true, codes}
 use Rattle.kf_value.specs.Targets.{Item}
 use Rattle.kf_core.specs.Joint.{Cell}
 use Rattle.kf_hyper.specs.Hypers.{Inner}

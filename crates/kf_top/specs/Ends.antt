@@ -1,5 +1,5 @@
 -- How a run ends: its status, and what it did to the sinks and to the counts of faults.
-use Rattle.std.specs.Prelude.{◌≡◌, ◌≢◌, ℕ, ◌≤◌, ◌<◌, List, [], length, Contains, codes, None, Some, Ok, Err, if◌then◌else◌}
+use Rattle.std.specs.Prelude.{◌≡◌, ◌≢◌, ℕ, ◌≤◌, ◌<◌, List, [], length, Contains, codes, None, Ok, Err, if◌then◌else◌}
 use Rattle.std.specs.declared.option.Option.{Option}
 use Rattle.std.specs.declared.result.Result.{Result}
 use Rattle.std.specs.Option.{ForSome}
@@ -111,3 +111,7 @@ pub record HasCauses (words : List (List ℕ)) (told : Option (List ℕ → List
 pub record IsQuiet (out err : Sunk) (status : ℕ) : Type 0 where
   pub out_quiet : status ≢ 0 → status ≢ 1 → status ≢ 4 → TookNothing out
   pub err_quiet : status ≤ 1 → TookNothing err
+
+-- words over files have one defined answer at the most
+abbrev pub AtMostOneAnswer : Type 0
+AtMostOneAnswer = (words : List (List ℕ)) (contents : List ℕ → List ℕ) (answer other : Answer) → IsAnswer words contents answer → IsAnswer words contents other → answer ≡ other

@@ -1,5 +1,5 @@
 -- The defined answer to words over files: the first refusal, or what is to be stated.
-use Rattle.std.specs.Prelude.{◌≡◌, ◌⊎◌, ℕ, ℤ, pos, List, [], ◌∷◌, Bool, true, false, length, nat_le, codes, if◌then◌else◌, Ok, Err, None, Some}
+use Rattle.std.specs.Prelude.{◌≡◌, ◌⊎◌, ℕ, pos, List, [], ◌∷◌, false, length, nat_le, codes, if◌then◌else◌, Ok, Err, None, Some}
 use Rattle.std.specs.declared.option.Option.{Option}
 use Rattle.std.specs.declared.result.Result.{Result}
 use Rattle.kf_value.specs.Targets.{Item}

@@ -1,5 +1,4 @@
 -- What the code's values show.
-use Rattle.std.specs.Prelude.{ℕ, List}
 use Rattle.kf_top.specs.Answer.{Shown, Statement, States}
 use Rattle.kf_top.specs.Task as task
 use Rattle.kf_top.specs.declared.stops.Done.{Done}

@@ -24,7 +24,12 @@ fn trace_of(alloc: Global, first: &First, value: u64) -> Result<Vec<u64>, Mem>
     requires { All (λ k. 0 < k) first.now.mods }
     ensures { IfOk result (λ trace. trace.items ≡ trace_of_value (form_of first.now) value) }
 {
-    let trace = first.mods.as_slice().iter().map(|k| value % u64::from(*k)).collect(alloc)?;
+    let trace = first
+        .mods
+        .as_slice()
+        .iter()
+        .map(|k| value % u64::from(*k))
+        .collect(alloc)?;
     Ok(trace)
 }
 
@@ -66,10 +71,7 @@ fn columns_of(alloc: Global, first: &First) -> Result<Columns, Mem>
 {
     let traces = gather(alloc, first)?;
     let columns = listed(alloc, traces)?;
-    Ok(Columns::new(
-        u128::from(first.high) + 1,
-        ColumnList::new(columns),
-    ))
+    Ok(Columns::new(u128::from(first.high) + 1, ColumnList::new(columns)))
 }
 
 // The variable `x` of a text of the first form.

@@ -2,6 +2,7 @@
 #![tactic(auto)]
 
 mod first_hyper;
+mod law;
 mod stops;
 #[cfg(test)]
 mod tests;
@@ -10,6 +11,7 @@ mod top;
 mod words;
 mod work;
 
+pub use law::at_most_one_answer;
 pub use texts::hyper_text;
 pub use top::run;
 pub use words::{Job, WordsError, read_words};

@@ -1,5 +1,5 @@
-use std::alloc::{AllocError, AllocFailed};
 use kf_value::Mem;
+use std::alloc::{AllocError, AllocFailed};
 
 /// Why the words and the files' bytes have no answer.
 #[derive(Debug, Drop)]

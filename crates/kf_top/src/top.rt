@@ -67,13 +67,7 @@ pub fn run<F: Files, O: Sink, E: Sink>(
     };
     match work(alloc, files, &job) {
         Ok(done) => match write_all(out, &done.bytes) {
-            Ok(()) => {
-                if done.yes {
-                    0
-                } else {
-                    1
-                }
-            }
+            Ok(()) => { if done.yes { 0 } else { 1 } }
             Err(Failed) => {
                 tell(err, "", "write failed");
                 4

@@ -1,9 +1,6 @@
-use Rattle.std.proofs.Common.{◌∙◌, ◌≡◌, ◌+◌, List, ap, subst, arith}
+use Rattle.std.proofs.Common.{◌∙◌, ◌+◌, ap, arith}
 use Rattle.kf_core.specs.FirstView.{form_of}
-use Rattle.kf_core.specs.Joint.{joint_of}
-use Rattle.kf_hyper.specs.declared.column.Column.{Column}
 use Rattle.kf_hyper.specs.Joint.{Joint}
-use Rattle.kf_top.specs.Columns.{AreColumnsOf}
 use Rattle.kf_top.proofs.Whole.{columns_are, whole_mass, all_below, is_joint, are_columns}
 use Rattle.kf_top.proofs.first_hyper.columns_of.Goals as goal
 

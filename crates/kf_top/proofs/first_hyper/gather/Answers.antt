@@ -12,7 +12,7 @@ pub loop-value-preserved : goal.loop-value-preserved
 loop-value-preserved c =
     let there = c.unwrap_or-entries.ensures ∙ ap (λ o. unwrap_or o c.new.result) c.remove.ensures.value in
     let how = adds c.in_ok-trace.trace (one c.loop-value.value) c.push.new.self c.new.result c.new.ensures.items c.loop-value.traces.entries c.loop-value.invariant.ordered
-        (c.in_ok-push.ensures.items ∙ ap (λ v. v.items ++ one c.loop-value.value ∷ []) there) in
+    (c.in_ok-push.ensures.items ∙ ap (λ v. v.items ++ one c.loop-value.value ∷ []) there) in
     record {
       gathers = rw (c.in_ok-insert.ensures.entries, c.remove.ensures.entries)
           (gathered_more (form_of c.args.first.now) c.loop-value.value c.in_ok-trace.trace c.in_ok-trace.ensures how c.loop-value.invariant.gathers);

@@ -1,4 +1,4 @@
-use Rattle.std.proofs.Common.{◌≡◌, ◌≤◌, ◌<◌, ◌∙◌, Err, List, ℕ, refl, sym, ap, subst, arith, length, if◌then◌else◌}
+use Rattle.std.proofs.Common.{◌≤◌, Err, List, ℕ, refl, sym, ap, subst, length, if◌then◌else◌}
 use Rattle.std.specs.Io.KnownBytes.{Appends}
 use Rattle.kf_io.specs.Writes.{AppendsSome}
 use Rattle.kf_top.specs.Views.{shown, task_of_job}
@@ -26,7 +26,7 @@ returns-then-done-clause-complete g c = completes _ _ _ _ _ _ _ (returns-then-do
 pub returns-in-Ok-work-clause-causes : goal.returns-in-Ok-work-clause-causes
 returns-in-Ok-work-clause-causes g c =
     let certain : length c.in-Ok-work.done.bytes.items ≤ g.O.Sink.room c.args.out.now → ⊥ = λ fits.
-        let ok = c.in-Err.ensures.certain (subst (λ (bytes : List ℕ). length bytes ≤ g.O.Sink.room c.args.out.now) (sym c.deref.ensures.value) fits) in absurd (cc) in
+    let ok = c.in-Err.ensures.certain (subst (λ (bytes : List ℕ). length bytes ≤ g.O.Sink.room c.args.out.now) (sym c.deref.ensures.value) fits) in absurd (cc) in
     ends_unwritten _ _ _ _ _ _ (task_of_job c.in-Ok.job) c.in-Ok.ensures.job (shown c.in-Ok-work.done) c.in-Ok-work.ensures.answer c.in-Ok-work.ensures.causes c.in-Err.ensures.cause.failed
     (subst (λ (bytes : List ℕ). AppendsSome (g.O.Sink.taken c.args.out.now) (g.O.Sink.taken c.write_all.new.sink) bytes) c.deref.ensures.value c.in-Err.ensures.front)
     (not_certain (length c.in-Ok-work.done.bytes.items) (g.O.Sink.room c.args.out.now) certain) c.tell-in-Err.ensures

@@ -1,0 +1,5 @@
+use Rattle.kf_top.proofs.OneAnswer.{one_answer}
+use Rattle.kf_top.proofs.law.at_most_one_answer.Goals as goal
+
+pub returns : goal.returns
+returns c = one_answer

@@ -14,3 +14,6 @@ pub use columns::Columns;
 pub use entry::{Entry, EntryList};
 pub use hyper::{Hyper, abstract_columns};
 pub use law::{at_most_one_hyper, proportional_means};
+
+#[cfg(test)]
+mod tests;

@@ -1,0 +1,84 @@
+// Runs over files and sinks in memory: statuses and whole texts.
+ghost use Rattle.std.specs.Prelude.{◌<◌};
+
+mod answers;
+mod causes;
+mod slow;
+
+use kf_io::{ByteList, CallList, FileEntry, FileList, FileName, Files, MemFiles, MemSink};
+use kf_top::run;
+use std::alloc::{AllocError, Global};
+use std::process::Abort;
+use std::test::Fail;
+
+/// The words of the usual run.
+const HYPER: &str = "kuifje hyper p.kf";
+
+/// What a run ends with.
+#[derive(Clone, Copy)]
+struct End<'a> {
+    status: u8,
+    out: &'a str,
+    err: &'a str,
+}
+
+// The words of a line.
+fn words_of(alloc: Global, line: &str) -> Result<Vec<String>, AllocError> {
+    let mut words = Vec::new(alloc);
+    for word in line.split_ascii_whitespace() {
+        words.push(String::from_str(alloc, word)?)?;
+    }
+    Ok(words)
+}
+
+fn calls(alloc: Global, numbers: &[u64]) -> Result<CallList, AllocError> {
+    Ok(CallList::new(numbers.to_vec(alloc)?))
+}
+
+// The one file `p.kf`.
+fn one_file(alloc: Global, bytes: Vec<u8>) -> Result<FileList, AllocError> {
+    let name = FileName::new(String::from_str(alloc, "p.kf")?);
+    Ok(FileList::new(vec![in alloc; FileEntry { name, bytes: ByteList::new(bytes) }]?))
+}
+
+// The file `p.kf` with this text, read in pieces; these reads fail.
+fn text_files(alloc: Global, text: &str, piece: usize, fail: &[u64]) -> Result<MemFiles, Fail>
+    requires { 0 < piece }
+{
+    let files = one_file(alloc, text.as_bytes().to_vec(alloc)?)?;
+    Ok(MemFiles::new(alloc, files, piece, calls(alloc, fail)?)?)
+}
+
+// A sink that takes large pieces and has room enough.
+fn ample(alloc: Global) -> Result<MemSink, Fail> {
+    Ok(MemSink::new(alloc, 4_194_304, 65536, calls(alloc, &[])?)?)
+}
+
+// A run over these files and sinks ends so.
+fn ends_over<F: Files>(
+    rt: &(impl Abort + AllocGlobal),
+    line: &str,
+    files: &mut F,
+    mut out: MemSink,
+    mut err: MemSink,
+    want: End<'_>,
+) -> Result<(), Fail> {
+    let End { status: want_status, out: want_out, err: want_err } = want;
+    let words = words_of(rt.alloc(), line)?;
+    let status = run(rt.alloc(), &words, files, &mut out, &mut err);
+    assert_eq!(rt; status, want_status, "{line}");
+    assert_eq!(rt; out.bytes(), want_out.as_bytes(), "{line}");
+    assert_eq!(rt; err.bytes(), want_err.as_bytes(), "{line}");
+    Ok(())
+}
+
+// A run of these words over these files, with sinks that never fail, ends so.
+fn ends<F: Files>(
+    rt: &(impl Abort + AllocGlobal),
+    line: &str,
+    files: &mut F,
+    want: End<'_>,
+) -> Result<(), Fail> {
+    let alloc = rt.alloc();
+    ends_over(rt, line, files, ample(alloc)?, ample(alloc)?, want)
+}

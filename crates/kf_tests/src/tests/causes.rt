@@ -1,0 +1,126 @@
+use crate::tests::*;
+use kf_io::SureFiles;
+
+const PARITY_TEXT: &str = "var x : 0..3 := uniform 0..3;\nobserve x mod 2;\n";
+
+const READ_FAILED: End<'static> = End {
+    status: 3,
+    out: "",
+    err: "kuifje: p.kf: read failed\n",
+};
+
+const USAGE: End<'static> = End {
+    status: 2,
+    out: "",
+    err: "kuifje: usage: kuifje COMMAND [FILES] [--gain G] [--turns N] [--json]\n",
+};
+
+const NOT_FIRST: End<'static> = End {
+    status: 5,
+    out: "",
+    err: "kuifje: p.kf: not of the first form\n",
+};
+
+#[test]
+fn a_sink_that_fails(rt: HostRuntime) -> Result<(), Fail> {
+    let alloc = rt.alloc();
+    for (room, fail, out) in [
+        (1000, [1].as_slice(), "target x\nscale 4"),
+        (1000, [0].as_slice(), ""),
+        (20, [].as_slice(), "target x\nscale 4\ninn"),
+        (0, [].as_slice(), ""),
+    ] {
+        let mut files = text_files(alloc, PARITY_TEXT, 65536, &[])?;
+        let sink = MemSink::new(alloc, room, 16, calls(alloc, fail)?)?;
+        let want = End { status: 4, out, err: "kuifje: write failed\n" };
+        ends_over(&rt, HYPER, &mut files, sink, ample(alloc)?, want)?;
+    }
+    Ok(())
+}
+
+#[test]
+fn reads_that_fail(rt: HostRuntime) -> Result<(), Fail> {
+    let alloc = rt.alloc();
+    let mut first = text_files(alloc, PARITY_TEXT, 65536, &[0])?;
+    ends(&rt, HYPER, &mut first, READ_FAILED)?;
+    let mut second = text_files(alloc, PARITY_TEXT, 10, &[1])?;
+    ends(&rt, HYPER, &mut second, READ_FAILED)?;
+    let mut missing = MemFiles::new(alloc, FileList::new(Vec::new(alloc)), 10, calls(alloc, &[])?)?;
+    ends(&rt, HYPER, &mut missing, READ_FAILED)
+}
+
+#[test]
+fn a_file_at_the_limit(rt: HostRuntime) -> Result<(), Fail> {
+    let alloc = rt.alloc();
+    let too_long = End { status: 11, out: "", err: "kuifje: p.kf: longer than 1048576 bytes\n" };
+    for (size, want) in [(1_048_576, NOT_FIRST), (1_048_577, too_long)] {
+        let bytes = vec![in alloc; b' '; size]?;
+        let mut files = SureFiles::new(one_file(alloc, bytes)?, 65536);
+        ends(&rt, HYPER, &mut files, want)?;
+    }
+    Ok(())
+}
+
+#[test]
+fn words_that_ask_for_nothing(rt: HostRuntime) -> Result<(), Fail> {
+    for line in [
+        "",
+        "kuifje",
+        "kuifje hyper",
+        "kuifje hyper p.kf p.kf",
+        "kuifje hyper -p.kf",
+        "kuifje hyper --json",
+        "kuifje leak p.kf",
+        "kuifje hyperp p.kf",
+        "hyper p.kf",
+    ] {
+        let mut files = text_files(rt.alloc(), PARITY_TEXT, 65536, &[])?;
+        ends(&rt, line, &mut files, USAGE)?;
+    }
+    Ok(())
+}
+
+#[test]
+fn texts_not_of_the_first_form(rt: HostRuntime) -> Result<(), Fail> {
+    for text in [
+        "",
+        "\n",
+        "var x : 0..3 := uniform 0..2;\n",
+        "var x : 0..03 := uniform 0..03;\n",
+        "var x : 0..65536 := uniform 0..65536;\n",
+        "var y : 0..3 := uniform 0..3;\n",
+        "var x  : 0..3 := uniform 0..3;\n",
+        "var x : 0..3 := uniform 0..3;",
+        "var x : 0..3 := uniform 0..3;\r\n",
+        "var x : 0..3 := uniform 0..3;\n\n",
+        "var x : 0..3 := uniform 0..3;\nobserve x mod 2;",
+        "var x : 0..3 := uniform 0..3;\nobserve x mod 0;\n",
+        "var x : 0..3 := uniform 0..3;\nobserve x mod 02;\n",
+        "var x : 0..3 := uniform 0..3;\nobserve x  mod 2;\n",
+        "var x : 0..3 := uniform 0..3;\nobserve x mod 1000000000;\n",
+        "observe x mod 2;\n",
+    ] {
+        let mut files = text_files(rt.alloc(), text, 65536, &[])?;
+        ends(&rt, HYPER, &mut files, NOT_FIRST)?;
+    }
+    Ok(())
+}
+
+// Whatever err takes, the status and out are the same.
+#[test]
+fn a_fault_of_err_changes_no_status(rt: HostRuntime) -> Result<(), Fail> {
+    let alloc = rt.alloc();
+    for (text, fail, status) in [("", [].as_slice(), 5), (PARITY_TEXT, [0].as_slice(), 3)] {
+        for (room, err_fail, err) in [
+            (0, [].as_slice(), ""),
+            (100, [0].as_slice(), ""),
+            (10, [].as_slice(), "kuifje: p."),
+        ] {
+            let mut files = text_files(alloc, text, 65536, fail)?;
+            let sink = MemSink::new(alloc, room, 16, calls(alloc, err_fail)?)?;
+            let want = End { status, out: "", err };
+            ends_over(&rt, HYPER, &mut files, ample(alloc)?, sink, want)?;
+        }
+    }
+    Ok(())
+}

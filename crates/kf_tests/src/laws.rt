@@ -23,7 +23,7 @@ pub fn run_over_sure_files<O: Sink, E: Sink>(
         → O.faults out.new ≤ O.faults out.old }
     ensures answered { HasRoom (map string_bytes words.now) (bytes_of files.old.files) (O.room out.old) → result ≢ 12
         → Answered (map string_bytes words.now) (bytes_of files.old.files)
-            (sunk O.taken O.faults O.room out.old out.new) (sunk E.taken E.faults E.room err.old err.new) result }
+        (sunk O.taken O.faults O.room out.old out.new) (sunk E.taken E.faults E.room err.old err.new) result }
 {
     run(alloc, words, files, out, err)
 }

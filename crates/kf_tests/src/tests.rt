@@ -38,7 +38,12 @@ fn calls(alloc: Global, numbers: &[u64]) -> Result<CallList, AllocError> {
 // The one file `p.kf`.
 fn one_file(alloc: Global, bytes: Vec<u8>) -> Result<FileList, AllocError> {
     let name = FileName::new(String::from_str(alloc, "p.kf")?);
-    Ok(FileList::new(vec![in alloc; FileEntry { name, bytes: ByteList::new(bytes) }]?))
+    Ok(FileList::new(vec![in alloc;
+        FileEntry {
+            name,
+            bytes: ByteList::new(bytes)
+        },
+    ]?))
 }
 
 // The file `p.kf` with this text, read in pieces; these reads fail.
@@ -63,7 +68,11 @@ fn ends_over<F: Files>(
     mut err: MemSink,
     want: End<'_>,
 ) -> Result<(), Fail> {
-    let End { status: want_status, out: want_out, err: want_err } = want;
+    let End {
+        status: want_status,
+        out: want_out,
+        err: want_err,
+    } = want;
     let words = words_of(rt.alloc(), line)?;
     let status = run(rt.alloc(), &words, files, &mut out, &mut err);
     assert_eq!(rt; status, want_status, "{line}");

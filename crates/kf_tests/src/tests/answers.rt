@@ -49,8 +49,14 @@ fn rows() -> [(&'static str, &'static str); 6] {
         ("var x : 0..3 := uniform 0..3;\n", NOTHING),
         ("var x : 0..3 := uniform 0..3;\nobserve x mod 1;\n", NOTHING),
         ("var x : 0..3 := uniform 0..3;\nobserve x mod 2;\n", PARITY),
-        ("var x : 0..3 := uniform 0..3;\nobserve x mod 2;\nobserve x mod 1;\nobserve x mod 2;\n", PARITY),
-        ("var x : 0..3 := uniform 0..3;\nobserve x mod 1;\nobserve x mod 2;\nobserve x mod 3;\n", ALL),
+        (
+            "var x : 0..3 := uniform 0..3;\nobserve x mod 2;\nobserve x mod 1;\nobserve x mod 2;\n",
+            PARITY,
+        ),
+        (
+            "var x : 0..3 := uniform 0..3;\nobserve x mod 1;\nobserve x mod 2;\nobserve x mod 3;\n",
+            ALL,
+        ),
         ("var x : 0..0 := uniform 0..0;\n", ONE_VALUE),
     ]
 }
@@ -59,7 +65,16 @@ fn rows() -> [(&'static str, &'static str); 6] {
 fn answers_with_ample_memory(rt: HostRuntime) -> Result<(), Fail> {
     for (text, out) in rows() {
         let mut files = text_files(rt.alloc(), text, 65536, &[])?;
-        ends(&rt, HYPER, &mut files, End { status: 0, out, err: "" })?;
+        ends(
+            &rt,
+            HYPER,
+            &mut files,
+            End {
+                status: 0,
+                out,
+                err: "",
+            },
+        )?;
     }
     Ok(())
 }
@@ -68,7 +83,16 @@ fn answers_with_ample_memory(rt: HostRuntime) -> Result<(), Fail> {
 fn answers_to_reads_of_one_byte(rt: HostRuntime) -> Result<(), Fail> {
     for (text, out) in rows() {
         let mut files = text_files(rt.alloc(), text, 1, &[])?;
-        ends(&rt, HYPER, &mut files, End { status: 0, out, err: "" })?;
+        ends(
+            &rt,
+            HYPER,
+            &mut files,
+            End {
+                status: 0,
+                out,
+                err: "",
+            },
+        )?;
     }
     Ok(())
 }
@@ -102,5 +126,14 @@ fn many_classes(rt: HostRuntime) -> Result<(), Fail> {
     }
     let text = "var x : 0..65535 := uniform 0..65535;\nobserve x mod 256;\nobserve x mod 257;\n";
     let mut files = text_files(alloc, text, 65536, &[])?;
-    ends(&rt, HYPER, &mut files, End { status: 0, out: &want, err: "" })
+    ends(
+        &rt,
+        HYPER,
+        &mut files,
+        End {
+            status: 0,
+            out: &want,
+            err: "",
+        },
+    )
 }

@@ -32,7 +32,11 @@ fn a_sink_that_fails(rt: HostRuntime) -> Result<(), Fail> {
     ] {
         let mut files = text_files(alloc, PARITY_TEXT, 65536, &[])?;
         let sink = MemSink::new(alloc, room, 16, calls(alloc, fail)?)?;
-        let want = End { status: 4, out, err: "kuifje: write failed\n" };
+        let want = End {
+            status: 4,
+            out,
+            err: "kuifje: write failed\n",
+        };
         ends_over(&rt, HYPER, &mut files, sink, ample(alloc)?, want)?;
     }
     Ok(())
@@ -45,14 +49,23 @@ fn reads_that_fail(rt: HostRuntime) -> Result<(), Fail> {
     ends(&rt, HYPER, &mut first, READ_FAILED)?;
     let mut second = text_files(alloc, PARITY_TEXT, 10, &[1])?;
     ends(&rt, HYPER, &mut second, READ_FAILED)?;
-    let mut missing = MemFiles::new(alloc, FileList::new(Vec::new(alloc)), 10, calls(alloc, &[])?)?;
+    let mut missing = MemFiles::new(
+        alloc,
+        FileList::new(Vec::new(alloc)),
+        10,
+        calls(alloc, &[])?,
+    )?;
     ends(&rt, HYPER, &mut missing, READ_FAILED)
 }
 
 #[test]
 fn a_file_at_the_limit(rt: HostRuntime) -> Result<(), Fail> {
     let alloc = rt.alloc();
-    let too_long = End { status: 11, out: "", err: "kuifje: p.kf: longer than 1048576 bytes\n" };
+    let too_long = End {
+        status: 11,
+        out: "",
+        err: "kuifje: p.kf: longer than 1048576 bytes\n",
+    };
     for (size, want) in [(1_048_576, NOT_FIRST), (1_048_577, too_long)] {
         let bytes = vec![in alloc; b' '; size]?;
         let mut files = SureFiles::new(one_file(alloc, bytes)?, 65536);
@@ -118,7 +131,11 @@ fn a_fault_of_err_changes_no_status(rt: HostRuntime) -> Result<(), Fail> {
         ] {
             let mut files = text_files(alloc, text, 65536, fail)?;
             let sink = MemSink::new(alloc, room, 16, calls(alloc, err_fail)?)?;
-            let want = End { status, out: "", err };
+            let want = End {
+                status,
+                out: "",
+                err,
+            };
             ends_over(&rt, HYPER, &mut files, ample(alloc)?, sink, want)?;
         }
     }

@@ -59,12 +59,29 @@ fn text_of(alloc: Global, scale: usize, groups: &[Vec<usize>]) -> Result<String,
 #[test]
 fn hypers_as_the_slow_program_has_them(rt: HostRuntime) -> Result<(), Fail> {
     let alloc = rt.alloc();
-    for (high, scale, first, second) in [(11, 12, 2, 3), (12, 13, 2, 3), (9, 10, 4, 6), (20, 21, 5, 7), (6, 7, 100, 1)] {
+    for (high, scale, first, second) in [
+        (11, 12, 2, 3),
+        (12, 13, 2, 3),
+        (9, 10, 4, 6),
+        (20, 21, 5, 7),
+        (6, 7, 100, 1),
+    ] {
         let groups = groups_of(alloc, scale, first, second)?;
         let out = text_of(alloc, scale, &groups)?;
-        let text = format!(in alloc; "var x : 0..{high} := uniform 0..{high};\nobserve x mod {first};\nobserve x mod {second};\n")?;
+        let text = format!(in alloc;
+            "var x : 0..{high} := uniform 0..{high};\nobserve x mod {first};\nobserve x mod {second};\n"
+        )?;
         let mut files = text_files(alloc, &text, 65536, &[])?;
-        ends(&rt, HYPER, &mut files, End { status: 0, out: &out, err: "" })?;
+        ends(
+            &rt,
+            HYPER,
+            &mut files,
+            End {
+                status: 0,
+                out: &out,
+                err: "",
+            },
+        )?;
     }
     Ok(())
 }

@@ -1,0 +1,12 @@
+pub mod Choices
+pub mod Counting
+pub mod Duality
+pub mod Falls
+pub mod Forms
+pub mod Objective
+pub mod Pivots
+pub mod Primitive
+pub mod RunFacts
+pub mod Signs
+pub mod Sums
+pub mod Unique

@@ -1,0 +1,42 @@
+-- Laws of runs: there is one, and no basis comes twice.
+use Rattle.std.specs.Prelude.{◌≡◌, ℕ, zero, suc, ◌+◌, ◌<◌, ◌≤◌, List, [], ◌∷◌, length}
+use Rattle.kf_simplex.specs.Systems.{LinearSystem, IsSystem, right_column}
+use Rattle.kf_simplex.specs.Tableaus.{Tableau}
+use Rattle.kf_simplex.specs.Runs.{IsRun}
+
+-- every column of the one basis stands in the other
+abbrev pub SameColumns : ℕ → (ℕ → ℕ) → (ℕ → ℕ) → Type 0
+SameColumns n a b = ((i : ℕ) → i < n → (k : ℕ) × (k < n) × (b k ≡ a i))
+
+-- no member of the list has the columns of t
+abbrev pub NoneHas : LinearSystem → Tableau → List Tableau → Type 0
+NoneHas s t [] = Unit {0}
+NoneHas s t (u ∷ us) = (SameColumns s.equations u.basis t.basis → ⊥) × NoneHas s t us
+
+abbrev pub NoBasisTwice : LinearSystem → List Tableau → Type 0
+NoBasisTwice s [] = Unit {0}
+NoBasisTwice s (t ∷ ts) = NoneHas s t ts × NoBasisTwice s ts
+
+-- no run comes back to a basis
+abbrev pub NoRunReturns : Type 0
+NoRunReturns = (s : LinearSystem) (limit : ℕ) (ts : List Tableau) → IsSystem s → IsRun s limit ts → NoBasisTwice s ts
+
+-- the number of ways to choose k of n
+abbrev pub ways : ℕ → ℕ → ℕ
+ways n zero = 1
+ways zero (suc k) = 0
+ways (suc n) (suc k) = ways n k + ways n (suc k)
+
+-- no run has more tableaus than there are ways to choose a basis
+abbrev pub NoRunIsLong : Type 0
+NoRunIsLong = (s : LinearSystem) (limit : ℕ) (ts : List Tableau) → IsSystem s → IsRun s limit ts → length ts ≤ ways (s.unknowns + s.equations) s.equations
+
+-- two tableaus with the same numbers
+pub record SameTableau (s : LinearSystem) (t u : Tableau) : Type 0 where
+  pub basis : (k : ℕ) → k < s.equations → t.basis k ≡ u.basis k
+  pub rows : (i c : ℕ) → i < s.equations → c ≤ right_column s → t.rows i c ≡ u.rows i c
+  pub objective : (c : ℕ) → c ≤ right_column s → t.objective c ≡ u.objective c
+
+-- two runs of one length end with the same numbers
+abbrev pub OneRun : Type 0
+OneRun = (s : LinearSystem) (limit : ℕ) (t u : Tableau) (ts us : List Tableau) → IsSystem s → IsRun s limit (t ∷ ts) → IsRun s limit (u ∷ us) → length ts ≡ length us → SameTableau s t u

@@ -1,5 +1,10 @@
+pub mod Answers
+pub mod Cells
+pub mod Flat
 pub mod RunLaws
 pub mod Runs
 pub mod Solutions
 pub mod Systems
 pub mod Tableaus
+pub mod Turns
+pub mod Views

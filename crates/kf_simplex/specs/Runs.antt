@@ -39,8 +39,8 @@ pub record IsStep (s : LinearSystem) (t u : Tableau) : Type 0 where
 
 -- no entry passes 2^62 in absolute value
 pub record IsNarrow (s : LinearSystem) (t : Tableau) : Type 0 where
-  pub rows : (i c : ℕ) → i < s.equations → c ≤ right_column s → unsigned_abs (t.rows i c) ≤ 4611686018427387904
-  pub objective : (c : ℕ) → c ≤ right_column s → unsigned_abs (t.objective c) ≤ 4611686018427387904
+  pub rows : (i c : ℕ) → i < s.equations → c ≤ right_column s → unsigned_abs (t.rows i c) ≤ 2 ^ 62
+  pub objective : (c : ℕ) → c ≤ right_column s → unsigned_abs (t.objective c) ≤ 2 ^ 62
 
 abbrev pub NoneEnters : LinearSystem → Tableau → Type 0
 NoneEnters s t = (j : ℕ) → j < s.unknowns → t.objective j ≤ℤ pos 0

@@ -1,6 +1,18 @@
 //! An exact simplex on whole numbers: a solution without negative entries, or multipliers that exclude one.
 #![tactic(auto)]
 
+mod building;
 mod laws;
+mod lists;
+mod outcome;
+mod reading;
+mod rows;
+mod solving;
+mod system;
+mod table;
 
 pub use laws::{no_run_is_long, no_run_returns, one_run, weak_duality};
+pub use lists::{FracList, NumberList};
+pub use outcome::{Outcome, SimplexError};
+pub use solving::solve;
+pub use system::{Equation, EquationList, System, cells};

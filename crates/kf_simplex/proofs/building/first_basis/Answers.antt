@@ -1,0 +1,1 @@
+use Rattle.kf_simplex.proofs.building.first_basis.Goals as goal

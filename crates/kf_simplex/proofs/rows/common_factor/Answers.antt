@@ -1,0 +1,15 @@
+use Rattle.std.proofs.Common.{FitsSigned, rules, ℕ, subst, sym}
+use Rattle.kf_frac.proofs.CommonDivisors.{gcd_is}
+use Rattle.std.proofs.lemmas.Int.{to_z-of_z}
+use Rattle.std.specs.Int.{IsGcd}
+use mir.Syntax.{w128}
+use Rattle.kf_simplex.proofs.FlatRows.{gcd_more}
+use Rattle.kf_simplex.proofs.rows.common_factor.Goals as goal
+use Rattle.kf_simplex.specs.Cells.{at}
+
+pub loop-x-preserved : goal.loop-x-preserved
+loop-x-preserved c =
+    let f : FitsSigned w128 (at c.args.row.now c.loop-x.x-index) = search rules in
+    let e = simp to_z-of_z at c.unsigned_abs.ensures.value in
+    gcd_more c.args.row.now c.loop-x.x-index c.loop-x.g c.gcd-g.result c.loop-x.invariant (subst (λ (z : ℕ). IsGcd c.loop-x.g z c.gcd-g.result) e
+        (subst (λ (n : ℕ). IsGcd c.loop-x.g c.unsigned_abs.result n) (sym c.gcd-g.ensures) (gcd_is c.loop-x.g c.unsigned_abs.result)))

@@ -1,0 +1,28 @@
+ghost use Rattle.std.specs.Prelude.{◌≡◌, ◌≢◌, ◌+◌, ◌*◌, ◌≤◌, length, IfOk, Err};
+ghost use Rattle.kf_simplex.specs.Answers.{IsAnswer, IsRight};
+ghost use Rattle.kf_simplex.specs.RunLaws.{ways};
+ghost use Rattle.kf_simplex.specs.Views.{linear};
+
+use crate::building::first_table;
+use crate::table::Stop;
+use crate::{Outcome, SimplexError, System};
+use std::alloc::Global;
+
+/// Decides whether the system has a solution without negative entries, within so many pivots.
+pub fn solve(alloc: Global, s: &System, pivots: u32) -> Result<Outcome, SimplexError>
+    requires { (length s.now.rows + 1) * (s.now.unknowns + length s.now.rows + 1) ≤ 4000000 }
+    ensures run { IsAnswer (linear s.now) pivots result }
+    ensures right { IfOk result (λ outcome. IsRight (linear s.now) outcome) }
+    ensures enough { ways (s.now.unknowns + length s.now.rows) (length s.now.rows) ≤ pivots → result ≢ Err SimplexError.Budget }
+{
+    let mut table = first_table(alloc, s)?;
+    let ending = table.run(pivots);
+    match ending.stop {
+        Stop::Wide => Err(SimplexError::Wide {
+            pivots: ending.pivots,
+        }),
+        Stop::Budget => Err(SimplexError::Budget),
+        Stop::Solution => Ok(Outcome::Solution(table.solution(alloc)?)),
+        Stop::Multipliers => Ok(Outcome::Multipliers(table.multipliers(alloc)?)),
+    }
+}

@@ -162,7 +162,7 @@ masks : ℕ → List Tableau → List (ℕ → Bool)
 masks e [] = []
 masks e (t ∷ ts) = mask e t.basis ∷ masks e ts
 
-apart_basis : (s : LinearSystem) (t : Tableau) → IsGood s t → (k m : ℕ) → k < m → m < s.equations → t.basis k ≢ t.basis m
+pub apart_basis : (s : LinearSystem) (t : Tableau) → IsGood s t → (k m : ℕ) → k < m → m < s.equations → t.basis k ≢ t.basis m
 apart_basis s t g k m l u e =
     let p = (g.tableau.rows k (omega arith)).positive in let z = (g.tableau.rows k (omega arith)).zero_elsewhere m u (omega arith) in
     let z' = rw (← e) at z in omega (arith, ints)

@@ -1,6 +1,7 @@
 pub mod Choices
 pub mod Counting
 pub mod Duality
+pub mod Endings
 pub mod Equations
 pub mod Falls
 pub mod FirstTableau
@@ -13,6 +14,7 @@ pub mod Objective
 pub mod Outcomes
 pub mod Pivots
 pub mod Primitive
+pub mod Quotients
 pub mod RowOrder
 pub mod RunFacts
 pub mod Signs

@@ -1,4 +1,4 @@
-ghost use Rattle.std.specs.Prelude.{◌≡◌, ◌≢◌, ℕ, ◌+◌, ◌*◌, ◌<◌, ◌*ℤ◌, ◌<ℤ◌, pos, slice_index, IfOk};
+ghost use Rattle.std.specs.Prelude.{◌≡◌, ◌≢◌, ℕ, ◌+◌, ◌*◌, ◌<◌, ◌≤◌, ◌*ℤ◌, ◌<ℤ◌, pos, slice_index, IfOk};
 ghost use Rattle.kf_frac.specs.Views.{num_of, den_of};
 ghost use Rattle.kf_simplex.specs.Answers.{AreMultipliersOf, IsSolutionOf};
 ghost use Rattle.kf_simplex.specs.Cells.{AllNarrow, IsNarrowNumber, row_at};
@@ -26,19 +26,28 @@ impl Table {
             IfOk result (λ xs. IsSolutionOf s (tableau_of s self.now.cells.items self.now.basis.items) xs)
         }
     {
-        let width = self.unknowns + self.equations + 1;
         let zero = quotient(0, 1);
         let mut values = Vec::with_capacity(alloc, self.unknowns)?;
-        for _ in 0..self.unknowns {
+        for _j in 0..self.unknowns {
             values.push(zero)?;
         }
         for i in 0..self.equations {
             let column = self.basis[i];
             if column < self.unknowns {
-                values[column] = quotient(self.cells[i * width + width - 1], self.cells[i * width + column]);
+                let right = self.cell(i, self.unknowns + self.equations);
+                values[column] = quotient(right, self.cell(i, column));
             }
         }
         Ok(FracList::new(values))
+    }
+
+    // The number in a row of an equation, or in the objective row below them.
+    fn cell(&self, row: usize, column: usize) -> i128
+        requires row { row ≤ self.now.equations }
+        requires column { column ≤ self.now.unknowns + self.now.equations }
+        ensures { result ≡ row_at self.now.cells.items (self.now.unknowns + self.now.equations + 1) row column }
+    {
+        self.cells[row * (self.unknowns + self.equations + 1) + column]
     }
 
     // The objective row's entries at the artificial columns.
@@ -49,10 +58,9 @@ impl Table {
             IfOk result (λ ys. AreMultipliersOf s (tableau_of s self.now.cells.items self.now.basis.items) ys)
         }
     {
-        let start = self.equations * (self.unknowns + self.equations + 1) + self.unknowns;
         let mut numbers = Vec::with_capacity(alloc, self.equations)?;
         for k in 0..self.equations {
-            numbers.push(self.cells[start + k] as i64)?;
+            numbers.push(self.cell(self.equations, self.unknowns + k) as i64)?;
         }
         Ok(NumberList::new(numbers))
     }

@@ -1,13 +1,13 @@
 -- From the end of a run of the flat table to the answer.
-use Rattle.std.proofs.Common.{◌≡◌, ◌≢◌, ℕ, zero, suc, ◌+◌, ◌*◌, ◌^◌, ◌<◌, ◌≤◌, refl, sym, ap, ◌∙◌, subst, arith, List, ◌∷◌, length, get_or}
+use Rattle.std.proofs.Common.{◌≡◌, ℕ, ◌+◌, ◌*◌, ◌<◌, sym, subst, List, length, get_or}
 use Rattle.std.proofs.Math.IntN.{ℤ, pos}
 use lib.Signed.{◌<ℤ◌}
 use Rattle.kf_frac.specs.declared.frac.Frac.{Frac}
-use Rattle.kf_simplex.specs.Systems.{LinearSystem, IsSystem, right_column}
+use Rattle.kf_simplex.specs.Systems.{LinearSystem, IsSystem}
 use Rattle.kf_simplex.specs.Tableaus.{Tableau}
 use Rattle.kf_simplex.specs.Runs.{Ends, EndsAt, Answers, Cause, budget, solution, multipliers}
-use Rattle.kf_simplex.specs.Cells.{at, AllNarrow, row_at}
-use Rattle.kf_simplex.specs.Flat.{width, tableau_of}
+use Rattle.kf_simplex.specs.Cells.{AllNarrow, row_at}
+use Rattle.kf_simplex.specs.Flat.{tableau_of}
 use Rattle.kf_simplex.specs.Turns.{system, sizes, InRun}
 use Rattle.kf_simplex.specs.Answers.{IsSolutionOf, AreMultipliersOf}
 use Rattle.kf_simplex.proofs.Counting.{apart_basis}

@@ -1,5 +1,5 @@
 -- A `System` read as a system of equations.
-use Rattle.std.proofs.Common.{◌≡◌, ◌≢◌, ℕ, zero, suc, ◌+◌, ◌*◌, ◌^◌, ◌<◌, ◌≤◌, ◌==◌, refl, sym, ap, ◌∙◌, arith, unsigned_abs, List, [], ◌∷◌, length, map, get_or, nat_lt, cond, ⊎_elim}
+use Rattle.std.proofs.Common.{◌≡◌, ◌≢◌, ℕ, zero, suc, ◌+◌, ◌*◌, ◌^◌, ◌<◌, ◌≤◌, ◌==◌, refl, ap, ◌∙◌, arith, unsigned_abs, List, [], ◌∷◌, length, get_or, nat_lt, cond, ⊎_elim}
 use Rattle.std.proofs.Math.IntN.{ℤ, pos, ◌+ℤ◌}
 use Rattle.std.proofs.lemmas.Int.{ints}
 use Rattle.std.proofs.lemmas.Bool.{cond_both, cases_lt}
@@ -9,7 +9,7 @@ use Rattle.std.specs.List.{All}
 use lib.Signed.{◌≤ℤ◌}
 use Rattle.kf_simplex.specs.declared.system.Equation.{Equation}
 use Rattle.kf_simplex.specs.Cells.{at}
-use Rattle.kf_simplex.specs.Systems.{LinearSystem, IsSystem, total, right_column}
+use Rattle.kf_simplex.specs.Systems.{IsSystem, total}
 use Rattle.kf_simplex.specs.Views.{coefficients, right_side, entry, number_at}
 
 -- ---- the four kinds of columns
@@ -65,8 +65,8 @@ entry_narrow v e coefs rhs k c h r =
     cond_both (nat_lt c v) (at coefs c) (cond (c == v + e) rhs (cond (c == v + k) (pos 1) (pos 0))) (λ z. unsigned_abs z ≤ 2 ^ 62)
     (λ t. h c)
     (λ t. cond_both (c == v + e) rhs (cond (c == v + k) (pos 1) (pos 0)) (λ z. unsigned_abs z ≤ 2 ^ 62)
-        (λ u. r)
-        (λ u. cond_both (c == v + k) (pos 1) (pos 0) (λ z. unsigned_abs z ≤ 2 ^ 62) (λ x. omega arith) (λ x. omega arith)))
+    (λ u. r)
+    (λ u. cond_both (c == v + k) (pos 1) (pos 0) (λ z. unsigned_abs z ≤ 2 ^ 62) (λ x. omega arith) (λ x. omega arith)))
 
 pub number_narrow : (v : ℕ) (rows : List Equation) (k c : ℕ) → unsigned_abs (number_at v rows k c) ≤ 2 ^ 62
 unfolding number_at

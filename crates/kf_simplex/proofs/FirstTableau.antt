@@ -3,12 +3,11 @@ use Rattle.std.proofs.Common.{◌≡◌, ◌≢◌, ℕ, zero, suc, ◌+◌, ◌
 use Rattle.std.proofs.Math.IntN.{ℤ, pos, ◌*ℤ◌}
 use Rattle.std.proofs.Math.Nat.{one-dvd}
 use Rattle.std.proofs.lemmas.Int.{ints}
-use Rattle.std.proofs.lemmas.Bool.{cases_eq, cases_lt}
+use Rattle.std.proofs.lemmas.Bool.{cases_lt}
 use Rattle.std.proofs.lemmas.Nat.Gcd.{dvd_antisymm}
 use Rattle.std.specs.Int.{◌∣◌}
-use lib.Signed.{◌<ℤ◌}
 use Rattle.kf_simplex.specs.Systems.{LinearSystem, IsSystem, total, right_column}
-use Rattle.kf_simplex.specs.Tableaus.{Row, Tableau, IsInRowSpace, IsRowOf, IsTableau}
+use Rattle.kf_simplex.specs.Tableaus.{Row, Tableau, IsRowOf, IsTableau}
 use Rattle.kf_simplex.proofs.Sums.{total-ext, total-single}
 use Rattle.kf_simplex.proofs.Primitive.{one_times}
 
@@ -56,9 +55,9 @@ first_tableau s t y e o b =
       };
       objective_primitive = λ m l nz d all. ⊎_elim
           (λ (some : 0 < n).
-              let first : total n (λ k. s.number k (v + 0)) ≡ pos 1 =
-                  total-single n 0 (λ k. s.number k (v + 0)) some (λ (k : ℕ) (u : k < n) (ne : k ≢ 0). y.other k 0 u some ne) ∙ y.same 0 some in
-              one_of d (t.objective (v + 0)) (o (v + 0) (omega arith) ∙ first) (all (v + 0) (omega arith)))
+          let first : total n (λ k. s.number k (v + 0)) ≡ pos 1 =
+          total-single n 0 (λ k. s.number k (v + 0)) some (λ (k : ℕ) (u : k < n) (ne : k ≢ 0). y.other k 0 u some ne) ∙ y.same 0 some in
+          one_of d (t.objective (v + 0)) (o (v + 0) (omega arith) ∙ first) (all (v + 0) (omega arith)))
           (λ (none : n ≤ 0). absurd (nz (o m l ∙ empty n (λ k. s.number k m) (omega arith))))
           (cases_lt 0 n);
     }

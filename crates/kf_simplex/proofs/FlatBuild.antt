@@ -1,5 +1,5 @@
 -- The first table, row by row.
-use Rattle.std.proofs.Common.{◌≡◌, ◌≢◌, ℕ, zero, suc, ◌+◌, ◌*◌, ◌^◌, ◌<◌, ◌≤◌, refl, sym, ap, ◌∙◌, subst, arith, ⊎_elim, unsigned_abs, FitsSigned, List, [], ◌∷◌, length, ◌++◌, take, drop, get_or, replicate, set, get_or-set_same, get_or-set_other, length-set}
+use Rattle.std.proofs.Common.{◌≡◌, ◌≢◌, ℕ, zero, suc, ◌+◌, ◌*◌, ◌^◌, ◌<◌, ◌≤◌, refl, sym, ap, ◌∙◌, subst, arith, ⊎_elim, unsigned_abs, FitsSigned, List, [], length, ◌++◌, take, drop, get_or, replicate, set, get_or-set_same, get_or-set_other, length-set}
 use Rattle.std.proofs.Math.IntN.{ℤ, pos, ◌+ℤ◌}
 use Rattle.std.proofs.Math.Nat.{mul-le-mul_left, mul-le-mul_right}
 use Rattle.std.proofs.lemmas.Int.{ints}
@@ -39,8 +39,8 @@ add_more old xs from to c w v inside apart l h e = record {
   added = λ k u. ⊎_elim
       (λ (m : k < c). other_at xs (to + c) (to + k) v (omega arith) ∙ h.added k m)
       (λ (m : c ≤ k). let q : k ≡ c = omega arith in
-          subst (λ (z : ℕ). at (set xs (to + c) v) (to + z) ≡ at old (to + z) +ℤ at old (from + z)) (sym q)
-          (same_at xs (to + c) v inside ∙ e ∙ ap (λ (z : ℤ). z +ℤ at xs (from + c)) (h.after (to + c) (omega arith)) ∙ ap (λ (z : ℤ). at old (to + c) +ℤ z) (h.before (from + c) (omega arith))))
+      subst (λ (z : ℕ). at (set xs (to + c) v) (to + z) ≡ at old (to + z) +ℤ at old (from + z)) (sym q)
+      (same_at xs (to + c) v inside ∙ e ∙ ap (λ (z : ℤ). z +ℤ at xs (from + c)) (h.after (to + c) (omega arith)) ∙ ap (λ (z : ℤ). at old (to + c) +ℤ z) (h.before (from + c) (omega arith))))
       (cases_lt k c);
   before = λ p u. other_at xs (to + c) p v (omega arith) ∙ h.before p u;
   after = λ p u. other_at xs (to + c) p v (omega arith) ∙ h.after p (omega arith);
@@ -59,7 +59,7 @@ write_more old xs coefs start j v inside h e = record {
   inside = λ k u. ⊎_elim
       (λ (m : k < j). other_at xs (start + j) (start + k) v (omega arith) ∙ h.inside k m)
       (λ (m : j ≤ k). let q : k ≡ j = omega arith in
-          subst (λ (z : ℕ). at (set xs (start + j) v) (start + z) ≡ at coefs z) (sym q) (same_at xs (start + j) v inside ∙ e))
+      subst (λ (z : ℕ). at (set xs (start + j) v) (start + z) ≡ at coefs z) (sym q) (same_at xs (start + j) v inside ∙ e))
       (cases_lt k j);
   before = λ p u. other_at xs (start + j) p v (omega arith) ∙ h.before p u;
   after = λ p u. other_at xs (start + j) p v (omega arith) ∙ h.after p (omega arith);
@@ -85,13 +85,13 @@ row_written old xs coefs rhs one right start e k place l eo er z h =
       written = λ c u. ⊎_elim
           (λ (m : c < v). at_zs (start + c) (omega arith) ∙ at_ys (start + c) (omega arith) ∙ h.inside c m ∙ sym (entry-unknown v e coefs rhs k c m))
           (λ (m : v ≤ c). ⊎_elim
-              (λ (q : c ≡ v + e). ap (λ (p : ℕ). at (set ys (start + v + e) right) p) (omega arith) ∙ last ∙ sym (entry-right v e coefs rhs k c q))
-              (λ (d : c ≢ v + e). ⊎_elim
-                  (λ (q : c ≡ v + k). ap (λ (p : ℕ). at (set ys (start + v + e) right) p) (omega arith) ∙ own ∙ sym (entry-own v e coefs rhs k c q l))
-                  (λ (f : c ≢ v + k). at_zs (start + c) (omega arith) ∙ at_ys (start + c) (omega arith) ∙ h.after (start + c) (omega arith) ∙ z c u
-                      ∙ sym (entry-other v e coefs rhs k c m (omega arith) f))
-                  (cases_eq c (v + k)))
-              (cases_eq c (v + e)))
+          (λ (q : c ≡ v + e). ap (λ (p : ℕ). at (set ys (start + v + e) right) p) (omega arith) ∙ last ∙ sym (entry-right v e coefs rhs k c q))
+          (λ (d : c ≢ v + e). ⊎_elim
+          (λ (q : c ≡ v + k). ap (λ (p : ℕ). at (set ys (start + v + e) right) p) (omega arith) ∙ own ∙ sym (entry-own v e coefs rhs k c q l))
+          (λ (f : c ≢ v + k). at_zs (start + c) (omega arith) ∙ at_ys (start + c) (omega arith) ∙ h.after (start + c) (omega arith) ∙ z c u
+          ∙ sym (entry-other v e coefs rhs k c m (omega arith) f))
+          (cases_eq c (v + k)))
+          (cases_eq c (v + e)))
           (cases_lt c v);
       before = λ p u. at_zs p (omega arith) ∙ at_ys p (omega arith) ∙ h.before p u;
       after = λ p u. at_zs p (omega arith) ∙ at_ys p (omega arith) ∙ h.after p (omega arith);
@@ -128,14 +128,14 @@ built_more v rows xs ys zs coefs rhs k l ec er el h r added before =
     let w = v + length rows + 1 in
     let next : k + 1 ≤ length rows = omega arith in
     let own : (c : ℕ) → c < v + length rows + 1 → at ys (k * (v + length rows + 1) + c) ≡ number_at v rows k c =
-        λ c m. r.written c (omega arith) ∙ number_of v rows coefs rhs k c ec er el in
+    λ c m. r.written c (omega arith) ∙ number_of v rows coefs rhs k c ec er el in
     record {
       written = λ i c u m. ⊎_elim
           (λ (q : i < k). let s : i + 1 ≤ k = omega arith in let t : i + 1 ≤ length rows = omega arith in
-              before (i * w + c) (omega (arith, mul-le-mul_right w t)) ∙ r.before (i * w + c) (omega (arith, mul-le-mul_right w s)) ∙ h.written i c q m)
+          before (i * w + c) (omega (arith, mul-le-mul_right w t)) ∙ r.before (i * w + c) (omega (arith, mul-le-mul_right w s)) ∙ h.written i c q m)
           (λ (q : k ≤ i). let e : i ≡ k = omega arith in
-              subst (λ (z : ℕ). at zs (z * w + c) ≡ number_at v rows z c) (sym e)
-              (before (k * w + c) (omega (arith, mul-le-mul_right w next)) ∙ own c m))
+          subst (λ (z : ℕ). at zs (z * w + c) ≡ number_at v rows z c) (sym e)
+          (before (k * w + c) (omega (arith, mul-le-mul_right w next)) ∙ own c m))
           (cases_lt i k);
       empty = λ p u m. before p m ∙ r.after p (omega arith) ∙ h.empty p (omega arith) m;
       summed = λ c m.

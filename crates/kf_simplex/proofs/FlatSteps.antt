@@ -1,9 +1,9 @@
 -- A pivot of the flat table is a step of the run.
-use Rattle.std.proofs.Common.{◌≡◌, ◌≢◌, ℕ, zero, suc, ◌+◌, ◌*◌, ◌<◌, ◌≤◌, refl, sym, ◌∙◌, arith, ⊎_elim, ◌⊎◌, inl, inr, subst, length, List, set, get_or, get_or-set_same, get_or-set_other, unsigned_abs}
+use Rattle.std.proofs.Common.{◌≡◌, ◌≢◌, ℕ, ◌+◌, ◌*◌, ◌<◌, ◌≤◌, refl, sym, ◌∙◌, arith, ⊎_elim, subst, length, List, set, get_or, get_or-set_same, get_or-set_other, unsigned_abs}
 use Rattle.std.specs.Int.{◌∣◌}
 use Rattle.std.proofs.Math.IntN.{ℤ, pos, ◌-ℤ◌, ◌*ℤ◌}
 use Rattle.std.proofs.lemmas.Int.{ints}
-use Rattle.std.proofs.lemmas.Bool.{cases_eq, cases_lt}
+use Rattle.std.proofs.lemmas.Bool.{cases_eq}
 use lib.Signed.{◌<ℤ◌}
 use Rattle.kf_simplex.proofs.Sums.{choose, choose-same, choose-other}
 use Rattle.kf_simplex.proofs.Objective.{find_artificial, tableau_of_working}

@@ -1,5 +1,5 @@
 -- A turn of the flat table, in the words of the run.
-use Rattle.std.proofs.Common.{◌≡◌, ◌≢◌, ℕ, zero, suc, ◌+◌, ◌-◌, ◌*◌, ◌/◌, ◌%◌, ◌<◌, ◌≤◌, refl, sym, ◌∙◌, subst, arith, ⊎_elim, length, List, ◌∷◌, None, Some, set, Bool, true, false}
+use Rattle.std.proofs.Common.{◌≡◌, ◌≢◌, ℕ, zero, suc, ◌+◌, ◌-◌, ◌*◌, ◌/◌, ◌%◌, ◌<◌, ◌≤◌, refl, sym, subst, arith, ⊎_elim, length, List, ◌∷◌, None, Some, set, Bool, true, false}
 use Rattle.std.proofs.Math.IntN.{ℤ, pos}
 use Rattle.std.proofs.lemmas.Int.{ints}
 use Rattle.std.proofs.lemmas.Nat.{div_below}
@@ -7,7 +7,6 @@ use Rattle.std.proofs.lemmas.Bool.{cases_lt}
 use lib.Signed.{◌<ℤ◌, ◌≤ℤ◌}
 use Rattle.kf_simplex.proofs.RunFacts.{IsGood, basic_of, run_facts}
 use Rattle.kf_simplex.proofs.Choices.{no_tie, some_row}
-use Rattle.kf_simplex.specs.declared.table.Turn.{Turn}
 use Rattle.kf_simplex.specs.declared.table.Turn.TheVariants as turns
 use Rattle.kf_simplex.proofs.FlatSteps.{flat_step}
 use Rattle.std.proofs.lemmas.List.{get_or_past}
@@ -15,10 +14,10 @@ use Rattle.std.proofs.lemmas.List.Edits.{get_or-between}
 use Rattle.std.specs.Prelude.{slice_range, IsTrue}
 use Rattle.kf_simplex.specs.Systems.{LinearSystem, right_column, IsSystem}
 use Rattle.kf_simplex.specs.Tableaus.{Tableau}
-use Rattle.kf_simplex.specs.Runs.{IsNarrow, IsRun, Enters, Leaves, NoneEnters, GoesOn, key_column}
+use Rattle.kf_simplex.specs.Runs.{IsNarrow, Enters, Leaves, NoneEnters, GoesOn, key_column}
 use Rattle.kf_simplex.specs.Cells.{at, AllNarrow, IsNarrowNumber, IsLeaving, IsEntering, key_at, deciding, CrossesRows}
 use Rattle.kf_simplex.specs.Flat.{width, tableau_of}
-use Rattle.kf_simplex.specs.Turns.{Judges, system, InRun}
+use Rattle.kf_simplex.specs.Turns.{Judges, InRun}
 
 pub narrow_of : (s : LinearSystem) (cells : List ℤ) (basis : List ℕ) → AllNarrow cells → IsNarrow s (tableau_of s cells basis)
 narrow_of s cells basis h = record { rows = λ i c l m. h (i * width s + c); objective = λ c m. h (s.equations * width s + c) }
@@ -113,8 +112,7 @@ pub goes_on : (s : LinearSystem) (limit made : ℕ) (cells : List ℤ) (basis : 
     → IsEntering cells (s.equations * width s) s.unknowns (Some c) → IsLeaving cells (width s) s.unknowns c s.equations (Some r)
     → Judges s limit made (tableau_of s cells basis) (turns.Pivot r c)
 goes_on s limit made cells basis c r y h narrow nz ne en le =
-    let g = (run_facts s limit (tableau_of s cells basis) h.before y h.run).0 in
-    (
+    let g = (run_facts s limit (tableau_of s cells basis) h.before y h.run).0 in (
       (narrow_of s cells basis narrow, nz, not_none_enters s cells basis c en, ne),
       enters_of s cells basis c en,
       leaves_of s cells basis c r g le,

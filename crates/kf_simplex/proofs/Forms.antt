@@ -1,7 +1,7 @@
 -- Working forms of the definitions, in which the proofs go.
-use Rattle.std.proofs.Common.{◌≡◌, ◌≢◌, ℕ, suc, zero, ◌+◌, ◌<◌, ◌≤◌}
-use Rattle.std.proofs.Math.IntN.{ℤ, pos, ◌+ℤ◌, ◌-ℤ◌, ◌*ℤ◌}
-use lib.Signed.{◌<ℤ◌, ◌≤ℤ◌}
+use Rattle.std.proofs.Common.{◌≡◌, ◌≢◌, ℕ, ◌<◌, ◌≤◌}
+use Rattle.std.proofs.Math.IntN.{ℤ, pos, ◌-ℤ◌, ◌*ℤ◌}
+use lib.Signed.{◌<ℤ◌}
 use Rattle.kf_simplex.specs.Systems.{LinearSystem, total, right_column}
 use Rattle.kf_simplex.specs.Tableaus.{Row, Tableau, IsInRowSpace, IsPrimitive, IsRowOf, IsArtificial}
 use Rattle.kf_simplex.specs.Runs.{key}

@@ -1,9 +1,8 @@
 -- The objective as a sum of rows, and by its own entries: the two forms are one.
-use Rattle.std.proofs.Common.{◌≡◌, ◌≢◌, ℕ, zero, suc, ◌+◌, ◌<◌, ◌≤◌, sym, ap, ◌∙◌, arith, ⊎_elim, ◌⊎◌, inl, inr}
+use Rattle.std.proofs.Common.{◌≡◌, ℕ, zero, suc, ◌+◌, ◌<◌, ◌≤◌, sym, ap, ◌∙◌, arith, ⊎_elim, ◌⊎◌, inl, inr}
 use Rattle.std.proofs.Math.IntN.{ℤ, pos, ◌*ℤ◌}
 use Rattle.std.proofs.lemmas.Int.{ints}
 use Rattle.std.proofs.lemmas.Bool.{cases_lt}
-use lib.Signed.{◌<ℤ◌}
 use Rattle.kf_frac.proofs.Ring.{mul_assoc}
 use Rattle.kf_simplex.specs.Systems.{LinearSystem, total, right_column}
 use Rattle.kf_simplex.specs.Tableaus.{Row, Tableau, combined, IsInRowSpace, IsRowOf, IsSumOfRows, IsTableau}
@@ -23,11 +22,11 @@ sum_in_space s basis rows w b h c l =
     ∙ total-swap n n (λ i k. h.part i *ℤ (rows i (v + k) *ℤ s.number k c))
     ∙ total-ext n (λ k. total n (λ i. h.part i *ℤ (rows i (v + k) *ℤ s.number k c))) (λ k. h.times *ℤ (w (v + k) *ℤ s.number k c))
     (λ (k : ℕ) (m : k < n).
-        total-ext n (λ i. h.part i *ℤ (rows i (v + k) *ℤ s.number k c)) (λ i. h.part i *ℤ rows i (v + k) *ℤ s.number k c)
-        (λ (i : ℕ) (u : i < n). sym (mul_assoc (h.part i) (rows i (v + k)) (s.number k c)))
-        ∙ total-scale_right n (s.number k c) (λ i. h.part i *ℤ rows i (v + k))
-        ∙ ap (λ (z : ℤ). z *ℤ s.number k c) (sym (h.sum (v + k) (omega arith)))
-        ∙ mul_assoc h.times (w (v + k)) (s.number k c))
+    total-ext n (λ i. h.part i *ℤ (rows i (v + k) *ℤ s.number k c)) (λ i. h.part i *ℤ rows i (v + k) *ℤ s.number k c)
+    (λ (i : ℕ) (u : i < n). sym (mul_assoc (h.part i) (rows i (v + k)) (s.number k c)))
+    ∙ total-scale_right n (s.number k c) (λ i. h.part i *ℤ rows i (v + k))
+    ∙ ap (λ (z : ℤ). z *ℤ s.number k c) (sym (h.sum (v + k) (omega arith)))
+    ∙ mul_assoc h.times (w (v + k)) (s.number k c))
     ∙ total-scale n h.times (λ k. w (v + k) *ℤ s.number k c))
 
 -- some of the first n columns is artificial, or none is
@@ -45,9 +44,9 @@ pub objective_of : (s : LinearSystem) (basis : ℕ → ℕ) (rows : ℕ → Row)
 objective_of s basis rows w b h =
     let iw = sum_in_space s basis rows w b h in
     let there : (i : ℕ) → i < s.equations → s.unknowns ≤ basis i → h.times *ℤ w (basis i) ≡ h.common =
-        λ i l a. objective_of_sum s basis rows b w iw h i l ∙ h.artificial i l a in
+    λ i l a. objective_of_sum s basis rows b w iw h i l ∙ h.artificial i l a in
     let unknown_zero : (k : ℕ) → k < s.equations → basis k < s.unknowns → w (basis k) ≡ pos 0 = λ k l u.
-        factor_zero h.times (w (basis k)) h.times_positive (objective_of_sum s basis rows b w iw h k l ∙ (let z = h.unknown k l u in rw z (omega (arith, ints)))) in
+    factor_zero h.times (w (basis k)) h.times_positive (objective_of_sum s basis rows b w iw h k l ∙ (let z = h.unknown k l u in rw z (omega (arith, ints)))) in
     ⊎_elim
     (λ (k : (k : ℕ) × (k < s.equations) × (s.unknowns ≤ basis k)). record {
       in_space = iw;

@@ -1,26 +1,25 @@
 -- Why the outcomes are right by their own numbers, and when the budget can't be spent.
-use Rattle.std.proofs.Common.{◌≡◌, ◌≢◌, ℕ, zero, suc, ◌+◌, ◌*◌, ◌<◌, ◌≤◌, refl, sym, ap, ◌∙◌, subst, arith, ⊎_elim, List, [], ◌∷◌, length, map}
+use Rattle.std.proofs.Common.{◌≡◌, ◌≢◌, ℕ, zero, suc, ◌+◌, ◌*◌, ◌<◌, ◌≤◌, sym, ap, ◌∙◌, subst, arith, ⊎_elim, List, [], ◌∷◌}
 use Rattle.std.proofs.Math.IntN.{ℤ, pos, ◌*ℤ◌, *ℤ_comm}
 use Rattle.std.proofs.lemmas.Int.{ints}
 use Rattle.std.proofs.lemmas.Bool.{cases_eq, cases_lt}
 use Rattle.std.proofs.Math.Nat.{mul_comm}
 use lib.Signed.{◌<ℤ◌, ◌≤ℤ◌}
 use Rattle.kf_frac.specs.declared.frac.Frac.{Frac}
-use Rattle.kf_frac.specs.Views.{num_of, den_of}
 use Rattle.kf_frac.proofs.Ring.{mul_assoc}
 use Rattle.kf_frac.proofs.CommonMultiples.{product_positive as nat_product_positive}
 use Rattle.kf_simplex.specs.Systems.{LinearSystem, IsSystem, total, right_column}
-use Rattle.kf_simplex.specs.Tableaus.{Row, Tableau, IsInRowSpace}
-use Rattle.kf_simplex.specs.Runs.{EndsAt, Answers, IsRun, NoneEnters, budget, key}
+use Rattle.kf_simplex.specs.Tableaus.{Tableau}
+use Rattle.kf_simplex.specs.Runs.{Answers, NoneEnters, budget, key}
 use Rattle.kf_simplex.specs.RunLaws.{ways}
-use Rattle.kf_simplex.specs.Solutions.{Solves, Refutes}
+use Rattle.kf_simplex.specs.Solutions.{Refutes}
 use Rattle.kf_simplex.specs.Cells.{at}
 use Rattle.kf_simplex.specs.Answers.{num_at, den_at, IsSolutionOf, AreMultipliersOf, AreSolution}
-use Rattle.kf_simplex.proofs.Forms.{IsObjective, IsBasic, Spans, IsReadOff, IsLexPositive}
-use Rattle.kf_simplex.proofs.Signs.{cancel, product_not_negative, product_positive, factor_not_negative, factor_zero}
+use Rattle.kf_simplex.proofs.Forms.{IsReadOff, IsLexPositive}
+use Rattle.kf_simplex.proofs.Signs.{cancel, product_not_negative, factor_not_negative, factor_zero}
 use Rattle.kf_simplex.proofs.Sums.{total-ext, total_not_negative, choose, choose-same, choose-other}
 use Rattle.kf_simplex.proofs.Pivots.{spanned, read_off_solves, artificials_zero, refutes_of_objective}
-use Rattle.kf_simplex.proofs.RunFacts.{IsGood, basic_of, run_facts}
+use Rattle.kf_simplex.proofs.RunFacts.{IsGood, basic_of}
 use Rattle.kf_simplex.proofs.Counting.{no_run_is_long}
 
 -- ---- signs along the run
@@ -48,11 +47,11 @@ objective_right s t g =
     let q = spanned s t.basis t.rows b p t.objective g.tableau.objective.in_space in
     let wide : pos 0 ≤ℤ p.scale = let z = p.positive in omega (arith, ints) in
     let share_sign : (k : ℕ) → k < n → pos 0 ≤ℤ q.share k = λ k m.
-        factor_not_negative (t.rows k (t.basis k)) (q.share k) (b.positive k m)
-        (rw (sym (q.at_basic k m ∙ *ℤ_comm (q.share k) (t.rows k (t.basis k)))) (product_not_negative p.scale (t.objective (t.basis k)) wide (objective_sign s t g k m))) in
+    factor_not_negative (t.rows k (t.basis k)) (q.share k) (b.positive k m)
+    (rw (sym (q.at_basic k m ∙ *ℤ_comm (q.share k) (t.rows k (t.basis k)))) (product_not_negative p.scale (t.objective (t.basis k)) wide (objective_sign s t g k m))) in
     factor_not_negative p.scale (t.objective (right_column s)) p.positive
     (rw (q.whole (right_column s) (omega arith))
-        (total_not_negative n (λ k. q.share k *ℤ t.rows k (right_column s)) (λ (k : ℕ) (m : k < n). product_not_negative (q.share k) (t.rows k (right_column s)) (share_sign k m) (rights s t g k m))))
+    (total_not_negative n (λ k. q.share k *ℤ t.rows k (right_column s)) (λ (k : ℕ) (m : k < n). product_not_negative (q.share k) (t.rows k (right_column s)) (share_sign k m) (rights s t g k m))))
 
 -- ---- solutions
 
@@ -75,14 +74,14 @@ common (suc n) num den p =
       whole = f;
       same = λ j l. ⊎_elim
           (λ (e : j ≡ n). subst (λ (k : ℕ). f k *ℤ pos (den k) ≡ num k *ℤ pos (h.over * den n)) (sym e)
-              (ap (λ (z : ℤ). z *ℤ pos (den n)) (choose-same n last (h.whole n *ℤ pos (den n))) ∙ mul_assoc (num n) (pos h.over) (pos (den n))))
+          (ap (λ (z : ℤ). z *ℤ pos (den n)) (choose-same n last (h.whole n *ℤ pos (den n))) ∙ mul_assoc (num n) (pos h.over) (pos (den n))))
           (λ (d : j ≢ n).
-              ap (λ (z : ℤ). z *ℤ pos (den j)) (choose-other j n last (h.whole j *ℤ pos (den n)) d)
-              ∙ mul_assoc (h.whole j) (pos (den n)) (pos (den j))
-              ∙ ap (λ (x : ℕ). h.whole j *ℤ pos x) (mul_comm (den n) (den j))
-              ∙ sym (mul_assoc (h.whole j) (pos (den j)) (pos (den n)))
-              ∙ ap (λ (z : ℤ). z *ℤ pos (den n)) (h.same j (omega arith))
-              ∙ mul_assoc (num j) (pos h.over) (pos (den n)))
+          ap (λ (z : ℤ). z *ℤ pos (den j)) (choose-other j n last (h.whole j *ℤ pos (den n)) d)
+          ∙ mul_assoc (h.whole j) (pos (den n)) (pos (den j))
+          ∙ ap (λ (x : ℕ). h.whole j *ℤ pos x) (mul_comm (den n) (den j))
+          ∙ sym (mul_assoc (h.whole j) (pos (den j)) (pos (den n)))
+          ∙ ap (λ (z : ℤ). z *ℤ pos (den n)) (h.same j (omega arith))
+          ∙ mul_assoc (num j) (pos h.over) (pos (den n)))
           (cases_eq j n);
     }
 
@@ -112,14 +111,13 @@ solution_is_right s t xs g z h =
     let b = basic_of s t g in
     let c = common s.unknowns (num_at xs) (den_at xs) (λ (j : ℕ) (l : j < s.unknowns). den_positive xs j) in
     let artificial : (i : ℕ) → i < s.equations → s.unknowns ≤ t.basis i → pos 0 <ℤ t.objective (t.basis i) =
-        λ i l u. rw (g.tableau.objective.artificial i l u) g.tableau.objective.scale_positive in
+    λ i l u. rw (g.tableau.objective.artificial i l u) g.tableau.objective.scale_positive in
     let off : IsReadOff s t.basis t.rows c.whole (pos c.over) = record {
       positive = let q = c.positive in omega (arith, ints);
       basic = λ i l u. basic_over (t.rows i (t.basis i)) (t.rows i (right_column s)) (c.whole (t.basis i)) (num_at xs (t.basis i)) (pos c.over) (den_at xs (t.basis i))
           (den_positive xs (t.basis i)) (h.basic i l u) (c.same (t.basis i) u);
       not_basic = λ j l no. zero_over (c.whole j) (num_at xs j) (pos c.over) (den_at xs j) (den_positive xs j) (h.not_basic j l no) (c.same j l);
-    } in
-    (
+    } in (
       c.whole,
       pos c.over,
       read_off_solves s t.basis t.rows b g.spans c.whole (pos c.over) off (rights s t g)
@@ -133,7 +131,7 @@ refutes_along : (s : LinearSystem) (y z : ℕ → ℤ) → ((k : ℕ) → k < s.
 refutes_along s y z e h =
     let n = s.equations in
     let same : (c : ℕ) → total n (λ k. y k *ℤ s.number k c) ≡ total n (λ k. z k *ℤ s.number k c) = λ c.
-        total-ext n (λ k. y k *ℤ s.number k c) (λ k. z k *ℤ s.number k c) (λ (k : ℕ) (l : k < n). ap (λ (x : ℤ). x *ℤ s.number k c) (e k l)) in
+    total-ext n (λ k. y k *ℤ s.number k c) (λ k. z k *ℤ s.number k c) (λ (k : ℕ) (l : k < n). ap (λ (x : ℤ). x *ℤ s.number k c) (e k l)) in
     record { unknowns = λ j l. rw (sym (same j)) (h.unknowns j l); right = rw (sym (same (right_column s))) h.right }
 
 pub multipliers_are_right : (s : LinearSystem) (t : Tableau) (ys : List ℤ) → IsGood s t → t.objective (right_column s) ≢ pos 0 → NoneEnters s t → AreMultipliersOf s t ys → Refutes s (at ys)

@@ -1,9 +1,8 @@
 -- Quotients of narrow numbers as fractions, and lists of them.
-use Rattle.std.proofs.Common.{◌≡◌, ◌≢◌, ℕ, zero, suc, ◌+◌, ◌*◌, ◌^◌, ◌<◌, ◌≤◌, refl, sym, ap, ◌∙◌, subst, arith, unsigned_abs, FitsSigned, ⊎_elim, ◌++◌, get_or, length-set, length-append, to_z, of_z, List, [], ◌∷◌, length, map, set}
+use Rattle.std.proofs.Common.{◌≡◌, ◌≢◌, ℕ, zero, suc, ◌+◌, ◌^◌, ◌<◌, ◌≤◌, refl, sym, ap, ◌∙◌, subst, arith, unsigned_abs, FitsSigned, ⊎_elim, ◌++◌, get_or, length-set, length-append, to_z, of_z, List, [], ◌∷◌, length, set}
 use Rattle.std.proofs.Math.IntN.{ℤ, pos, negsuc, ◌*ℤ◌, *ℤ_comm}
 use Rattle.std.proofs.lemmas.Int.{ints, to_z-of_z}
 use Rattle.std.proofs.lemmas.Bool.{cases_lt}
-use Rattle.std.proofs.lemmas.List.{get_or_default}
 use lib.Signed.{◌<ℤ◌}
 use mir.Syntax.{w128}
 use Rattle.kf_frac.specs.declared.frac.Frac.{Frac}
@@ -114,16 +113,16 @@ read_more cells basis v e xs i f inside apart q h =
       len = length-set xs (get_or basis i 0) f ∙ h.len;
       basic = λ k u b. ⊎_elim
           (λ (m : k < i). let d : get_or basis k 0 ≢ get_or basis i 0 = λ z. apart k m (sym z) in
-              ap (λ (z : ℤ). z *ℤ row_at cells (v + e + 1) k (get_or basis k 0)) (num_at_set_other xs (get_or basis i 0) (get_or basis k 0) f d)
-              ∙ h.basic k m b
-              ∙ ap (λ (z : ℕ). row_at cells (v + e + 1) k (v + e) *ℤ pos z) (sym (den_at_set_other xs (get_or basis i 0) (get_or basis k 0) f d)))
+          ap (λ (z : ℤ). z *ℤ row_at cells (v + e + 1) k (get_or basis k 0)) (num_at_set_other xs (get_or basis i 0) (get_or basis k 0) f d)
+          ∙ h.basic k m b
+          ∙ ap (λ (z : ℕ). row_at cells (v + e + 1) k (v + e) *ℤ pos z) (sym (den_at_set_other xs (get_or basis i 0) (get_or basis k 0) f d)))
           (λ (m : i ≤ k). let s : k ≡ i = omega arith in
-              subst
-              (λ (z : ℕ). num_at (set xs (get_or basis i 0) f) (get_or basis z 0) *ℤ row_at cells (v + e + 1) z (get_or basis z 0) ≡ row_at cells (v + e + 1) z (v + e) *ℤ pos (den_at (set xs (get_or basis i 0) f) (get_or basis z 0)))
-              (sym s)
-              (ap (λ (z : ℤ). z *ℤ row_at cells (v + e + 1) i (get_or basis i 0)) (num_at_set_same xs (get_or basis i 0) f l)
-              ∙ q
-              ∙ ap (λ (z : ℕ). row_at cells (v + e + 1) i (v + e) *ℤ pos z) (sym (den_at_set_same xs (get_or basis i 0) f l))))
+          subst
+          (λ (z : ℕ). num_at (set xs (get_or basis i 0) f) (get_or basis z 0) *ℤ row_at cells (v + e + 1) z (get_or basis z 0) ≡ row_at cells (v + e + 1) z (v + e) *ℤ pos (den_at (set xs (get_or basis i 0) f) (get_or basis z 0)))
+          (sym s)
+          (ap (λ (z : ℤ). z *ℤ row_at cells (v + e + 1) i (get_or basis i 0)) (num_at_set_same xs (get_or basis i 0) f l)
+          ∙ q
+          ∙ ap (λ (z : ℕ). row_at cells (v + e + 1) i (v + e) *ℤ pos z) (sym (den_at_set_same xs (get_or basis i 0) f l))))
           (cases_lt k i);
       not_basic = λ j u no.
           num_at_set_other xs (get_or basis i 0) j f (λ z. no i (omega arith) (sym z)) ∙ h.not_basic j u (λ k m. no k (omega arith));
@@ -137,11 +136,11 @@ pub read_column : (cells : List ℤ) (basis : List ℕ) (v e : ℕ) (xs : List F
 read_column cells basis v e xs i col f entry right ec l apart ee er q h =
     subst (λ (z : ℕ). ReadOff cells basis v e (set xs z f) (i + 1)) (sym ec)
     (read_more cells basis v e xs i f (subst (λ (z : ℕ). z < v) ec l) apart
-        (ap (λ (z : ℕ). num_of f *ℤ row_at cells (v + e + 1) i z) (sym ec)
-        ∙ ap (λ (z : ℤ). num_of f *ℤ z) (sym ee)
-        ∙ q
-        ∙ ap (λ (z : ℤ). z *ℤ pos (den_of f)) er)
-        h)
+    (ap (λ (z : ℕ). num_of f *ℤ row_at cells (v + e + 1) i z) (sym ec)
+    ∙ ap (λ (z : ℤ). num_of f *ℤ z) (sym ee)
+    ∙ q
+    ∙ ap (λ (z : ℤ). z *ℤ pos (den_of f)) er)
+    h)
 
 pub read_past : (cells : List ℤ) (basis : List ℕ) (v e : ℕ) (xs : List Frac) (i col : ℕ) → col ≡ get_or basis i 0 → v ≤ col → ReadOff cells basis v e xs i → ReadOff cells basis v e xs (i + 1)
 read_past cells basis v e xs i col ec l h = read_skip cells basis v e xs i (subst (λ (z : ℕ). v ≤ z) ec l) h
@@ -163,7 +162,7 @@ push_more xs ys z k f ey el ez h j l =
     ∙ ⊎_elim
     (λ (m : j < k). at_before xs z j (omega arith) ∙ h j m)
     (λ (m : k ≤ j). let q : j ≡ length xs = omega arith in
-        ap (λ (i : ℕ). at (xs ++ z ∷ []) i) q ∙ at_last xs z ∙ ez ∙ ap f (sym el ∙ sym q))
+    ap (λ (i : ℕ). at (xs ++ z ∷ []) i) q ∙ at_last xs z ∙ ez ∙ ap f (sym el ∙ sym q))
     (cases_lt j k)
 
 pub length-push : (xs ys : List ℤ) (z : ℤ) (k : ℕ) → ys ≡ xs ++ z ∷ [] → length xs ≡ k → length ys ≡ k + 1

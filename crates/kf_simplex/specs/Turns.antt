@@ -1,6 +1,6 @@
 -- One turn of a run on a flat table.
 use Rattle.std.specs.Prelude.{◌≡◌, ℕ, ◌<◌, ℤ, pos, List, length, ◌∷◌}
-use Rattle.kf_simplex.specs.Systems.{LinearSystem, IsSystem}
+use Rattle.kf_simplex.specs.Systems.{LinearSystem}
 use Rattle.kf_simplex.specs.Tableaus.{Tableau}
 use Rattle.kf_simplex.specs.Runs.{IsRun, Ends, GoesOn, Enters, Leaves, Cause, wide, solution, multipliers, budget}
 use Rattle.kf_simplex.specs.Flat.{tableau_of}

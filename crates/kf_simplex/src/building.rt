@@ -38,14 +38,10 @@ fn write_equations(cells: &mut [i128], rows: &[Equation], unknowns: usize)
     requires small { (length rows.now + 1) * (unknowns + length rows.now + 1) < 4000001 }
     requires lengths { All (λ q. length q.coefs ≡ unknowns) rows.now }
     requires empty { (p : ℕ) → at cells.old p ≡ pos 0 }
-    ensures written {
-        let w = unknowns + length rows.now + 1 in
-        (k c : ℕ) → k < length rows.now → c < w → at cells.new (k * w + c) ≡ number_at unknowns rows.now k c
-    }
-    ensures summed {
-        let w = unknowns + length rows.now + 1 in
-        (c : ℕ) → c < w → at cells.new (length rows.now * w + c) ≡ total (length rows.now) (λ k. number_at unknowns rows.now k c)
-    }
+    ensures written { let w = unknowns + length rows.now + 1 in
+        (k c : ℕ) → k < length rows.now → c < w → at cells.new (k * w + c) ≡ number_at unknowns rows.now k c }
+    ensures summed { let w = unknowns + length rows.now + 1 in
+        (c : ℕ) → c < w → at cells.new (length rows.now * w + c) ≡ total (length rows.now) (λ k. number_at unknowns rows.now k c) }
 {
     let equations = rows.len();
     let width = unknowns + equations + 1;
@@ -69,10 +65,8 @@ fn write_row(cells: &mut [i128], start: usize, coefs: &[i64], rhs: i64, k: usize
     requires small { length cells.old < 4000001 }
     requires equation { k < equations }
     requires empty { (c : ℕ) → c < length coefs.now + equations + 1 → at cells.old (start + c) ≡ pos 0 }
-    ensures written {
-        (c : ℕ) → c < length coefs.now + equations + 1
-        → at cells.new (start + c) ≡ entry (length coefs.now) equations coefs.now rhs k c
-    }
+    ensures written { (c : ℕ) → c < length coefs.now + equations + 1
+        → at cells.new (start + c) ≡ entry (length coefs.now) equations coefs.now rhs k c }
     ensures before { (p : ℕ) → p < start → at cells.new p ≡ at cells.old p }
     ensures after { (p : ℕ) → start + (length coefs.now + equations + 1) ≤ p → at cells.new p ≡ at cells.old p }
 {

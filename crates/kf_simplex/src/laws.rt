@@ -5,23 +5,19 @@ ghost use Rattle.kf_simplex.specs.Solutions.{WeakDuality};
 /// Where multipliers exist, no solution without negative entries does.
 pub fn weak_duality()
     ensures { WeakDuality }
-{
-}
+{}
 
 /// No basis comes twice in a run.
 pub fn no_run_returns()
     ensures { NoRunReturns }
-{
-}
+{}
 
 /// A run has at most as many tableaus as there are ways to choose a basis.
 pub fn no_run_is_long()
     ensures { NoRunIsLong }
-{
-}
+{}
 
 /// A system has one run.
 pub fn one_run()
     ensures { OneRun }
-{
-}
+{}

@@ -14,17 +14,11 @@ impl Table {
     // A basic unknown is its row's right side over its entry there; another is 0.
     pub(crate) fn solution(&self, alloc: Global) -> Result<FracList, AllocError>
         requires narrow { AllNarrow self.now.cells.items }
-        requires positive {
-            (i : ℕ) → i < self.now.equations → slice_index self.now.basis.items i < self.now.unknowns
-            → pos 0 <ℤ row_at self.now.cells.items (self.now.unknowns + self.now.equations + 1) i (slice_index self.now.basis.items i)
-        }
-        requires distinct {
-            (i k : ℕ) → i < k → k < self.now.equations → slice_index self.now.basis.items k ≢ slice_index self.now.basis.items i
-        }
-        ensures {
-            let s = sizes self.now.unknowns self.now.equations in
-            IfOk result (λ xs. IsSolutionOf s (tableau_of s self.now.cells.items self.now.basis.items) xs)
-        }
+        requires positive { (i : ℕ) → i < self.now.equations → slice_index self.now.basis.items i < self.now.unknowns
+            → pos 0 <ℤ row_at self.now.cells.items (self.now.unknowns + self.now.equations + 1) i (slice_index self.now.basis.items i) }
+        requires distinct { (i k : ℕ) → i < k → k < self.now.equations → slice_index self.now.basis.items k ≢ slice_index self.now.basis.items i }
+        ensures { let s = sizes self.now.unknowns self.now.equations in
+            IfOk result (λ xs. IsSolutionOf s (tableau_of s self.now.cells.items self.now.basis.items) xs) }
     {
         let zero = quotient(0, 1);
         let mut values = Vec::with_capacity(alloc, self.unknowns)?;
@@ -53,10 +47,8 @@ impl Table {
     // The objective row's entries at the artificial columns.
     pub(crate) fn multipliers(&self, alloc: Global) -> Result<NumberList, AllocError>
         requires { AllNarrow self.now.cells.items }
-        ensures {
-            let s = sizes self.now.unknowns self.now.equations in
-            IfOk result (λ ys. AreMultipliersOf s (tableau_of s self.now.cells.items self.now.basis.items) ys)
-        }
+        ensures { let s = sizes self.now.unknowns self.now.equations in
+            IfOk result (λ ys. AreMultipliersOf s (tableau_of s self.now.cells.items self.now.basis.items) ys) }
     {
         let mut numbers = Vec::with_capacity(alloc, self.equations)?;
         for k in 0..self.equations {

@@ -51,15 +51,11 @@ impl Table {
     // Goes from basis to basis until the run ends.
     pub(crate) fn run(&mut self, limit: u32) -> Ending
         ensures shape { (self.new.unknowns ≡ self.old.unknowns) × (self.new.equations ≡ self.old.equations) }
-        ensures runs {
-            (number : ℕ → ℕ → ℤ) → let s = system self.old.unknowns self.old.equations number in
-            IsSystem s → InRun s limit 0 self.old.cells.items self.old.basis.items → InRun s limit result.pivots self.new.cells.items self.new.basis.items
-        }
-        ensures ends {
-            (number : ℕ → ℕ → ℤ) → let s = system self.old.unknowns self.old.equations number in
+        ensures runs { (number : ℕ → ℕ → ℤ) → let s = system self.old.unknowns self.old.equations number in
+            IsSystem s → InRun s limit 0 self.old.cells.items self.old.basis.items → InRun s limit result.pivots self.new.cells.items self.new.basis.items }
+        ensures ends { (number : ℕ → ℕ → ℤ) → let s = system self.old.unknowns self.old.equations number in
             IsSystem s → InRun s limit 0 self.old.cells.items self.old.basis.items
-            → Ends s limit result.pivots (tableau_of s self.new.cells.items self.new.basis.items) (cause_of result.stop)
-        }
+            → Ends s limit result.pivots (tableau_of s self.new.cells.items self.new.basis.items) (cause_of result.stop) }
     {
         let mut pivots = 0;
         loop {
@@ -73,11 +69,9 @@ impl Table {
 
     // The first cause that applies to the tableau, or the next pivot.
     fn turn(&self, limit: u32, made: u32) -> Turn
-        ensures judges {
-            (number : ℕ → ℕ → ℤ) → let s = system self.now.unknowns self.now.equations number in
+        ensures judges { (number : ℕ → ℕ → ℤ) → let s = system self.now.unknowns self.now.equations number in
             IsSystem s → InRun s limit made self.now.cells.items self.now.basis.items
-            → Judges s limit made (tableau_of s self.now.cells.items self.now.basis.items) result
-        }
+            → Judges s limit made (tableau_of s self.now.cells.items self.now.basis.items) result }
         ensures inside { IsInside self.now.unknowns self.now.equations self.now.cells.items result }
         ensures goes_on { made ≡ limit → IsEnd result }
     {

@@ -1,1 +1,0 @@
-use Rattle.kf_simplex.proofs.building.first_basis.Goals as goal

@@ -1,4 +1,4 @@
-use Rattle.std.proofs.Common.{◌≡◌, ◌+◌, ◌<◌, ◌≤◌, ℕ, ℤ, pos, FitsSigned, arith, rules, refl, subst, length, to_z, of_z}
+use Rattle.std.proofs.Common.{◌≡◌, ◌+◌, ◌<◌, ℕ, pos, FitsSigned, arith, rules, refl, subst, length, to_z, of_z}
 use Rattle.std.proofs.lemmas.Int.{to_z-of_z, ints}
 use mir.Syntax.{w64, w128}
 use Rattle.kf_simplex.specs.Cells.{at}
@@ -18,7 +18,7 @@ returns-clause-written c =
     let y : FitsSigned w128 c.args.rhs = omega (arith, ints) in
     let all : c.loop-j.j ≡ length c.args.coefs.now = omega arith in
     (row_written c.args.cells.now c.loop-j.cells c.args.coefs.now c.args.rhs (pos 1) (to_z w128 (of_z w128 (to_z w64 (of_z w64 c.args.rhs)))) c.args.start c.args.equations c.args.k (omega arith) c.requires.equation refl (simp to_z-of_z) c.requires.empty
-        (subst (λ (n : ℕ). Written c.args.cells.now c.loop-j.cells c.args.coefs.now c.args.start n) all c.loop-j.invariant)).written
+    (subst (λ (n : ℕ). Written c.args.cells.now c.loop-j.cells c.args.coefs.now c.args.start n) all c.loop-j.invariant)).written
 
 pub returns-clause-before : goal.returns-clause-before
 returns-clause-before c =
@@ -26,7 +26,7 @@ returns-clause-before c =
     let y : FitsSigned w128 c.args.rhs = omega (arith, ints) in
     let all : c.loop-j.j ≡ length c.args.coefs.now = omega arith in
     (row_written c.args.cells.now c.loop-j.cells c.args.coefs.now c.args.rhs (pos 1) (to_z w128 (of_z w128 (to_z w64 (of_z w64 c.args.rhs)))) c.args.start c.args.equations c.args.k (omega arith) c.requires.equation refl (simp to_z-of_z) c.requires.empty
-        (subst (λ (n : ℕ). Written c.args.cells.now c.loop-j.cells c.args.coefs.now c.args.start n) all c.loop-j.invariant)).before
+    (subst (λ (n : ℕ). Written c.args.cells.now c.loop-j.cells c.args.coefs.now c.args.start n) all c.loop-j.invariant)).before
 
 pub returns-clause-after : goal.returns-clause-after
 returns-clause-after c =
@@ -34,4 +34,4 @@ returns-clause-after c =
     let y : FitsSigned w128 c.args.rhs = omega (arith, ints) in
     let all : c.loop-j.j ≡ length c.args.coefs.now = omega arith in
     (row_written c.args.cells.now c.loop-j.cells c.args.coefs.now c.args.rhs (pos 1) (to_z w128 (of_z w128 (to_z w64 (of_z w64 c.args.rhs)))) c.args.start c.args.equations c.args.k (omega arith) c.requires.equation refl (simp to_z-of_z) c.requires.empty
-        (subst (λ (n : ℕ). Written c.args.cells.now c.loop-j.cells c.args.coefs.now c.args.start n) all c.loop-j.invariant)).after
+    (subst (λ (n : ℕ). Written c.args.cells.now c.loop-j.cells c.args.coefs.now c.args.start n) all c.loop-j.invariant)).after

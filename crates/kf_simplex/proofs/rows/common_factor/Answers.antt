@@ -12,4 +12,4 @@ loop-x-preserved c =
     let f : FitsSigned w128 (at c.args.row.now c.loop-x.x-index) = search rules in
     let e = simp to_z-of_z at c.unsigned_abs.ensures.value in
     gcd_more c.args.row.now c.loop-x.x-index c.loop-x.g c.gcd-g.result c.loop-x.invariant (subst (λ (z : ℕ). IsGcd c.loop-x.g z c.gcd-g.result) e
-        (subst (λ (n : ℕ). IsGcd c.loop-x.g c.unsigned_abs.result n) (sym c.gcd-g.ensures) (gcd_is c.loop-x.g c.unsigned_abs.result)))
+    (subst (λ (n : ℕ). IsGcd c.loop-x.g c.unsigned_abs.result n) (sym c.gcd-g.ensures) (gcd_is c.loop-x.g c.unsigned_abs.result)))

@@ -1,4 +1,4 @@
-use Rattle.std.proofs.Common.{◌≡◌, ◌≢◌, ℕ, ◌+◌, ◌*◌, ◌<◌, ◌≤◌, length, ◌∙◌, sym}
+use Rattle.std.proofs.Common.{length, ◌∙◌}
 use Rattle.kf_simplex.specs.Runs.{EndsAt, wide, solution, multipliers, budget}
 use Rattle.kf_simplex.specs.Flat.{tableau_of}
 use Rattle.kf_simplex.specs.Views.{linear, number_at}
@@ -10,34 +10,34 @@ use Rattle.kf_simplex.proofs.solving.solve.Goals as goal
 pub returns-in-Wide-clause-run : goal.returns-in-Wide-clause-run
 returns-in-Wide-clause-run c =
     let end : EndsAt (linear c.args.s.now) c.args.pivots c.run-ending.result.pivots (tableau_of (linear c.args.s.now) c.run-ending.new.self.cells.items c.run-ending.new.self.basis.items) wide =
-        ended c.args.s.now.unknowns (length c.args.s.now.rows) c.in_ok-table.table.unknowns c.in_ok-table.table.equations (number_at c.args.s.now.unknowns c.args.s.now.rows) c.args.pivots c.run-ending.result.pivots c.in_ok-table.table.cells.items c.run-ending.new.self.cells.items
-            c.in_ok-table.table.basis.items c.run-ending.new.self.basis.items wide c.in_ok-table.ensures.shape.0 c.in_ok-table.ensures.shape.1 (linear_is_system c.args.s.now.unknowns c.args.s.now.rows)
-            (c.in_ok-table.ensures.first c.args.pivots) (c.run-ending.ensures.runs (number_at c.args.s.now.unknowns c.args.s.now.rows)) (rw c.in-Wide.is at (c.run-ending.ensures.ends (number_at c.args.s.now.unknowns c.args.s.now.rows))) in
+    ended c.args.s.now.unknowns (length c.args.s.now.rows) c.in_ok-table.table.unknowns c.in_ok-table.table.equations (number_at c.args.s.now.unknowns c.args.s.now.rows) c.args.pivots c.run-ending.result.pivots c.in_ok-table.table.cells.items c.run-ending.new.self.cells.items
+    c.in_ok-table.table.basis.items c.run-ending.new.self.basis.items wide c.in_ok-table.ensures.shape.0 c.in_ok-table.ensures.shape.1 (linear_is_system c.args.s.now.unknowns c.args.s.now.rows)
+    (c.in_ok-table.ensures.first c.args.pivots) (c.run-ending.ensures.runs (number_at c.args.s.now.unknowns c.args.s.now.rows)) (rw c.in-Wide.is at (c.run-ending.ensures.ends (number_at c.args.s.now.unknowns c.args.s.now.rows))) in
     (_, end)
 
 pub returns-in-Budget-clause-run : goal.returns-in-Budget-clause-run
 returns-in-Budget-clause-run c =
     let end : EndsAt (linear c.args.s.now) c.args.pivots c.run-ending.result.pivots (tableau_of (linear c.args.s.now) c.run-ending.new.self.cells.items c.run-ending.new.self.basis.items) budget =
-        ended c.args.s.now.unknowns (length c.args.s.now.rows) c.in_ok-table.table.unknowns c.in_ok-table.table.equations (number_at c.args.s.now.unknowns c.args.s.now.rows) c.args.pivots c.run-ending.result.pivots c.in_ok-table.table.cells.items c.run-ending.new.self.cells.items
-            c.in_ok-table.table.basis.items c.run-ending.new.self.basis.items budget c.in_ok-table.ensures.shape.0 c.in_ok-table.ensures.shape.1 (linear_is_system c.args.s.now.unknowns c.args.s.now.rows)
-            (c.in_ok-table.ensures.first c.args.pivots) (c.run-ending.ensures.runs (number_at c.args.s.now.unknowns c.args.s.now.rows)) (rw c.in-Budget.is at (c.run-ending.ensures.ends (number_at c.args.s.now.unknowns c.args.s.now.rows))) in
+    ended c.args.s.now.unknowns (length c.args.s.now.rows) c.in_ok-table.table.unknowns c.in_ok-table.table.equations (number_at c.args.s.now.unknowns c.args.s.now.rows) c.args.pivots c.run-ending.result.pivots c.in_ok-table.table.cells.items c.run-ending.new.self.cells.items
+    c.in_ok-table.table.basis.items c.run-ending.new.self.basis.items budget c.in_ok-table.ensures.shape.0 c.in_ok-table.ensures.shape.1 (linear_is_system c.args.s.now.unknowns c.args.s.now.rows)
+    (c.in_ok-table.ensures.first c.args.pivots) (c.run-ending.ensures.runs (number_at c.args.s.now.unknowns c.args.s.now.rows)) (rw c.in-Budget.is at (c.run-ending.ensures.ends (number_at c.args.s.now.unknowns c.args.s.now.rows))) in
     spent (linear c.args.s.now) c.args.pivots c.run-ending.result.pivots _ end
 
 pub returns-in-Budget-clause-enough : goal.returns-in-Budget-clause-enough
 returns-in-Budget-clause-enough c =
     let end : EndsAt (linear c.args.s.now) c.args.pivots c.run-ending.result.pivots (tableau_of (linear c.args.s.now) c.run-ending.new.self.cells.items c.run-ending.new.self.basis.items) budget =
-        ended c.args.s.now.unknowns (length c.args.s.now.rows) c.in_ok-table.table.unknowns c.in_ok-table.table.equations (number_at c.args.s.now.unknowns c.args.s.now.rows) c.args.pivots c.run-ending.result.pivots c.in_ok-table.table.cells.items c.run-ending.new.self.cells.items
-            c.in_ok-table.table.basis.items c.run-ending.new.self.basis.items budget c.in_ok-table.ensures.shape.0 c.in_ok-table.ensures.shape.1 (linear_is_system c.args.s.now.unknowns c.args.s.now.rows)
-            (c.in_ok-table.ensures.first c.args.pivots) (c.run-ending.ensures.runs (number_at c.args.s.now.unknowns c.args.s.now.rows)) (rw c.in-Budget.is at (c.run-ending.ensures.ends (number_at c.args.s.now.unknowns c.args.s.now.rows))) in
+    ended c.args.s.now.unknowns (length c.args.s.now.rows) c.in_ok-table.table.unknowns c.in_ok-table.table.equations (number_at c.args.s.now.unknowns c.args.s.now.rows) c.args.pivots c.run-ending.result.pivots c.in_ok-table.table.cells.items c.run-ending.new.self.cells.items
+    c.in_ok-table.table.basis.items c.run-ending.new.self.basis.items budget c.in_ok-table.ensures.shape.0 c.in_ok-table.ensures.shape.1 (linear_is_system c.args.s.now.unknowns c.args.s.now.rows)
+    (c.in_ok-table.ensures.first c.args.pivots) (c.run-ending.ensures.runs (number_at c.args.s.now.unknowns c.args.s.now.rows)) (rw c.in-Budget.is at (c.run-ending.ensures.ends (number_at c.args.s.now.unknowns c.args.s.now.rows))) in
     λ few same. budget_left (linear c.args.s.now) c.args.pivots (linear_is_system c.args.s.now.unknowns c.args.s.now.rows) few
-        (spent (linear c.args.s.now) c.args.pivots c.run-ending.result.pivots _ end)
+    (spent (linear c.args.s.now) c.args.pivots c.run-ending.result.pivots _ end)
 
 pub solution-requires-clause-narrow : goal.solution-requires-clause-narrow
 solution-requires-clause-narrow c =
     let end : EndsAt (linear c.args.s.now) c.args.pivots c.run-ending.result.pivots (tableau_of (linear c.args.s.now) c.run-ending.new.self.cells.items c.run-ending.new.self.basis.items) solution =
-        ended c.args.s.now.unknowns (length c.args.s.now.rows) c.in_ok-table.table.unknowns c.in_ok-table.table.equations (number_at c.args.s.now.unknowns c.args.s.now.rows) c.args.pivots c.run-ending.result.pivots c.in_ok-table.table.cells.items c.run-ending.new.self.cells.items
-            c.in_ok-table.table.basis.items c.run-ending.new.self.basis.items solution c.in_ok-table.ensures.shape.0 c.in_ok-table.ensures.shape.1 (linear_is_system c.args.s.now.unknowns c.args.s.now.rows)
-            (c.in_ok-table.ensures.first c.args.pivots) (c.run-ending.ensures.runs (number_at c.args.s.now.unknowns c.args.s.now.rows)) (rw c.in-Solution.is at (c.run-ending.ensures.ends (number_at c.args.s.now.unknowns c.args.s.now.rows))) in
+    ended c.args.s.now.unknowns (length c.args.s.now.rows) c.in_ok-table.table.unknowns c.in_ok-table.table.equations (number_at c.args.s.now.unknowns c.args.s.now.rows) c.args.pivots c.run-ending.result.pivots c.in_ok-table.table.cells.items c.run-ending.new.self.cells.items
+    c.in_ok-table.table.basis.items c.run-ending.new.self.basis.items solution c.in_ok-table.ensures.shape.0 c.in_ok-table.ensures.shape.1 (linear_is_system c.args.s.now.unknowns c.args.s.now.rows)
+    (c.in_ok-table.ensures.first c.args.pivots) (c.run-ending.ensures.runs (number_at c.args.s.now.unknowns c.args.s.now.rows)) (rw c.in-Solution.is at (c.run-ending.ensures.ends (number_at c.args.s.now.unknowns c.args.s.now.rows))) in
     let v = c.run-ending.ensures.shape.0 ∙ c.in_ok-table.ensures.shape.0 in
     let e = c.run-ending.ensures.shape.1 ∙ c.in_ok-table.ensures.shape.1 in
     narrow_cells c.args.s.now.unknowns (length c.args.s.now.rows) c.run-ending.new.self.unknowns c.run-ending.new.self.equations (number_at c.args.s.now.unknowns c.args.s.now.rows) c.args.pivots c.run-ending.result.pivots c.run-ending.new.self.cells.items c.run-ending.new.self.basis.items v e c.run-ending.new.self.cells_len end
@@ -45,9 +45,9 @@ solution-requires-clause-narrow c =
 pub solution-requires-clause-positive : goal.solution-requires-clause-positive
 solution-requires-clause-positive c =
     let end : EndsAt (linear c.args.s.now) c.args.pivots c.run-ending.result.pivots (tableau_of (linear c.args.s.now) c.run-ending.new.self.cells.items c.run-ending.new.self.basis.items) solution =
-        ended c.args.s.now.unknowns (length c.args.s.now.rows) c.in_ok-table.table.unknowns c.in_ok-table.table.equations (number_at c.args.s.now.unknowns c.args.s.now.rows) c.args.pivots c.run-ending.result.pivots c.in_ok-table.table.cells.items c.run-ending.new.self.cells.items
-            c.in_ok-table.table.basis.items c.run-ending.new.self.basis.items solution c.in_ok-table.ensures.shape.0 c.in_ok-table.ensures.shape.1 (linear_is_system c.args.s.now.unknowns c.args.s.now.rows)
-            (c.in_ok-table.ensures.first c.args.pivots) (c.run-ending.ensures.runs (number_at c.args.s.now.unknowns c.args.s.now.rows)) (rw c.in-Solution.is at (c.run-ending.ensures.ends (number_at c.args.s.now.unknowns c.args.s.now.rows))) in
+    ended c.args.s.now.unknowns (length c.args.s.now.rows) c.in_ok-table.table.unknowns c.in_ok-table.table.equations (number_at c.args.s.now.unknowns c.args.s.now.rows) c.args.pivots c.run-ending.result.pivots c.in_ok-table.table.cells.items c.run-ending.new.self.cells.items
+    c.in_ok-table.table.basis.items c.run-ending.new.self.basis.items solution c.in_ok-table.ensures.shape.0 c.in_ok-table.ensures.shape.1 (linear_is_system c.args.s.now.unknowns c.args.s.now.rows)
+    (c.in_ok-table.ensures.first c.args.pivots) (c.run-ending.ensures.runs (number_at c.args.s.now.unknowns c.args.s.now.rows)) (rw c.in-Solution.is at (c.run-ending.ensures.ends (number_at c.args.s.now.unknowns c.args.s.now.rows))) in
     let good = good_end (linear c.args.s.now) c.args.pivots c.run-ending.result.pivots _ solution (linear_is_system c.args.s.now.unknowns c.args.s.now.rows) end in
     let v = c.run-ending.ensures.shape.0 ∙ c.in_ok-table.ensures.shape.0 in
     let e = c.run-ending.ensures.shape.1 ∙ c.in_ok-table.ensures.shape.1 in
@@ -56,9 +56,9 @@ solution-requires-clause-positive c =
 pub solution-requires-clause-distinct : goal.solution-requires-clause-distinct
 solution-requires-clause-distinct c =
     let end : EndsAt (linear c.args.s.now) c.args.pivots c.run-ending.result.pivots (tableau_of (linear c.args.s.now) c.run-ending.new.self.cells.items c.run-ending.new.self.basis.items) solution =
-        ended c.args.s.now.unknowns (length c.args.s.now.rows) c.in_ok-table.table.unknowns c.in_ok-table.table.equations (number_at c.args.s.now.unknowns c.args.s.now.rows) c.args.pivots c.run-ending.result.pivots c.in_ok-table.table.cells.items c.run-ending.new.self.cells.items
-            c.in_ok-table.table.basis.items c.run-ending.new.self.basis.items solution c.in_ok-table.ensures.shape.0 c.in_ok-table.ensures.shape.1 (linear_is_system c.args.s.now.unknowns c.args.s.now.rows)
-            (c.in_ok-table.ensures.first c.args.pivots) (c.run-ending.ensures.runs (number_at c.args.s.now.unknowns c.args.s.now.rows)) (rw c.in-Solution.is at (c.run-ending.ensures.ends (number_at c.args.s.now.unknowns c.args.s.now.rows))) in
+    ended c.args.s.now.unknowns (length c.args.s.now.rows) c.in_ok-table.table.unknowns c.in_ok-table.table.equations (number_at c.args.s.now.unknowns c.args.s.now.rows) c.args.pivots c.run-ending.result.pivots c.in_ok-table.table.cells.items c.run-ending.new.self.cells.items
+    c.in_ok-table.table.basis.items c.run-ending.new.self.basis.items solution c.in_ok-table.ensures.shape.0 c.in_ok-table.ensures.shape.1 (linear_is_system c.args.s.now.unknowns c.args.s.now.rows)
+    (c.in_ok-table.ensures.first c.args.pivots) (c.run-ending.ensures.runs (number_at c.args.s.now.unknowns c.args.s.now.rows)) (rw c.in-Solution.is at (c.run-ending.ensures.ends (number_at c.args.s.now.unknowns c.args.s.now.rows))) in
     let good = good_end (linear c.args.s.now) c.args.pivots c.run-ending.result.pivots _ solution (linear_is_system c.args.s.now.unknowns c.args.s.now.rows) end in
     let v = c.run-ending.ensures.shape.0 ∙ c.in_ok-table.ensures.shape.0 in
     let e = c.run-ending.ensures.shape.1 ∙ c.in_ok-table.ensures.shape.1 in
@@ -67,9 +67,9 @@ solution-requires-clause-distinct c =
 pub returns-in-Solution-clause-run : goal.returns-in-Solution-clause-run
 returns-in-Solution-clause-run c =
     let end : EndsAt (linear c.args.s.now) c.args.pivots c.run-ending.result.pivots (tableau_of (linear c.args.s.now) c.run-ending.new.self.cells.items c.run-ending.new.self.basis.items) solution =
-        ended c.args.s.now.unknowns (length c.args.s.now.rows) c.in_ok-table.table.unknowns c.in_ok-table.table.equations (number_at c.args.s.now.unknowns c.args.s.now.rows) c.args.pivots c.run-ending.result.pivots c.in_ok-table.table.cells.items c.run-ending.new.self.cells.items
-            c.in_ok-table.table.basis.items c.run-ending.new.self.basis.items solution c.in_ok-table.ensures.shape.0 c.in_ok-table.ensures.shape.1 (linear_is_system c.args.s.now.unknowns c.args.s.now.rows)
-            (c.in_ok-table.ensures.first c.args.pivots) (c.run-ending.ensures.runs (number_at c.args.s.now.unknowns c.args.s.now.rows)) (rw c.in-Solution.is at (c.run-ending.ensures.ends (number_at c.args.s.now.unknowns c.args.s.now.rows))) in
+    ended c.args.s.now.unknowns (length c.args.s.now.rows) c.in_ok-table.table.unknowns c.in_ok-table.table.equations (number_at c.args.s.now.unknowns c.args.s.now.rows) c.args.pivots c.run-ending.result.pivots c.in_ok-table.table.cells.items c.run-ending.new.self.cells.items
+    c.in_ok-table.table.basis.items c.run-ending.new.self.basis.items solution c.in_ok-table.ensures.shape.0 c.in_ok-table.ensures.shape.1 (linear_is_system c.args.s.now.unknowns c.args.s.now.rows)
+    (c.in_ok-table.ensures.first c.args.pivots) (c.run-ending.ensures.runs (number_at c.args.s.now.unknowns c.args.s.now.rows)) (rw c.in-Solution.is at (c.run-ending.ensures.ends (number_at c.args.s.now.unknowns c.args.s.now.rows))) in
     let v = c.run-ending.ensures.shape.0 ∙ c.in_ok-table.ensures.shape.0 in
     let e = c.run-ending.ensures.shape.1 ∙ c.in_ok-table.ensures.shape.1 in
     (_, _, end, solution_read c.args.s.now.unknowns (length c.args.s.now.rows) c.run-ending.new.self.unknowns c.run-ending.new.self.equations (number_at c.args.s.now.unknowns c.args.s.now.rows) c.run-ending.new.self.cells.items c.run-ending.new.self.basis.items c.in_ok-solution-in-Solution.field-0 v e c.in_ok-solution-in-Solution.ensures)
@@ -77,9 +77,9 @@ returns-in-Solution-clause-run c =
 pub returns-in-Solution-clause-right : goal.returns-in-Solution-clause-right
 returns-in-Solution-clause-right c =
     let end : EndsAt (linear c.args.s.now) c.args.pivots c.run-ending.result.pivots (tableau_of (linear c.args.s.now) c.run-ending.new.self.cells.items c.run-ending.new.self.basis.items) solution =
-        ended c.args.s.now.unknowns (length c.args.s.now.rows) c.in_ok-table.table.unknowns c.in_ok-table.table.equations (number_at c.args.s.now.unknowns c.args.s.now.rows) c.args.pivots c.run-ending.result.pivots c.in_ok-table.table.cells.items c.run-ending.new.self.cells.items
-            c.in_ok-table.table.basis.items c.run-ending.new.self.basis.items solution c.in_ok-table.ensures.shape.0 c.in_ok-table.ensures.shape.1 (linear_is_system c.args.s.now.unknowns c.args.s.now.rows)
-            (c.in_ok-table.ensures.first c.args.pivots) (c.run-ending.ensures.runs (number_at c.args.s.now.unknowns c.args.s.now.rows)) (rw c.in-Solution.is at (c.run-ending.ensures.ends (number_at c.args.s.now.unknowns c.args.s.now.rows))) in
+    ended c.args.s.now.unknowns (length c.args.s.now.rows) c.in_ok-table.table.unknowns c.in_ok-table.table.equations (number_at c.args.s.now.unknowns c.args.s.now.rows) c.args.pivots c.run-ending.result.pivots c.in_ok-table.table.cells.items c.run-ending.new.self.cells.items
+    c.in_ok-table.table.basis.items c.run-ending.new.self.basis.items solution c.in_ok-table.ensures.shape.0 c.in_ok-table.ensures.shape.1 (linear_is_system c.args.s.now.unknowns c.args.s.now.rows)
+    (c.in_ok-table.ensures.first c.args.pivots) (c.run-ending.ensures.runs (number_at c.args.s.now.unknowns c.args.s.now.rows)) (rw c.in-Solution.is at (c.run-ending.ensures.ends (number_at c.args.s.now.unknowns c.args.s.now.rows))) in
     let good = good_end (linear c.args.s.now) c.args.pivots c.run-ending.result.pivots _ solution (linear_is_system c.args.s.now.unknowns c.args.s.now.rows) end in
     let v = c.run-ending.ensures.shape.0 ∙ c.in_ok-table.ensures.shape.0 in
     let e = c.run-ending.ensures.shape.1 ∙ c.in_ok-table.ensures.shape.1 in
@@ -89,9 +89,9 @@ returns-in-Solution-clause-right c =
 pub multipliers-requires : goal.multipliers-requires
 multipliers-requires c =
     let end : EndsAt (linear c.args.s.now) c.args.pivots c.run-ending.result.pivots (tableau_of (linear c.args.s.now) c.run-ending.new.self.cells.items c.run-ending.new.self.basis.items) multipliers =
-        ended c.args.s.now.unknowns (length c.args.s.now.rows) c.in_ok-table.table.unknowns c.in_ok-table.table.equations (number_at c.args.s.now.unknowns c.args.s.now.rows) c.args.pivots c.run-ending.result.pivots c.in_ok-table.table.cells.items c.run-ending.new.self.cells.items
-            c.in_ok-table.table.basis.items c.run-ending.new.self.basis.items multipliers c.in_ok-table.ensures.shape.0 c.in_ok-table.ensures.shape.1 (linear_is_system c.args.s.now.unknowns c.args.s.now.rows)
-            (c.in_ok-table.ensures.first c.args.pivots) (c.run-ending.ensures.runs (number_at c.args.s.now.unknowns c.args.s.now.rows)) (rw c.in-Multipliers.is at (c.run-ending.ensures.ends (number_at c.args.s.now.unknowns c.args.s.now.rows))) in
+    ended c.args.s.now.unknowns (length c.args.s.now.rows) c.in_ok-table.table.unknowns c.in_ok-table.table.equations (number_at c.args.s.now.unknowns c.args.s.now.rows) c.args.pivots c.run-ending.result.pivots c.in_ok-table.table.cells.items c.run-ending.new.self.cells.items
+    c.in_ok-table.table.basis.items c.run-ending.new.self.basis.items multipliers c.in_ok-table.ensures.shape.0 c.in_ok-table.ensures.shape.1 (linear_is_system c.args.s.now.unknowns c.args.s.now.rows)
+    (c.in_ok-table.ensures.first c.args.pivots) (c.run-ending.ensures.runs (number_at c.args.s.now.unknowns c.args.s.now.rows)) (rw c.in-Multipliers.is at (c.run-ending.ensures.ends (number_at c.args.s.now.unknowns c.args.s.now.rows))) in
     let v = c.run-ending.ensures.shape.0 ∙ c.in_ok-table.ensures.shape.0 in
     let e = c.run-ending.ensures.shape.1 ∙ c.in_ok-table.ensures.shape.1 in
     narrow_cells_too c.args.s.now.unknowns (length c.args.s.now.rows) c.run-ending.new.self.unknowns c.run-ending.new.self.equations (number_at c.args.s.now.unknowns c.args.s.now.rows) c.args.pivots c.run-ending.result.pivots c.run-ending.new.self.cells.items c.run-ending.new.self.basis.items v e c.run-ending.new.self.cells_len end
@@ -99,9 +99,9 @@ multipliers-requires c =
 pub returns-clause-run : goal.returns-clause-run
 returns-clause-run c =
     let end : EndsAt (linear c.args.s.now) c.args.pivots c.run-ending.result.pivots (tableau_of (linear c.args.s.now) c.run-ending.new.self.cells.items c.run-ending.new.self.basis.items) multipliers =
-        ended c.args.s.now.unknowns (length c.args.s.now.rows) c.in_ok-table.table.unknowns c.in_ok-table.table.equations (number_at c.args.s.now.unknowns c.args.s.now.rows) c.args.pivots c.run-ending.result.pivots c.in_ok-table.table.cells.items c.run-ending.new.self.cells.items
-            c.in_ok-table.table.basis.items c.run-ending.new.self.basis.items multipliers c.in_ok-table.ensures.shape.0 c.in_ok-table.ensures.shape.1 (linear_is_system c.args.s.now.unknowns c.args.s.now.rows)
-            (c.in_ok-table.ensures.first c.args.pivots) (c.run-ending.ensures.runs (number_at c.args.s.now.unknowns c.args.s.now.rows)) (rw c.in-Multipliers.is at (c.run-ending.ensures.ends (number_at c.args.s.now.unknowns c.args.s.now.rows))) in
+    ended c.args.s.now.unknowns (length c.args.s.now.rows) c.in_ok-table.table.unknowns c.in_ok-table.table.equations (number_at c.args.s.now.unknowns c.args.s.now.rows) c.args.pivots c.run-ending.result.pivots c.in_ok-table.table.cells.items c.run-ending.new.self.cells.items
+    c.in_ok-table.table.basis.items c.run-ending.new.self.basis.items multipliers c.in_ok-table.ensures.shape.0 c.in_ok-table.ensures.shape.1 (linear_is_system c.args.s.now.unknowns c.args.s.now.rows)
+    (c.in_ok-table.ensures.first c.args.pivots) (c.run-ending.ensures.runs (number_at c.args.s.now.unknowns c.args.s.now.rows)) (rw c.in-Multipliers.is at (c.run-ending.ensures.ends (number_at c.args.s.now.unknowns c.args.s.now.rows))) in
     let v = c.run-ending.ensures.shape.0 ∙ c.in_ok-table.ensures.shape.0 in
     let e = c.run-ending.ensures.shape.1 ∙ c.in_ok-table.ensures.shape.1 in
     (_, _, end, multipliers_read c.args.s.now.unknowns (length c.args.s.now.rows) c.run-ending.new.self.unknowns c.run-ending.new.self.equations (number_at c.args.s.now.unknowns c.args.s.now.rows) c.run-ending.new.self.cells.items c.run-ending.new.self.basis.items c.in_ok-multipliers-in-Multipliers.field-0 v e c.in_ok-multipliers-in-Multipliers.ensures)
@@ -109,9 +109,9 @@ returns-clause-run c =
 pub returns-clause-right : goal.returns-clause-right
 returns-clause-right c =
     let end : EndsAt (linear c.args.s.now) c.args.pivots c.run-ending.result.pivots (tableau_of (linear c.args.s.now) c.run-ending.new.self.cells.items c.run-ending.new.self.basis.items) multipliers =
-        ended c.args.s.now.unknowns (length c.args.s.now.rows) c.in_ok-table.table.unknowns c.in_ok-table.table.equations (number_at c.args.s.now.unknowns c.args.s.now.rows) c.args.pivots c.run-ending.result.pivots c.in_ok-table.table.cells.items c.run-ending.new.self.cells.items
-            c.in_ok-table.table.basis.items c.run-ending.new.self.basis.items multipliers c.in_ok-table.ensures.shape.0 c.in_ok-table.ensures.shape.1 (linear_is_system c.args.s.now.unknowns c.args.s.now.rows)
-            (c.in_ok-table.ensures.first c.args.pivots) (c.run-ending.ensures.runs (number_at c.args.s.now.unknowns c.args.s.now.rows)) (rw c.in-Multipliers.is at (c.run-ending.ensures.ends (number_at c.args.s.now.unknowns c.args.s.now.rows))) in
+    ended c.args.s.now.unknowns (length c.args.s.now.rows) c.in_ok-table.table.unknowns c.in_ok-table.table.equations (number_at c.args.s.now.unknowns c.args.s.now.rows) c.args.pivots c.run-ending.result.pivots c.in_ok-table.table.cells.items c.run-ending.new.self.cells.items
+    c.in_ok-table.table.basis.items c.run-ending.new.self.basis.items multipliers c.in_ok-table.ensures.shape.0 c.in_ok-table.ensures.shape.1 (linear_is_system c.args.s.now.unknowns c.args.s.now.rows)
+    (c.in_ok-table.ensures.first c.args.pivots) (c.run-ending.ensures.runs (number_at c.args.s.now.unknowns c.args.s.now.rows)) (rw c.in-Multipliers.is at (c.run-ending.ensures.ends (number_at c.args.s.now.unknowns c.args.s.now.rows))) in
     let good = good_end (linear c.args.s.now) c.args.pivots c.run-ending.result.pivots _ multipliers (linear_is_system c.args.s.now.unknowns c.args.s.now.rows) end in
     let v = c.run-ending.ensures.shape.0 ∙ c.in_ok-table.ensures.shape.0 in
     let e = c.run-ending.ensures.shape.1 ∙ c.in_ok-table.ensures.shape.1 in

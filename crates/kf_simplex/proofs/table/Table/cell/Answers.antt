@@ -13,4 +13,4 @@ returns c =
     to_z-of_z w128 c.index.result.now f
     ∙ c.index.ensures
     ∙ get_or_default c.args.self.now.cells.items (c.args.row * (c.args.self.now.unknowns + c.args.self.now.equations + 1) + c.args.column) c.index.result.now (pos 0)
-        (omega (arith, c.args.self.now.cells_len, mul-le-mul_right (c.args.self.now.unknowns + c.args.self.now.equations + 1) next))
+    (omega (arith, c.args.self.now.cells_len, mul-le-mul_right (c.args.self.now.unknowns + c.args.self.now.equations + 1) next))

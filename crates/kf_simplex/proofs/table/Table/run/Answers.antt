@@ -1,4 +1,4 @@
-use Rattle.std.proofs.Common.{◌≡◌, ◌≢◌, ◌+◌, ◌*◌, ◌≤◌, ℕ, arith, ◌∙◌}
+use Rattle.std.proofs.Common.{◌≢◌, ◌+◌, ◌*◌, arith, ◌∙◌}
 use Rattle.kf_simplex.specs.Systems.{IsSystem}
 use Rattle.kf_simplex.specs.Runs.{Ends}
 use Rattle.kf_simplex.specs.Flat.{tableau_of}
@@ -13,7 +13,7 @@ pub returns-in-Ends-clause-ends : goal.returns-in-Ends-clause-ends
 returns-in-Ends-clause-ends c = λ number y r.
     along
     (λ v e. IsSystem (system v e number) → InRun (system v e number) c.args.limit c.loop-stop.pivots c.loop-stop.self.cells.items c.loop-stop.self.basis.items
-        → Ends (system v e number) c.args.limit c.loop-stop.pivots (tableau_of (system v e number) c.loop-stop.self.cells.items c.loop-stop.self.basis.items) (cause_of c.in-Ends.stop))
+    → Ends (system v e number) c.args.limit c.loop-stop.pivots (tableau_of (system v e number) c.loop-stop.self.cells.items c.loop-stop.self.basis.items) (cause_of c.in-Ends.stop))
     c.args.self.now.unknowns c.args.self.now.equations c.loop-stop.self.unknowns c.loop-stop.self.equations c.loop-stop.invariant.unknowns c.loop-stop.invariant.equations
     (λ y' r'. c.in-Ends.ensures.judges number y' r') y (c.loop-stop.invariant.runs number y r)
 
@@ -25,12 +25,12 @@ loop-stop-preserved c = record {
   runs = λ number y r.
       along
       (λ v e. IsSystem (system v e number) → InRun (system v e number) c.args.limit c.loop-stop.pivots c.loop-stop.self.cells.items c.loop-stop.self.basis.items
-          → InRun (system v e number) c.args.limit (c.loop-stop.pivots + 1) c.pivot.new.self.cells.items c.pivot.new.self.basis.items)
+      → InRun (system v e number) c.args.limit (c.loop-stop.pivots + 1) c.pivot.new.self.cells.items c.pivot.new.self.basis.items)
       c.args.self.now.unknowns c.args.self.now.equations c.loop-stop.self.unknowns c.loop-stop.self.equations c.loop-stop.invariant.unknowns c.loop-stop.invariant.equations
       (λ y' r'. in_run_more (system c.loop-stop.self.unknowns c.loop-stop.self.equations number) c.args.limit c.loop-stop.pivots c.loop-stop.self.cells.items c.pivot.new.self.cells.items
-          c.loop-stop.self.basis.items c.pivot.new.self.basis.items c.pivot.new.self.chosen.items c.in-Pivot.column c.in-Pivot.row y' r' (c.in-Pivot.ensures.judges number y' r')
-          c.loop-stop.self.basis_len (omega (arith, c.pivot.new.self.chosen_len, c.pivot.ensures.shape))
-          (λ x l. at-range c.loop-stop.self.cells.items c.pivot.new.self.chosen.items (c.in-Pivot.row * (c.loop-stop.self.unknowns + c.loop-stop.self.equations + 1)) (c.loop-stop.self.unknowns + c.loop-stop.self.equations + 1) x c.pivot.ensures.chosen (omega arith))
-          c.pivot.ensures.cells c.pivot.ensures.basis)
+      c.loop-stop.self.basis.items c.pivot.new.self.basis.items c.pivot.new.self.chosen.items c.in-Pivot.column c.in-Pivot.row y' r' (c.in-Pivot.ensures.judges number y' r')
+      c.loop-stop.self.basis_len (omega (arith, c.pivot.new.self.chosen_len, c.pivot.ensures.shape))
+      (λ x l. at-range c.loop-stop.self.cells.items c.pivot.new.self.chosen.items (c.in-Pivot.row * (c.loop-stop.self.unknowns + c.loop-stop.self.equations + 1)) (c.loop-stop.self.unknowns + c.loop-stop.self.equations + 1) x c.pivot.ensures.chosen (omega arith))
+      c.pivot.ensures.cells c.pivot.ensures.basis)
       y (c.loop-stop.invariant.runs number y r);
 }

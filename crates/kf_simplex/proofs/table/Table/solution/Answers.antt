@@ -1,9 +1,8 @@
-use Rattle.std.proofs.Common.{◌≡◌, ◌+◌, ◌*◌, ◌<◌, ◌≤◌, ℕ, FitsSigned, to_z, of_z, arith, rules, sym, ap, subst, ◌∙◌, length, get_or, List}
+use Rattle.std.proofs.Common.{◌≡◌, FitsSigned, arith, rules, sym, subst, ◌∙◌, get_or, List}
 use Rattle.std.proofs.lemmas.Int.{to_z-of_z}
 use Rattle.std.proofs.lemmas.List.{get_or_default}
 use mir.Syntax.{w128}
 use Rattle.kf_frac.specs.declared.frac.Frac.{Frac}
-use Rattle.kf_simplex.specs.Cells.{row_at}
 use Rattle.kf_simplex.specs.Answers.{IsSolutionOf}
 use Rattle.kf_simplex.specs.Flat.{tableau_of}
 use Rattle.kf_simplex.specs.Turns.{sizes}
@@ -14,19 +13,19 @@ use Rattle.kf_simplex.proofs.table.Table.solution.Goals.{then-column-self, else-
 pub loop-i-preserved : goal.loop-i-preserved
 loop-i-preserved c =
     let column : c.index-column.result.now ≡ get_or c.args.self.now.basis.items c.loop-i.i 0 =
-        c.index-column.ensures ∙ get_or_default c.args.self.now.basis.items c.loop-i.i c.index-column.result.now 0 (omega (arith, c.args.self.now.basis_len)) in
+    c.index-column.ensures ∙ get_or_default c.args.self.now.basis.items c.loop-i.i c.index-column.result.now 0 (omega (arith, c.args.self.now.basis_len)) in
     elim c.if-column-self.branch [
       | then-column-self w ↦
           let entry : FitsSigned w128 w.cell.result = search rules in
           let right : FitsSigned w128 w.cell-right.result = search rules in
           rw w.values-is
           (read_column c.args.self.now.cells.items c.args.self.now.basis.items c.args.self.now.unknowns c.args.self.now.equations c.loop-i.values.items c.loop-i.i c.index-column.result.now w.quotient.result
-              w.cell.result w.cell-right.result column w.if-column-self.true (λ k l. c.requires.distinct k c.loop-i.i l c.loop-i-test.true) w.cell.ensures w.cell-right.ensures
-              (simp to_z-of_z at w.quotient.ensures) c.loop-i.invariant)
+          w.cell.result w.cell-right.result column w.if-column-self.true (λ k l. c.requires.distinct k c.loop-i.i l c.loop-i-test.true) w.cell.ensures w.cell-right.ensures
+          (simp to_z-of_z at w.quotient.ensures) c.loop-i.invariant)
       | else-column-self w ↦
           rw w.values-is
           (read_past c.args.self.now.cells.items c.args.self.now.basis.items c.args.self.now.unknowns c.args.self.now.equations c.loop-i.values.items c.loop-i.i c.index-column.result.now column
-              w.if-column-self.false c.loop-i.invariant)
+          w.if-column-self.false c.loop-i.invariant)
     ]
 
 pub quotient-requires-clause-num : goal.quotient-requires-clause-num

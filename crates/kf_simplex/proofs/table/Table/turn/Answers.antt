@@ -1,5 +1,4 @@
-use Rattle.std.proofs.Common.{◌≡◌, ◌≢◌, ◌+◌, ◌*◌, ℕ, pos, refl, sym, ◌∙◌, arith}
-use Rattle.std.proofs.lemmas.Int.{ints}
+use Rattle.std.proofs.Common.{◌≡◌, pos, refl, ◌∙◌}
 use Rattle.kf_simplex.specs.Turns.{system}
 use Rattle.kf_simplex.proofs.FlatTurns.{yes_of, not_of, not_narrow, never, goes_on}
 use Rattle.kf_simplex.proofs.table.Table.turn.Goals as goal

@@ -1,7 +1,7 @@
 -- Rows in flat lists: their common factors, cross products and places.
 use Rattle.std.proofs.Common.{◌≡◌, ◌≢◌, ℕ, zero, suc, ◌+◌, ◌*◌, ◌/◌, ◌<◌, ◌≤◌, ◌^◌, refl, sym, ap, ◌∙◌, subst, arith, rules, ⊎_elim, ◌⊎◌, inl, inr, length, set, get_or-set_other, get_or-set_same, unsigned_abs, List, FitsSigned}
 use Rattle.std.proofs.Math.IntN.{ℤ, pos, negsuc, ◌-ℤ◌, ◌*ℤ◌, neg_ℤ}
-use Rattle.std.proofs.Math.Nat.{mul-div_cancel', mul-le-mul, mul-le-mul_left, mul-le-mul_right, eq-zero_of_zero-dvd, mul-dvd-mul_left}
+use Rattle.std.proofs.Math.Nat.{mul-div_cancel', mul-le-mul, mul-le-mul_left, mul-le-mul_right, eq-zero_of_zero-dvd, one-dvd, mul-dvd-mul_left}
 use Rattle.std.proofs.lemmas.Int.{ints, fits_signed_mul, unsigned_abs-mul}
 use Rattle.std.proofs.lemmas.Bool.{cases_eq, cases_lt}
 use Rattle.std.proofs.lemmas.Nat.Gcd.{dvd_trans, dvd-zero, le_of_dvd}
@@ -35,6 +35,13 @@ pub gcd_more : (xs : List ℤ) (n g h : ℕ) → IsCommonGcd xs n g → IsGcd g 
 gcd_more xs n g h i q = record {
   divides = λ k l. ⊎_elim (λ (m : k < n). dvd_trans h q.0 (i.divides k m)) (λ (m : n ≤ k). let e : k ≡ n = omega arith in subst (λ (z : ℕ). h ∣ unsigned_abs (at xs z)) (sym e) q.1) (cases_lt k n);
   greatest = λ d all. q.2 d (i.greatest d (λ (k : ℕ) (l : k < n). all k (omega arith))) (all n (omega arith));
+}
+
+-- once the divisor is 1 it stays so
+pub gcd_one : (xs : List ℤ) (n m : ℕ) → n ≤ m → IsCommonGcd xs n 1 → IsCommonGcd xs m 1
+gcd_one xs n m l i = record {
+  divides = λ k u. one-dvd (unsigned_abs (at xs k));
+  greatest = λ d all. i.greatest d (λ (k : ℕ) (u : k < n). all k (omega arith));
 }
 
 -- a write at k keeps a property of each index below, and gives it at k

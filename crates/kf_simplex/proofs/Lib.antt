@@ -2,6 +2,7 @@ pub mod Choices
 pub mod Counting
 pub mod Duality
 pub mod Endings
+pub mod EndsOnce
 pub mod Equations
 pub mod Falls
 pub mod FirstTableau

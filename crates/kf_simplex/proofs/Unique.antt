@@ -1,5 +1,5 @@
 -- A system has one run.
-use Rattle.std.proofs.Common.{◌≡◌, ◌≢◌, ℕ, zero, suc, ◌+◌, ◌<◌, ◌≤◌, refl, sym, ap, ◌∙◌, arith, ⊎_elim, ◌⊎◌, inl, inr, subst, [], ◌∷◌}
+use Rattle.std.proofs.Common.{◌≡◌, ◌≢◌, ℕ, zero, suc, ◌+◌, ◌<◌, ◌≤◌, refl, sym, ap, ◌∙◌, arith, ⊎_elim, ◌⊎◌, inl, inr, subst, List, [], ◌∷◌, length}
 use Rattle.std.proofs.Math.IntN.{ℤ, pos, negsuc, ◌*ℤ◌}
 use Rattle.std.proofs.lemmas.Int.{ints}
 use Rattle.std.proofs.lemmas.Bool.{cases_eq, cases_lt}
@@ -9,9 +9,9 @@ use Rattle.kf_simplex.proofs.Falls.{same_objective, key_in_range}
 use Rattle.kf_simplex.proofs.RunFacts.{IsGood, basic_of, run_facts}
 use Rattle.kf_simplex.proofs.Signs.{factor_zero}
 use Rattle.kf_simplex.specs.Tableaus.{Row, Tableau, IsRowOf}
-use Rattle.kf_simplex.specs.Systems.{LinearSystem, right_column}
-use Rattle.kf_simplex.specs.Runs.{Enters, Leaves, key, key_column}
-use Rattle.kf_simplex.specs.RunLaws.{SameTableau, OneRun}
+use Rattle.kf_simplex.specs.Systems.{LinearSystem, IsSystem, right_column}
+use Rattle.kf_simplex.specs.Runs.{Enters, IsRun, Leaves, key, key_column}
+use Rattle.kf_simplex.specs.RunLaws.{SameTableau}
 
 row_along : (s : LinearSystem) (a b : ℕ → ℕ) → ((k : ℕ) → k < s.equations → a k ≡ b k) → (i : ℕ) (r : Row) → i < s.equations → IsRowOf s a i r → IsRowOf s b i r
 row_along s a b e i r l h = record {
@@ -88,7 +88,8 @@ one_leaving s rows rows' c r i lc e a b = ⊎_elim (λ (q : r ≡ i). q)
     (e i (key_column s y.0) b.row (key_in_range s y.0 y.1)) (e r (key_column s y.0) a.row (key_in_range s y.0 y.1)) er ei y.3)))
     (cases_eq r i)
 
-pub one_run : OneRun
+-- two runs of one length end with the same numbers
+pub one_run : (s : LinearSystem) (limit : ℕ) (t u : Tableau) (ts us : List Tableau) → IsSystem s → IsRun s limit (t ∷ ts) → IsRun s limit (u ∷ us) → length ts ≡ length us → SameTableau s t u
 one_run s limit t u [] [] y a b e = same_from_basis s t u ((run_facts s limit t [] y a).0) ((run_facts s limit u [] y b).0) (λ k l. a.1 k l ∙ sym (b.1 k l))
 one_run s limit t u [] (v ∷ vs) y a b e = absurd (omega arith)
 one_run s limit t u (v ∷ vs) [] y a b e = absurd (omega arith)

@@ -2,7 +2,7 @@
 use Rattle.std.specs.Prelude.{◌≡◌, ℕ, zero, suc, ◌+◌, ◌<◌, ◌≤◌, List, [], ◌∷◌, length}
 use Rattle.kf_simplex.specs.Systems.{LinearSystem, IsSystem, right_column}
 use Rattle.kf_simplex.specs.Tableaus.{Tableau}
-use Rattle.kf_simplex.specs.Runs.{IsRun}
+use Rattle.kf_simplex.specs.Runs.{Cause, EndsAt, IsRun}
 
 -- every column of the one basis stands in the other
 abbrev pub SameColumns : ℕ → (ℕ → ℕ) → (ℕ → ℕ) → Type 0
@@ -37,6 +37,6 @@ pub record SameTableau (s : LinearSystem) (t u : Tableau) : Type 0 where
   pub rows : (i c : ℕ) → i < s.equations → c ≤ right_column s → t.rows i c ≡ u.rows i c
   pub objective : (c : ℕ) → c ≤ right_column s → t.objective c ≡ u.objective c
 
--- two runs of one length end with the same numbers
-abbrev pub OneRun : Type 0
-OneRun = (s : LinearSystem) (limit : ℕ) (t u : Tableau) (ts us : List Tableau) → IsSystem s → IsRun s limit (t ∷ ts) → IsRun s limit (u ∷ us) → length ts ≡ length us → SameTableau s t u
+-- a run ends once: after one number of pivots, at one tableau and for one cause
+abbrev pub OneAnswer : Type 0
+OneAnswer = (s : LinearSystem) (limit p q : ℕ) (t u : Tableau) (c d : Cause) → IsSystem s → EndsAt s limit p t c → EndsAt s limit q u d → (p ≡ q) × SameTableau s t u × (c ≡ d)

@@ -1,5 +1,5 @@
 //! Laws of the definitions, each a clause of a function that does nothing.
-ghost use Rattle.kf_simplex.specs.RunLaws.{NoRunIsLong, NoRunReturns, OneRun};
+ghost use Rattle.kf_simplex.specs.RunLaws.{NoRunIsLong, NoRunReturns, OneAnswer};
 ghost use Rattle.kf_simplex.specs.Solutions.{WeakDuality};
 
 /// Where multipliers exist, no solution without negative entries does.
@@ -17,7 +17,7 @@ pub fn no_run_is_long()
     ensures { NoRunIsLong }
 {}
 
-/// A system has one run.
-pub fn one_run()
-    ensures { OneRun }
+/// A run ends after one number of pivots, at one tableau and for one cause.
+pub fn one_answer()
+    ensures { OneAnswer }
 {}

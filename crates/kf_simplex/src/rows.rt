@@ -48,6 +48,9 @@ fn common_factor(row: &[i128]) -> u128
 {
     let mut g = 0;
     for x in row {
+        if g == 1 {
+            return 1;
+        }
         g = gcd(g, x.unsigned_abs());
     }
     g

@@ -11,11 +11,11 @@ use Rattle.kf_simplex.specs.Systems.{LinearSystem, right_column}
 use Rattle.kf_simplex.specs.Runs.{key}
 use Rattle.kf_simplex.proofs.Signs.{product_at_most_zero, product_positive, product_not_negative, factor_not_negative, factor_zero}
 
--- a member of the row space with no artificial entry is 0
+-- a combination of no equation is 0
 no_artificial : (s : LinearSystem) (a : Row) → IsInRowSpace s a → ((k : ℕ) → k < s.equations → a (s.unknowns + k) ≡ pos 0) → (c : ℕ) → c ≤ right_column s → a c ≡ pos 0
 no_artificial s a i z c l = i c l ∙ total_all_zero s.equations (λ k. a (s.unknowns + k) *ℤ s.number k c) (λ (k : ℕ) (m : k < s.equations). rw (z k m) (omega (arith, ints)))
 
--- no two rows have one list, over their entries at a column
+-- two rows never tie
 pub no_tie : (s : LinearSystem) (basis : ℕ → ℕ) (rows : ℕ → Row) (b : IsBasic s basis rows) (r i c : ℕ) → r < s.equations → i < s.equations → i ≢ r → pos 0 <ℤ rows i c
     → ((m : ℕ) → m ≤ s.equations → key s (rows r) m *ℤ rows i c ≡ key s (rows i) m *ℤ rows r c) → ⊥
 no_tie s basis rows b r i c lr li d p same =
@@ -26,7 +26,7 @@ no_tie s basis rows b r i c lr li d p same =
     let q = product_positive (rows i c) (rows r (basis r)) p (b.positive r lr) in
     let none' = rw z at none in omega (arith, ints)
 
--- where the objective is positive at a column, some row is
+-- a column that raises the objective has a row to leave
 pub some_row : (s : LinearSystem) (basis : ℕ → ℕ) (rows : ℕ → Row) (b : IsBasic s basis rows) (p : Spans s rows) (w : Row) → IsInRowSpace s w
     → ((i : ℕ) → i < s.equations → pos 0 ≤ℤ w (basis i)) → (c : ℕ) → c ≤ right_column s → pos 0 <ℤ w c
     → ((i : ℕ) → i < s.equations → rows i c ≤ℤ pos 0) → ⊥
@@ -40,7 +40,7 @@ some_row s basis rows b p w iw wn c l wc below =
     let low = total_at_most n (λ k. q.share k *ℤ rows k c) (λ (k : ℕ) (m : k < n). product_at_most_zero (q.share k) (rows k c) (share_sign k m) (below k m)) in
     let e = q.whole c l in omega (arith, ints)
 
--- the objective is that sum, and that sum is an objective
+-- from an objective to the sum of rows, and its entries at the basic columns
 pub sum_of_objective : (s : LinearSystem) (basis : ℕ → ℕ) (rows : ℕ → Row) (b : IsBasic s basis rows) (p : Spans s rows) (w : Row) → IsObjective s basis w → IsSumOfRows s basis rows w
 sum_of_objective s basis rows b p w o =
     let q = spanned s basis rows b p w o.in_space in

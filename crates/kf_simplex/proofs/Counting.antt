@@ -15,7 +15,7 @@ abbrev pub bit : Bool → ℕ
 bit true = 1
 bit false = 0
 
--- how many below n are in the mask
+-- the number of columns below n that a mask holds
 abbrev pub count : ℕ → (ℕ → Bool) → ℕ
 count zero m = 0
 count (suc n) m = count n m + bit (m n)
@@ -35,7 +35,7 @@ abbrev pub EachCounts : ℕ → ℕ → List (ℕ → Bool) → Type 0
 EachCounts n k [] = Unit {0}
 EachCounts n k (x ∷ xs) = (count n x ≡ k) × EachCounts n k xs
 
--- the masks with and without n, when each counts k below n + 1
+-- masks split by their last column
 record Parts (n k : ℕ) (ms : List (ℕ → Bool)) : Type 0 where
   ins : List (ℕ → Bool)
   outs : List (ℕ → Bool)
@@ -87,7 +87,7 @@ parts : (n k : ℕ) (ms : List (ℕ → Bool)) → Apart (suc n) ms → EachCoun
 parts n k [] a c = record { ins = []; outs = []; len = refl; ins_apart = tt; outs_apart = tt; outs_count = tt; ins_count = λ j q. tt; ins_empty = λ q. refl; ins_far = λ m t f. tt; outs_far = λ m t f. tt }
 parts n k (x ∷ xs) a c = part n k x xs (x n) refl c.0 a.0 (parts n k xs a.1 c.1)
 
--- there are at most as many masks as ways to choose
+-- different masks of k columns are no more than the ways to choose k
 pub masks_at_most : (n k : ℕ) (ms : List (ℕ → Bool)) → Apart n ms → EachCounts n k ms → length ms ≤ ways n k
 masks_at_most zero k [] a c = omega arith
 masks_at_most zero zero (x ∷ []) a c = omega arith
@@ -102,7 +102,7 @@ masks_at_most (suc n) (suc k) ms a c =
 cond_no : (a c : ℕ) (b : Bool) → a ≢ c → cond (nat_eq a c) true b ≡ b
 cond_no a c b h = grind (arith, nat_tests)
 
--- the columns of a basis as a mask
+-- which columns a basis has
 pub mask : ℕ → (ℕ → ℕ) → ℕ → Bool
 mask zero basis c = false
 mask (suc e) basis c = cond (nat_eq (basis e) c) true (mask e basis c)

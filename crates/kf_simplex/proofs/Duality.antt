@@ -9,7 +9,7 @@ use Rattle.kf_simplex.specs.Solutions.{WeakDuality}
 use Rattle.kf_frac.proofs.Ring.{ring}
 use Rattle.kf_simplex.proofs.Signs.{product_positive, product_at_most_zero}
 
--- the sum over equations of y times the equation at x is d times the sum at the right side
+-- the combined equation at a solution: nothing positive on the left, something positive on the right
 pub weak_duality : WeakDuality
 weak_duality s y f x d sol =
     let v = s.unknowns in

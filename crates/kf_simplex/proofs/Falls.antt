@@ -37,11 +37,11 @@ lex_add e f g p q =
     (cases_lt q.0 p.0))
     (cases_lt p.0 q.0)
 
--- a list is not below itself
+-- no difference, no order
 pub lex_not_zero : (e : ℕ) (f : ℕ → ℤ) → IsLexPositive e f → ((m : ℕ) → m ≤ e → f m ≡ pos 0) → ⊥
 lex_not_zero e f p z = let a = p.3 in let b = z p.0 p.1 in omega (arith, ints)
 
--- rows stay positive by first difference
+-- the deciding lists stay above 0 through a pivot
 pub pivot_lex : (s : LinearSystem) (rows news : ℕ → Row) (r c : ℕ) → IsPivot s rows r c news → Leaves s rows c r
     → ((i : ℕ) → i < s.equations → IsLexPositive s.equations (key s (rows i)))
     → (i : ℕ) → i < s.equations → IsLexPositive s.equations (key s (news i))
@@ -65,7 +65,7 @@ pivot_lex s rows news r c p v h i l =
     (lex_scale e (rows r c) (key s (rows i)) p.positive (h i l)))))))
     (cases_eq i r)
 
--- the objective's list falls by first difference
+-- a pivot lowers the objective's deciding list
 pub objective_falls : (s : LinearSystem) (w w' row : Row) (p a h scale scale' : ℤ) → pos 0 <ℤ h → pos 0 <ℤ a → pos 0 <ℤ scale
     → ((x : ℕ) → x ≤ right_column s → h *ℤ w' x ≡ p *ℤ w x -ℤ a *ℤ row x) → h *ℤ scale' ≡ p *ℤ scale
     → IsLexPositive s.equations (key s row) → Falls s w scale w' scale'
@@ -86,7 +86,7 @@ falls_trans s w1 w2 w3 s1 s2 s3 p1 p2 p3 f g =
     (lex_add s.equations (λ m. s3 *ℤ (s2 *ℤ key s w1 m -ℤ s1 *ℤ key s w2 m)) (λ m. s1 *ℤ (s3 *ℤ key s w2 m -ℤ s2 *ℤ key s w3 m))
     (lex_scale s.equations s3 (λ m. s2 *ℤ key s w1 m -ℤ s1 *ℤ key s w2 m) p3 f) (lex_scale s.equations s1 (λ m. s3 *ℤ key s w2 m -ℤ s2 *ℤ key s w3 m) p1 g)))
 
--- two bases of the same columns have one objective, but for the scale
+-- equal sets of basic columns give proportional objectives
 pub same_objective : (s : LinearSystem) (basis basis' : ℕ → ℕ) (rows : ℕ → Row) (b : IsBasic s basis rows) (q : Spans s rows) (w w' : Row) (o : IsObjective s basis w) (o' : IsObjective s basis' w')
     → SameColumns s.equations basis basis' → (x : ℕ) → x ≤ right_column s → o'.scale *ℤ w x ≡ o.scale *ℤ w' x
 same_objective s basis basis' rows b q w w' o o' same x l =
@@ -106,7 +106,7 @@ same_objective s basis basis' rows b q w w' o o' same x l =
     (cases_lt (basis i) s.unknowns) in
     let z = one_tableau s basis rows b q a in_space zero_there x l in omega (arith, ints)
 
--- so a basis does not come back
+-- a basis can't be met again further down
 pub not_the_same : (s : LinearSystem) (basis basis' : ℕ → ℕ) (rows : ℕ → Row) (b : IsBasic s basis rows) (q : Spans s rows) (w w' : Row) (o : IsObjective s basis w) (o' : IsObjective s basis' w')
     → SameColumns s.equations basis basis' → Falls s w o.scale w' o'.scale → ⊥
 not_the_same s basis basis' rows b q w w' o o' same f =

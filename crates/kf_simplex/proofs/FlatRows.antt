@@ -44,7 +44,7 @@ gcd_one xs n m l i = record {
   greatest = λ d all. i.greatest d (λ (k : ℕ) (u : k < n). all k (omega arith));
 }
 
--- a write at k keeps a property of each index below, and gives it at k
+-- what holds up to an index holds one further, after a write there
 pub set_more : (P : ℕ → ℤ → Type 0) (xs : List ℤ) (k : ℕ) (v : ℤ) → k < length xs → ((j : ℕ) → j < k → P j (at xs j)) → P k v → (j : ℕ) → j < k + 1 → P j (at (set xs k v) j)
 set_more P xs k v l below here j m =
     ⊎_elim
@@ -78,7 +78,7 @@ gcd_bound xs n g b i h =
     let z : g ≡ 0 = eq-zero_of_zero-dvd (i.greatest 0 (λ (k : ℕ) (l : k < n). rw (no k l) (dvd-zero 0))) in omega arith)
     (find_nonzero (λ k. unsigned_abs (at xs k)) n)
 
--- g d divides g
+-- a positive number has no multiple among its divisors but itself
 one_from_dvd : (g d : ℕ) → 0 < g → (g * d) ∣ g → d ≡ 1
 one_from_dvd g zero p h = let e = le_of_dvd p h in let z : g ≡ 0 = eq-zero_of_zero-dvd (subst (λ (x : ℕ). x ∣ g) (omega arith) h) in absurd (omega arith)
 one_from_dvd g (suc d) p h = let e = le_of_dvd p h in ⊎_elim (λ (q : d < 1). omega arith) (λ (q : 1 ≤ d). absurd (omega (arith, mul-le-mul_left g q))) (cases_lt d 1)
@@ -105,7 +105,7 @@ reduced_along old old' new new' n e f r = record {
   primitive = λ m l nz d all. r.primitive m l (λ (z : old m ≡ pos 0). nz (sym (e m l) ∙ z)) d (λ (k : ℕ) (u : k < n). rw (f k u) (all k u));
 }
 
--- a place of a list in which ys stands for the w members from a
+-- reading a list in which one stretch was replaced
 pub put_inside : (a w : ℕ) (xs ys : List ℤ) (k : ℕ) → a ≤ length xs → length ys ≡ w → k < w → at (put_mid a w xs ys) (a + k) ≡ at ys k
 put_inside a w xs ys k l e m = search (rules, places)
 
@@ -129,7 +129,7 @@ crossed_at xs ys chosen a c w n ew en l ey lc h = record {
   after = λ k m. put_after a w xs ys k l ey (omega arith);
 }
 
--- one more row
+-- the next row
 pub row_more : (old xs ys chosen : List ℤ) (r c i : ℕ) → i ≢ r → CrossesRows old xs chosen r c i → CrossesAt xs ys chosen (i * length chosen) c → c < length chosen → CrossesRows old ys chosen r c (i + 1)
 row_more old xs ys chosen r c i d h g lc =
     let w = length chosen in
@@ -150,7 +150,7 @@ row_more old xs ys chosen r c i d h g lc =
       chosen_row = λ x u. outside r x (λ (e : r ≡ i). d (sym e)) u ∙ h.chosen_row x u;
     }
 
--- the chosen row is passed over
+-- row r itself stays
 pub row_passed : (old xs chosen : List ℤ) (r c i : ℕ) → i ≡ r → CrossesRows old xs chosen r c i → CrossesRows old xs chosen r c (i + 1)
 row_passed old xs chosen r c i e h = record {
   crossed = λ k l nr. h.crossed k (omega arith) nr;

@@ -18,7 +18,7 @@ use Rattle.kf_simplex.proofs.Signs.{cancel, product_positive, factor_positive, f
 use Rattle.kf_simplex.specs.Cells.{at, IsReduced, CrossesRows}
 use Rattle.kf_simplex.specs.Flat.{width, tableau_of}
 
--- what a pivot of the flat table is
+-- how the flat table changes at a pivot
 pub record FlatPivot (s : LinearSystem) (old new : List ℤ) (basis news : List ℕ) (chosen : List ℤ) (r c : ℕ) : Type 0 where
   pub column : c < s.unknowns
   pub row : r < s.equations
@@ -35,7 +35,7 @@ replaced s old new basis news chosen r c f = rw f.basis_is (get_or-set_same basi
 kept : (s : LinearSystem) (old new : List ℤ) (basis news : List ℕ) (chosen : List ℤ) (r c : ℕ) → FlatPivot s old new basis news chosen r c → (k : ℕ) → k ≢ r → get_or news k 0 ≡ get_or basis k 0
 kept s old new basis news chosen r c f k d = rw f.basis_is (get_or-set_other basis r k c 0 d)
 
--- a row that is crossed, in the words of the definitions
+-- one crossed row of the flat table
 crossed_of : (s : LinearSystem) (old new : List ℤ) (basis news : List ℕ) (chosen : List ℤ) (r c : ℕ) (f : FlatPivot s old new basis news chosen r c)
     (i : ℕ) → i < s.equations + 1 → i ≢ r
     → IsReduced (λ x. at old (r * width s + c) *ℤ at old (i * width s + x) -ℤ at old (i * width s + c) *ℤ at old (r * width s + x)) (λ x. at new (i * width s + x)) (width s)
@@ -93,7 +93,7 @@ flat_rows s old new basis news chosen r c f g i l =
           (cases_eq i r);
     }
 
--- the crossed objective, made smaller by a factor, is the objective of the next basis
+-- the objective goes through a pivot like a row
 objective_from : (s : LinearSystem) (basis news : ℕ → ℕ) (rows : ℕ → Row) (w w' : Row) (r c : ℕ) → IsBasic s basis rows → (o : IsObjective s basis w) → r < s.equations → c < s.unknowns → pos 0 <ℤ rows r c
     → news r ≡ c → ((k : ℕ) → k < s.equations → k ≢ r → news k ≡ basis k) → (h : ℤ) → pos 0 <ℤ h
     → ((x : ℕ) → x ≤ right_column s → h *ℤ w' x ≡ rows r c *ℤ w x -ℤ w c *ℤ rows r x) → IsObjective s news w'

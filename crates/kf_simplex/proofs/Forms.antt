@@ -20,7 +20,7 @@ pub record IsWorking (s : LinearSystem) (t : Tableau) : Type 0 where
   pub objective : IsObjective s t.basis t.objective
   pub objective_primitive : (m : ℕ) → m ≤ right_column s → t.objective m ≢ pos 0 → IsPrimitive s t.objective
 
--- the first of f 0 .. f e that is not 0 is positive
+-- the list f 0 .. f e is above the list of zeros, by first difference
 abbrev pub IsLexPositive : ℕ → (ℕ → ℤ) → Type 0
 IsLexPositive e f = (n : ℕ) × (n ≤ e) × ((m : ℕ) → m < n → f m ≡ pos 0) × (pos 0 <ℤ f n)
 
@@ -34,14 +34,14 @@ pub record IsPivot (s : LinearSystem) (rows : ℕ → Row) (r c : ℕ) (news : �
   pub factor_positive : (i : ℕ) → i < s.equations → pos 0 <ℤ factor i
   pub crossed : (i x : ℕ) → i < s.equations → i ≢ r → x ≤ right_column s → factor i *ℤ news i x ≡ rows r c *ℤ rows i x -ℤ rows i c *ℤ rows r x
 
--- every equation, times one positive number, is a sum of multiples of the rows
+-- the equations can be had back from the rows
 pub record Spans (s : LinearSystem) (rows : ℕ → Row) : Type 0 where
   pub scale : ℤ
   pub positive : pos 0 <ℤ scale
   pub share : ℕ → ℕ → ℤ
   pub equation : (k c : ℕ) → k < s.equations → c ≤ right_column s → scale *ℤ s.number k c ≡ total s.equations (λ i. share k i *ℤ rows i c)
 
--- the rows of a basis, but for common factors
+-- rows that belong to a basis, with or without common factors
 pub record IsBasic (s : LinearSystem) (basis : ℕ → ℕ) (rows : ℕ → Row) : Type 0 where
   pub column : (i : ℕ) → i < s.equations → basis i < right_column s
   pub in_space : (i : ℕ) → i < s.equations → IsInRowSpace s (rows i)

@@ -12,7 +12,7 @@ use Rattle.kf_simplex.specs.Solutions.{Solves, Refutes}
 use Rattle.kf_frac.proofs.Ring.{mul_assoc, mul_left_comm, mul_add, add_mul}
 use Rattle.kf_simplex.proofs.Signs.{cancel, product_positive, product_not_negative, factor_positive, factor_zero, factor_not_negative}
 
--- a cross product, made smaller by a factor, is in the row space
+-- combinations stay combinations under cross products and the removal of a factor
 pub crossed_in_space : (s : LinearSystem) (a b r : Row) (p q h : ℤ) → pos 0 <ℤ h → IsInRowSpace s a → IsInRowSpace s b
     → ((x : ℕ) → x ≤ right_column s → h *ℤ r x ≡ p *ℤ a x -ℤ q *ℤ b x) → IsInRowSpace s r
 crossed_in_space s a b r p q h l ia ib e c m =
@@ -24,7 +24,7 @@ crossed_in_space s a b r p q h l ia ib e c m =
     ∙ total-combine n p q (λ k. a (v + k)) (λ k. b (v + k)) (λ k. s.number k c) in
     cancel (r c) (combined s r c) h l (e c m ∙ (let ea = ia c m in let eb = ib c m in cc))
 
--- after a pivot each row is in the row space
+-- the new rows are combinations of the equations
 pub pivot_in_space : (s : LinearSystem) (basis : ℕ → ℕ) (rows news : ℕ → Row) (r c : ℕ) → IsBasic s basis rows → IsPivot s rows r c news
     → (i : ℕ) → i < s.equations → IsInRowSpace s (news i)
 pivot_in_space s basis rows news r c b p i l =
@@ -36,7 +36,7 @@ pivot_in_space s basis rows news r c b p i l =
     (λ (x : ℕ) (m : x ≤ right_column s). p.crossed i x l d m))
     (cases_eq i r)
 
--- the new row is positive at its own column and 0 at the others
+-- the new rows at their own columns
 pub pivot_positive : (s : LinearSystem) (basis basis' : ℕ → ℕ) (rows news : ℕ → Row) (r c : ℕ) → IsBasic s basis rows → IsPivot s rows r c news
     → basis' r ≡ c → ((k : ℕ) → k < s.equations → k ≢ r → basis' k ≡ basis k)
     → (i : ℕ) → i < s.equations → pos 0 <ℤ news i (basis' i)
@@ -64,7 +64,7 @@ pivot_zero s basis basis' rows news r c b p er ek i k l m ne =
     (cases_eq k r))
     (cases_eq i r)
 
--- a member of the row space is a combination of the rows, by its entries at the basic columns
+-- the basic entries of a combination say how often each row stands in it
 pub record IsCombined (s : LinearSystem) (basis : ℕ → ℕ) (rows : ℕ → Row) (scale : ℤ) (a : Row) : Type 0 where
   pub share : ℕ → ℤ
   pub whole : (c : ℕ) → c ≤ right_column s → scale *ℤ a c ≡ total s.equations (λ i. share i *ℤ rows i c)
@@ -105,7 +105,7 @@ refutes_of_objective s w i n p = record {
   right = rw (sym (i (right_column s) (omega arith))) p;
 }
 
--- what row i says of the read-off solution
+-- the solution of a basis satisfies its rows
 row_solves : (s : LinearSystem) (basis : ℕ → ℕ) (rows : ℕ → Row) (b : IsBasic s basis rows) (x : ℕ → ℤ) (d : ℤ) → IsReadOff s basis rows x d
     → ((i : ℕ) → i < s.equations → s.unknowns ≤ basis i → rows i (right_column s) ≡ pos 0)
     → (i : ℕ) → i < s.equations → total s.unknowns (λ j. rows i j *ℤ x j) ≡ d *ℤ rows i (right_column s)
@@ -151,7 +151,7 @@ read_off_solves s basis rows b p x d o nn z =
           ∙ mul_left_comm d p.scale (s.number k (right_column s)));
     }
 
--- the spans is kept by a pivot
+-- a pivot loses no equation
 pub pivot_spans : (s : LinearSystem) (rows news : ℕ → Row) (r c : ℕ) → IsPivot s rows r c news → Spans s rows → Spans s news
 pivot_spans s rows news r c p q =
     let n = s.equations in
@@ -185,7 +185,7 @@ pivot_spans s rows news r c p q =
           (λ (i : ℕ) (u : i < n). sym (add_mul (news i x) (q.share k i *ℤ h i) (choose i r (extra k) (pos 0))));
     }
 
--- a basic artificial has right side 0 where the objective's right side is 0
+-- with nothing left in the objective, the rows of basic artificials have nothing on their right sides
 pub artificials_zero : (s : LinearSystem) (basis : ℕ → ℕ) (rows : ℕ → Row) (b : IsBasic s basis rows) (p : Spans s rows) (w : Row) → IsInRowSpace s w
     → ((i : ℕ) → i < s.equations → pos 0 ≤ℤ rows i (right_column s))
     → ((i : ℕ) → i < s.equations → pos 0 ≤ℤ w (basis i))

@@ -12,7 +12,7 @@ use Rattle.kf_simplex.proofs.Forms.{Spans, IsBasic}
 use Rattle.kf_frac.proofs.Ring.{ring, mul_add, mul_neg}
 use Rattle.kf_simplex.proofs.Signs.{cancel}
 
--- lists of which multiples are equal are multiples of one list
+-- two proportional lists have a common measure
 pub record HaveCommon (N : ℕ) (a b : ℕ → ℤ) : Type 0 where
   pub base : ℕ → ℤ
   pub left : ℕ
@@ -44,7 +44,7 @@ common (suc fuel) p q N a b f hp hq e =
     (cases_lt p q))
     (cases_eq p q)
 
--- primitive lists of which positive multiples are equal are equal
+-- proportional lists without common factor are the same
 pub primitive_equal : (s : LinearSystem) (a b : Row) (p q : ℤ) → pos 0 <ℤ p → pos 0 <ℤ q → IsPrimitive s a → IsPrimitive s b
     → ((x : ℕ) → x ≤ right_column s → p *ℤ a x ≡ q *ℤ b x) → (x : ℕ) → x ≤ right_column s → a x ≡ b x
 primitive_equal s a b (pos p) (pos q) hp hq ia ib e x l =
@@ -55,7 +55,7 @@ primitive_equal s a b (pos p) (pos q) hp hq ia ib e x l =
 primitive_equal s a b (negsuc p) q hp hq ia ib e x l = absurd (omega (arith, ints))
 primitive_equal s a b (pos p) (negsuc q) hp hq ia ib e x l = absurd (omega (arith, ints))
 
--- a basis has one row for each column
+-- a basic column determines its row
 pub one_row : (s : LinearSystem) (basis : ℕ → ℕ) (rows : ℕ → Row) (b : IsBasic s basis rows) (q : Spans s rows) (i : ℕ) (a c : Row) → i < s.equations
     → IsRowOf s basis i a → IsRowOf s basis i c → (x : ℕ) → x ≤ right_column s → a x ≡ c x
 one_row s basis rows b q i a c l ra rc =
@@ -80,7 +80,7 @@ left_positive : (n : ℕ) (d a : ℤ) → pos n *ℤ d ≡ a → pos 0 <ℤ a �
 left_positive zero d a e p = omega (arith, ints)
 left_positive (suc n) d a e p = omega (arith, ints)
 
--- a member of the row space with the zeros of a row is a positive multiple of it
+-- whatever is 0 where a row is, and positive at its column, is a multiple of that row
 pub row_multiple : (s : LinearSystem) (basis : ℕ → ℕ) (rows : ℕ → Row) (b : IsBasic s basis rows) (q : Spans s rows) (i : ℕ) (a d : Row) → i < s.equations
     → IsInRowSpace s a → pos 0 <ℤ a (basis i) → ((k : ℕ) → k < s.equations → k ≢ i → a (basis k) ≡ pos 0) → IsRowOf s basis i d
     → (h : ℤ) × (pos 0 <ℤ h) × ((x : ℕ) → x ≤ right_column s → h *ℤ d x ≡ a x)

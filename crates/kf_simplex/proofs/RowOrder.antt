@@ -21,7 +21,7 @@ deciding_below : (unknowns w m : ℕ) → m < w - unknowns → deciding unknowns
 deciding_below unknowns w zero l = omega arith
 deciding_below unknowns w (suc m) l = omega arith
 
--- the order of two parts of the cells is that of two rows
+-- comparing two stretches of the cells compares two rows
 pub rows_order : (cells one two : List ℤ) (w unknowns c i r : ℕ) (o : Ordering) → one ≡ cells → two ≡ cells → c < w → i * w + w ≤ length cells
     → IsFirstDifference (scaled_key (mid_of (i * w) (i * w + w - i * w) one) unknowns (length (mid_of (i * w) (i * w + w - i * w) one) - 1) (at (mid_of (r * w) (r * w + w - r * w) two) c))
     (scaled_key (mid_of (r * w) (r * w + w - r * w) two) unknowns (length (mid_of (i * w) (i * w + w - i * w) one) - 1) (at (mid_of (i * w) (i * w + w - i * w) one) c)) (length (mid_of (i * w) (i * w + w - i * w) one) - unknowns) o
@@ -36,7 +36,7 @@ rows_order cells one two w unknowns c i r o e1 e2 lc li h =
     (λ (m : ℕ) (l : m < w - unknowns). let d = deciding_below unknowns w m l in let u = right (deciding unknowns (w - 1) m) d in let v = left c lc in cc)
     (rw len at h)
 
--- fractions f / a, g / b, h / d: equations and orders chain
+-- chains of comparisons of three fractions
 eq_eq : (f g h a b d : ℤ) → pos 0 <ℤ b → f *ℤ b ≡ g *ℤ a → g *ℤ d ≡ h *ℤ b → f *ℤ d ≡ h *ℤ a
 eq_eq f g h a b d p e1 e2 = cancel (f *ℤ d) (h *ℤ a) b p (simp ring (let u = simp ring at (ap (λ (z : ℤ). z *ℤ d) e1) in let v = simp ring at (ap (λ (z : ℤ). z *ℤ a) e2) in omega (arith, ints)))
 
@@ -63,7 +63,7 @@ at_most_trans f g h a b d n p q r (inl x) (inr y) = inl (x.0, x.1, (λ (k : ℕ)
 at_most_trans f g h a b d n p q r (inr x) (inl y) = inl (y.0, y.1, (λ (k : ℕ) (u : k < y.0). let l = y.1 in eq_eq (f k) (g k) (h k) a b d q (x k (omega arith)) (y.2 k u)), eq_lt (f y.0) (g y.0) (h y.0) a b d p q (x y.0 y.1) y.3)
 at_most_trans f g h a b d n p q r (inr x) (inr y) = inr (λ k l. eq_eq (f k) (g k) (h k) a b d q (x k l) (y k l))
 
--- one more row
+-- the next row
 pub leaving_skip : (cells : List ℤ) (w unknowns c i : ℕ) (best : Option ℕ) → row_at cells w i c ≤ℤ pos 0 → IsLeaving cells w unknowns c i best → IsLeaving cells w unknowns c (i + 1) best
 leaving_skip cells w unknowns c i None z h = λ k l. ⊎_elim (λ (m : k < i). h k m) (λ (m : i ≤ k). let e : k ≡ i = omega arith in rw e z) (cases_lt k i)
 leaving_skip cells w unknowns c i (Some r) z h = ((let l = h.0 in omega arith), h.1, λ k l p. ⊎_elim (λ (m : k < i). h.2 k m p) (λ (m : i ≤ k). let e : k ≡ i = omega arith in let p' = rw e at p in absurd (omega (arith, ints))) (cases_lt k i))

@@ -32,7 +32,7 @@ basic_of s t g = record {
   zero_elsewhere = λ i k l m n. (g.tableau.rows i l).zero_elsewhere k m n;
 }
 
--- a function that picks, for each i but r
+-- witnesses for every index but r, gathered into one function
 pub choice : (P : ℕ → ℤ → Type 0) (n r : ℕ) → ((i : ℕ) → i < n → i ≢ r → (h : ℤ) × P i h) → (f : ℕ → ℤ) × ((i : ℕ) → i < n → i ≢ r → P i (f i))
 choice P n r h =
     let at : (i : ℕ) → (z : ℤ) × (i < n → i ≢ r → P i z) = λ i.
@@ -40,7 +40,7 @@ choice P n r h =
     (λ (l : n ≤ i). (pos 0, λ m d. absurd (omega arith))) (cases_lt i n) in
     ((λ i. (at i).0), (λ i. (at i).1))
 
--- cross products, with no factor taken out
+-- the rows of the next basis, before their factors are removed
 pub crossed_rows : (ℕ → Row) → ℕ → ℕ → ℕ → Row
 crossed_rows rows r c i x = choose i r (rows r x) (rows r c *ℤ rows i x -ℤ rows i c *ℤ rows r x)
 
@@ -74,7 +74,7 @@ step_basis s t u g p =
 pub step_spans : (s : LinearSystem) (t u : Tableau) → IsGood s t → (p : IsStep s t u) → Spans s (crossed_rows t.rows p.row p.column)
 step_spans s t u g p = pivot_spans s t.rows (crossed_rows t.rows p.row p.column) p.row p.column (crossed_is_pivot s t.rows p.row p.column p.enters.unknown p.leaves.row p.leaves.positive) g.spans
 
--- the next tableau by its properties is the pivot
+-- the definition of the next tableau leaves no choice but the pivot
 pub step_is_pivot : (s : LinearSystem) (t u : Tableau) → IsGood s t → (p : IsStep s t u) → IsTableau s u → IsPivot s t.rows p.row p.column u.rows
 step_is_pivot s t u g p h =
     let r = p.row in let c = p.column in
@@ -144,7 +144,7 @@ first_zero s i l z y (suc m) u = y.other i m l (omega arith) (omega arith)
 pub first_good : (s : LinearSystem) (t : Tableau) → IsSystem s → IsTableau s t → ((k : ℕ) → k < s.equations → t.basis k ≡ s.unknowns + k) → IsGood s t
 first_good s t y h e =
     let v = s.unknowns in let n = s.equations in
-    -- a row is its own entry times its equation
+    -- at the basis of artificials each row is a multiple of its equation
     let times : (i : ℕ) → i < n → (c : ℕ) → c ≤ right_column s → t.rows i c ≡ t.rows i (v + i) *ℤ s.number i c = λ i l c m.
     (h.rows i l).in_space c m ∙ total-single n i (λ k. t.rows i (v + k) *ℤ s.number k c) l
     (λ (k : ℕ) (u : k < n) (d : k ≢ i). let z = (h.rows i l).zero_elsewhere k u d in let w = rw (e k u) at z in rw w (omega (arith, ints))) in
@@ -168,7 +168,7 @@ first_good s t y h e =
           (λ (p : s.number i (right_column s) ≤ℤ pos 0). (suc i, omega arith, first_zero s i l (let q = y.right i l in omega (arith, ints)) y, rw (y.same i l) (omega (arith, ints)))));
     }
 
--- each tableau of the list falls to t
+-- the objective of t is below that of every earlier tableau
 unfoldable pub Past : (s : LinearSystem) (t : Tableau) → IsGood s t → List Tableau → Type 0
 Past s t g [] = Unit {0}
 Past s t g (u ∷ us) = ((h : IsGood s u) × Falls s u.objective h.tableau.objective.scale t.objective g.tableau.objective.scale) × Past s t g us

@@ -26,7 +26,7 @@ pub total-scale : (n : ℕ) (c : ℤ) (f : ℕ → ℤ) → total n (λ k. c *�
 total-scale zero c f = omega (arith, ints)
 total-scale (suc n) c f = rw (total-scale n c f) (sym (mul_add c (total n f) (f n)))
 
--- p f - q g, each times h
+-- a difference of multiples, summed
 pub total-combine : (n : ℕ) (p q : ℤ) (f g h : ℕ → ℤ) → total n (λ k. (p *ℤ f k -ℤ q *ℤ g k) *ℤ h k) ≡ p *ℤ total n (λ k. f k *ℤ h k) -ℤ q *ℤ total n (λ k. g k *ℤ h k)
 total-combine zero p q f g h = omega (arith, ints)
 total-combine (suc n) p q f g h = rw (total-combine n p q f g h) (simp ring (omega (arith, ints)))
@@ -48,7 +48,7 @@ total_not_negative (suc n) f h =
 pub total_all_zero : (n : ℕ) (f : ℕ → ℤ) → ((k : ℕ) → k < n → f k ≡ pos 0) → total n f ≡ pos 0
 total_all_zero n f h = total-ext n f (λ k. pos 0) h ∙ total-zero n
 
--- only the member at r counts
+-- a sum with one member that is not 0
 pub total-single : (n r : ℕ) (f : ℕ → ℤ) → r < n → ((k : ℕ) → k < n → k ≢ r → f k ≡ pos 0) → total n f ≡ f r
 total-single zero r f l h = absurd (omega arith)
 total-single (suc n) r f l h =
@@ -62,7 +62,7 @@ pub total-scale_right : (n : ℕ) (c : ℤ) (f : ℕ → ℤ) → total n (λ k.
 total-scale_right zero c f = omega (arith, ints)
 total-scale_right (suc n) c f = rw (total-scale_right n c f) (sym (add_mul c (total n f) (f n)))
 
--- a member below n with a property, or none
+-- either j is a value of f below n, or it is not
 pub find_below : (n : ℕ) (f : ℕ → ℕ) (j : ℕ) → ((k : ℕ) × (k < n) × (f k ≡ j)) ⊎ ((k : ℕ) → k < n → f k ≢ j)
 find_below zero f j = inr (λ k l e. absurd (omega arith))
 find_below (suc n) f j =
@@ -81,7 +81,7 @@ total_zero_each (suc n) f h e k l =
     ⊎_elim (λ (m : k < n). let t : total n f ≡ pos 0 = omega (arith, ints) in total_zero_each n f below t k m)
     (λ (m : n ≤ k). let q : k ≡ n = omega arith in ap f q ∙ omega (arith, ints)) (cases_lt k n)
 
--- a at r, b elsewhere
+-- one value at r and another elsewhere
 abbrev pub choose : ℕ → ℕ → ℤ → ℤ → ℤ
 choose i r a b = cond (nat_eq i r) a b
 

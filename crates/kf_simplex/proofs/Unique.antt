@@ -21,7 +21,7 @@ row_along s a b e i r l h = record {
   primitive = h.primitive;
 }
 
--- some number below n is not 0, or all are
+-- either something below n differs from 0, or nothing does
 find_nonzero : (n : ℕ) (f : ℕ → ℤ) → ((k : ℕ) × (k < n) × (f k ≢ pos 0)) ⊎ ((k : ℕ) → k < n → f k ≡ pos 0)
 find_nonzero zero f = inr (λ k l. absurd (omega arith))
 find_nonzero (suc n) f = ⊎_elim (λ (w : (k : ℕ) × (k < n) × (f k ≢ pos 0)). inl (w.0, omega arith, w.2))
@@ -36,7 +36,7 @@ find_nonzero (suc n) f = ⊎_elim (λ (w : (k : ℕ) × (k < n) × (f k ≢ pos 
 zero_of : (a b p q : ℤ) → pos 0 <ℤ q → a ≡ pos 0 → p *ℤ a ≡ q *ℤ b → b ≡ pos 0
 zero_of a b p q h z e = factor_zero q b h (sym e ∙ rw z (omega (arith, ints)))
 
--- one basis, one tableau
+-- the basis determines the tableau
 pub same_from_basis : (s : LinearSystem) (t u : Tableau) → IsGood s t → IsGood s u → ((k : ℕ) → k < s.equations → t.basis k ≡ u.basis k) → SameTableau s t u
 same_from_basis s t u g h e = record {
   basis = e;
@@ -66,7 +66,7 @@ one_entering s w w' c d e a b = ⊎_elim
     (λ (m : c ≤ d). omega arith) (cases_lt d c))
     (cases_lt c d)
 
--- two rows are not each below the other
+-- first differences can't go both ways
 below_once : (e : ℕ) (f g : ℕ → ℤ) → (n m : ℕ) → ((k : ℕ) → k < n → f k ≡ g k) → f n <ℤ g n → ((k : ℕ) → k < m → g k ≡ f k) → g m <ℤ f m → ⊥
 below_once e f g n m a p b q = ⊎_elim
     (λ (l : n < m). let z = b n l in omega (arith, ints))

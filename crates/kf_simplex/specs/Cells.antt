@@ -33,7 +33,7 @@ pub record IsReduced (old new : ℕ → ℤ) (n : ℕ) : Type 0 where
 abbrev pub IsCrossed : (ℕ → ℤ) → (ℕ → ℤ) → ℕ → (ℕ → ℤ) → ℕ → Type 0
 IsCrossed old chosen c new n = IsReduced (λ k. chosen c *ℤ old k -ℤ old c *ℤ chosen k) new n
 
--- row i of a table with rows of w places
+-- an entry of a row, where every row takes w places
 abbrev pub row_at : List ℤ → ℕ → ℕ → ℕ → ℤ
 row_at xs w i k = at xs (i * w + k)
 

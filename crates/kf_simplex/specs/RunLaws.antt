@@ -21,7 +21,7 @@ NoBasisTwice s (t ∷ ts) = NoneHas s t ts × NoBasisTwice s ts
 abbrev pub NoRunReturns : Type 0
 NoRunReturns = (s : LinearSystem) (limit : ℕ) (ts : List Tableau) → IsSystem s → IsRun s limit ts → NoBasisTwice s ts
 
--- the number of ways to choose k of n
+-- binomial coefficients, by Pascal's rule
 abbrev pub ways : ℕ → ℕ → ℕ
 ways n zero = 1
 ways zero (suc k) = 0
@@ -31,7 +31,7 @@ ways (suc n) (suc k) = ways n k + ways n (suc k)
 abbrev pub NoRunIsLong : Type 0
 NoRunIsLong = (s : LinearSystem) (limit : ℕ) (ts : List Tableau) → IsSystem s → IsRun s limit ts → length ts ≤ ways (s.unknowns + s.equations) s.equations
 
--- two tableaus with the same numbers
+-- equality of tableaus, number by number
 pub record SameTableau (s : LinearSystem) (t u : Tableau) : Type 0 where
   pub basis : (k : ℕ) → k < s.equations → t.basis k ≡ u.basis k
   pub rows : (i c : ℕ) → i < s.equations → c ≤ right_column s → t.rows i c ≡ u.rows i c

@@ -15,7 +15,7 @@ combined s r c = total s.equations (λ k. r (s.unknowns + k) *ℤ s.number k c)
 abbrev pub IsInRowSpace : LinearSystem → Row → Type 0
 IsInRowSpace s r = (c : ℕ) → c ≤ right_column s → r c ≡ combined s r c
 
--- no number but 1 divides every entry
+-- the entries have no common factor
 abbrev pub IsPrimitive : LinearSystem → Row → Type 0
 IsPrimitive s r = (d : ℕ) → ((c : ℕ) → c ≤ right_column s → d ∣ unsigned_abs (r c)) → d ≡ 1
 

@@ -5,7 +5,7 @@ use lib.Signed.{◌<ℤ◌}
 use Rattle.kf_frac.specs.declared.frac.Frac.{Frac}
 use Rattle.kf_simplex.specs.Systems.{LinearSystem, IsSystem}
 use Rattle.kf_simplex.specs.Tableaus.{Tableau}
-use Rattle.kf_simplex.specs.Runs.{Ends, EndsAt, Answers, Cause, budget, solution, multipliers}
+use Rattle.kf_simplex.specs.Runs.{Answers, Cause, Ends, EndsAt, IsNarrow, budget}
 use Rattle.kf_simplex.specs.Cells.{AllNarrow, row_at}
 use Rattle.kf_simplex.specs.Flat.{tableau_of}
 use Rattle.kf_simplex.specs.Turns.{system, sizes, InRun}
@@ -36,15 +36,10 @@ spent s limit p t h = (t, subst (λ (n : ℕ). EndsAt s limit n t budget) h.ends
 
 -- ---- what the readers of a table ask, in the table's own sizes
 
-pub narrow_cells : (v e v' e' : ℕ) (number : ℕ → ℕ → ℤ) (limit p : ℕ) (cells : List ℤ) (basis : List ℕ) → v' ≡ v → e' ≡ e → length cells ≡ (e' + 1) * (v' + e' + 1)
-    → EndsAt (system v e number) limit p (tableau_of (system v e number) cells basis) solution → AllNarrow cells
-narrow_cells v e v' e' number limit p cells basis ev ee l h =
-    all_narrow_of cells (wide_of (system v e number) cells basis (along (λ v e. length cells ≡ (e + 1) * (v + e + 1)) v e v' e' ev ee l) h.ends.0)
-
-pub narrow_cells_too : (v e v' e' : ℕ) (number : ℕ → ℕ → ℤ) (limit p : ℕ) (cells : List ℤ) (basis : List ℕ) → v' ≡ v → e' ≡ e → length cells ≡ (e' + 1) * (v' + e' + 1)
-    → EndsAt (system v e number) limit p (tableau_of (system v e number) cells basis) multipliers → AllNarrow cells
-narrow_cells_too v e v' e' number limit p cells basis ev ee l h =
-    all_narrow_of cells (wide_of (system v e number) cells basis (along (λ v e. length cells ≡ (e + 1) * (v + e + 1)) v e v' e' ev ee l) h.ends.0)
+pub narrow_cells : (v e v' e' : ℕ) (number : ℕ → ℕ → ℤ) (cells : List ℤ) (basis : List ℕ) → v' ≡ v → e' ≡ e → length cells ≡ (e' + 1) * (v' + e' + 1)
+    → IsNarrow (system v e number) (tableau_of (system v e number) cells basis) → AllNarrow cells
+narrow_cells v e v' e' number cells basis ev ee l h =
+    all_narrow_of cells (wide_of (system v e number) cells basis (along (λ v e. length cells ≡ (e + 1) * (v + e + 1)) v e v' e' ev ee l) h)
 
 pub positive_entries : (v e v' e' : ℕ) (number : ℕ → ℕ → ℤ) (cells : List ℤ) (basis : List ℕ) → v' ≡ v → e' ≡ e → IsGood (system v e number) (tableau_of (system v e number) cells basis)
     → (i : ℕ) → i < e' → get_or basis i 0 < v' → pos 0 <ℤ row_at cells (v' + e' + 1) i (get_or basis i 0)

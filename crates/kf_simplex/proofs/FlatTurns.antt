@@ -4,8 +4,8 @@ use Rattle.std.proofs.Math.IntN.{ℤ, pos}
 use Rattle.std.proofs.lemmas.Int.{ints}
 use Rattle.std.proofs.lemmas.Nat.{div_below}
 use Rattle.std.proofs.lemmas.Bool.{cases_lt}
-use lib.Signed.{◌<ℤ◌, ◌≤ℤ◌}
-use Rattle.kf_simplex.proofs.RunFacts.{IsGood, basic_of, run_facts}
+use lib.Signed.{◌<ℤ◌}
+use Rattle.kf_simplex.proofs.RunFacts.{IsGood, basic_of, run_facts, objective_sign}
 use Rattle.kf_simplex.proofs.Choices.{no_tie, some_row}
 use Rattle.kf_simplex.specs.declared.table.Turn.TheVariants as turns
 use Rattle.kf_simplex.proofs.FlatSteps.{flat_step}
@@ -13,7 +13,6 @@ use Rattle.std.proofs.lemmas.List.{get_or_past}
 use Rattle.std.proofs.lemmas.List.Edits.{get_or-between}
 use Rattle.std.specs.Prelude.{slice_range, IsTrue}
 use Rattle.kf_simplex.specs.Systems.{LinearSystem, right_column, IsSystem}
-use Rattle.kf_simplex.specs.Tableaus.{Tableau}
 use Rattle.kf_simplex.specs.Runs.{IsNarrow, Enters, Leaves, NoneEnters, GoesOn, key_column}
 use Rattle.kf_simplex.specs.Cells.{at, AllNarrow, IsNarrowNumber, IsLeaving, IsEntering, key_at, deciding, CrossesRows}
 use Rattle.kf_simplex.specs.Flat.{width, tableau_of}
@@ -52,12 +51,6 @@ leaves_of s cells basis c r g h = record {
 
 pub enters_of : (s : LinearSystem) (cells : List ℤ) (basis : List ℕ) (c : ℕ) → IsEntering cells (s.equations * width s) s.unknowns (Some c) → Enters s (tableau_of s cells basis).objective c
 enters_of s cells basis c h = record { unknown = h.0; positive = h.1; least = h.2 }
-
-objective_sign : (s : LinearSystem) (t : Tableau) → IsGood s t → (i : ℕ) → i < s.equations → pos 0 ≤ℤ t.objective (t.basis i)
-objective_sign s t g i l = ⊎_elim
-    (λ (u : t.basis i < s.unknowns). rw (g.tableau.objective.unknown_zero i l u) (omega (arith, ints)))
-    (λ (u : s.unknowns ≤ t.basis i). rw (g.tableau.objective.artificial i l u) (let p = g.tableau.objective.scale_positive in omega (arith, ints)))
-    (cases_lt (t.basis i) s.unknowns)
 
 pub no_leaving : (s : LinearSystem) (cells : List ℤ) (basis : List ℕ) (c : ℕ) → IsGood s (tableau_of s cells basis) → IsEntering cells (s.equations * width s) s.unknowns (Some c)
     → IsLeaving cells (width s) s.unknowns c s.equations None → ⊥

@@ -19,7 +19,7 @@ use Rattle.kf_simplex.proofs.Forms.{IsReadOff, IsLexPositive}
 use Rattle.kf_simplex.proofs.Signs.{cancel, product_not_negative, factor_not_negative, factor_zero}
 use Rattle.kf_simplex.proofs.Sums.{total-ext, total_not_negative, choose, choose-same, choose-other}
 use Rattle.kf_simplex.proofs.Pivots.{spanned, read_off_solves, artificials_zero, refutes_of_objective}
-use Rattle.kf_simplex.proofs.RunFacts.{IsGood, basic_of}
+use Rattle.kf_simplex.proofs.RunFacts.{IsGood, basic_of, objective_sign}
 use Rattle.kf_simplex.proofs.Counting.{no_run_is_long}
 
 -- ---- signs along the run
@@ -32,12 +32,6 @@ first_not_negative e f p = ⊎_elim
 
 rights : (s : LinearSystem) (t : Tableau) → IsGood s t → (i : ℕ) → i < s.equations → pos 0 ≤ℤ t.rows i (right_column s)
 rights s t g i l = first_not_negative s.equations (key s (t.rows i)) (g.lex i l)
-
-objective_sign : (s : LinearSystem) (t : Tableau) → IsGood s t → (i : ℕ) → i < s.equations → pos 0 ≤ℤ t.objective (t.basis i)
-objective_sign s t g i l = ⊎_elim
-    (λ (u : t.basis i < s.unknowns). rw (g.tableau.objective.unknown_zero i l u) (omega (arith, ints)))
-    (λ (u : s.unknowns ≤ t.basis i). rw (g.tableau.objective.artificial i l u) (let p = g.tableau.objective.scale_positive in omega (arith, ints)))
-    (cases_lt (t.basis i) s.unknowns)
 
 objective_right : (s : LinearSystem) (t : Tableau) → IsGood s t → pos 0 ≤ℤ t.objective (right_column s)
 objective_right s t g =

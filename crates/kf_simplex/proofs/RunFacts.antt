@@ -32,6 +32,13 @@ basic_of s t g = record {
   zero_elsewhere = λ i k l m n. (g.tableau.rows i l).zero_elsewhere k m n;
 }
 
+-- no basic entry of the objective is negative
+pub objective_sign : (s : LinearSystem) (t : Tableau) → IsGood s t → (i : ℕ) → i < s.equations → pos 0 ≤ℤ t.objective (t.basis i)
+objective_sign s t g i l = ⊎_elim
+    (λ (u : t.basis i < s.unknowns). rw (g.tableau.objective.unknown_zero i l u) (omega (arith, ints)))
+    (λ (u : s.unknowns ≤ t.basis i). rw (g.tableau.objective.artificial i l u) (let p = g.tableau.objective.scale_positive in omega (arith, ints)))
+    (cases_lt (t.basis i) s.unknowns)
+
 -- witnesses for every index but r, gathered into one function
 pub choice : (P : ℕ → ℤ → Type 0) (n r : ℕ) → ((i : ℕ) → i < n → i ≢ r → (h : ℤ) × P i h) → (f : ℕ → ℤ) × ((i : ℕ) → i < n → i ≢ r → P i (f i))
 choice P n r h =

@@ -3,7 +3,7 @@ use Rattle.kf_simplex.specs.Runs.{EndsAt, wide, solution, multipliers, budget}
 use Rattle.kf_simplex.specs.Flat.{tableau_of}
 use Rattle.kf_simplex.specs.Views.{linear, number_at}
 use Rattle.kf_simplex.proofs.Equations.{linear_is_system}
-use Rattle.kf_simplex.proofs.Endings.{ended, good_end, spent, narrow_cells, narrow_cells_too, positive_entries, distinct_columns, solution_read, multipliers_read}
+use Rattle.kf_simplex.proofs.Endings.{ended, good_end, spent, narrow_cells, positive_entries, distinct_columns, solution_read, multipliers_read}
 use Rattle.kf_simplex.proofs.Outcomes.{solution_is_right, multipliers_are_right, budget_left}
 use Rattle.kf_simplex.proofs.solving.solve.Goals as goal
 
@@ -40,7 +40,7 @@ solution-requires-clause-narrow c =
     (c.in_ok-table.ensures.first c.args.pivots) (c.run-ending.ensures.runs (number_at c.args.s.now.unknowns c.args.s.now.rows)) (rw c.in-Solution.is at (c.run-ending.ensures.ends (number_at c.args.s.now.unknowns c.args.s.now.rows))) in
     let v = c.run-ending.ensures.shape.0 ∙ c.in_ok-table.ensures.shape.0 in
     let e = c.run-ending.ensures.shape.1 ∙ c.in_ok-table.ensures.shape.1 in
-    narrow_cells c.args.s.now.unknowns (length c.args.s.now.rows) c.run-ending.new.self.unknowns c.run-ending.new.self.equations (number_at c.args.s.now.unknowns c.args.s.now.rows) c.args.pivots c.run-ending.result.pivots c.run-ending.new.self.cells.items c.run-ending.new.self.basis.items v e c.run-ending.new.self.cells_len end
+    narrow_cells c.args.s.now.unknowns (length c.args.s.now.rows) c.run-ending.new.self.unknowns c.run-ending.new.self.equations (number_at c.args.s.now.unknowns c.args.s.now.rows) c.run-ending.new.self.cells.items c.run-ending.new.self.basis.items v e c.run-ending.new.self.cells_len end.ends.0
 
 pub solution-requires-clause-positive : goal.solution-requires-clause-positive
 solution-requires-clause-positive c =
@@ -94,7 +94,7 @@ multipliers-requires c =
     (c.in_ok-table.ensures.first c.args.pivots) (c.run-ending.ensures.runs (number_at c.args.s.now.unknowns c.args.s.now.rows)) (rw c.in-Multipliers.is at (c.run-ending.ensures.ends (number_at c.args.s.now.unknowns c.args.s.now.rows))) in
     let v = c.run-ending.ensures.shape.0 ∙ c.in_ok-table.ensures.shape.0 in
     let e = c.run-ending.ensures.shape.1 ∙ c.in_ok-table.ensures.shape.1 in
-    narrow_cells_too c.args.s.now.unknowns (length c.args.s.now.rows) c.run-ending.new.self.unknowns c.run-ending.new.self.equations (number_at c.args.s.now.unknowns c.args.s.now.rows) c.args.pivots c.run-ending.result.pivots c.run-ending.new.self.cells.items c.run-ending.new.self.basis.items v e c.run-ending.new.self.cells_len end
+    narrow_cells c.args.s.now.unknowns (length c.args.s.now.rows) c.run-ending.new.self.unknowns c.run-ending.new.self.equations (number_at c.args.s.now.unknowns c.args.s.now.rows) c.run-ending.new.self.cells.items c.run-ending.new.self.basis.items v e c.run-ending.new.self.cells_len end.ends.0
 
 pub returns-clause-run : goal.returns-clause-run
 returns-clause-run c =

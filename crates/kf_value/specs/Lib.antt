@@ -1,3 +1,7 @@
+pub mod Kinds
+pub mod Stores
 pub mod Targets
+pub mod Texts
 pub mod Types
+pub mod Values
 pub mod Views

@@ -1,8 +1,10 @@
 -- Targets: what a hyper is about, and the texts of their values.
-use Rattle.std.specs.Prelude.{ℕ, pos, ◌+ℤ◌, ◌*◌, Bool, List, [], ◌∷◌, ◌++◌, codes, if◌then◌else◌}
-use Rattle.std.specs.Fmt.{signed_decimal}
+use Rattle.std.specs.Prelude.{ℕ, ◌*◌, Bool, List, [], ◌∷◌, ◌++◌, map, codes, slice_get, None, Some, if◌then◌else◌}
 use Rattle.kf_value.specs.declared.target_item.TargetItem.{TargetItem}
-use Rattle.kf_value.specs.Types.{TypeTree, Range, type_tree, count}
+use Rattle.kf_value.specs.Values.{ValueTree, Tuple, parts}
+use Rattle.kf_value.specs.Types.{TypeTree, type_tree, count}
+use Rattle.kf_value.specs.Stores.{stores}
+use Rattle.kf_value.specs.Texts.{text, separated}
 
 -- an item: whether it is read before the program's statements, its name and its type
 pub record Item : Type 0 where
@@ -18,20 +20,22 @@ abbrev pub target_size : List Item → ℕ
 target_size [] = 1
 target_size (i ∷ items) = count i.ty * target_size items
 
--- the n-th value of a type, counted from 0
-abbrev value_text : TypeTree → ℕ → List ℕ
-value_text (Range lo hi) n = signed_decimal (lo +ℤ pos n)
+-- all values of a target in their order: one value for each item
+abbrev pub target_values : List Item → List (List ValueTree)
+target_values items = stores (map (λ i. i.ty) items)
 
--- the text of the n-th value of a target
-abbrev pub target_value_text : List Item → ℕ → List ℕ
-target_value_text (i ∷ []) n = value_text i.ty n
-target_value_text _ n = []
+-- one item prints as its value, several as a tuple
+abbrev pub shown : List ValueTree → List ℕ
+shown (v ∷ []) = text v
+shown vs = text (Tuple (parts vs))
 
-abbrev item_text : Item → List ℕ
+-- the text of the target's value with the number n
+unfoldable pub target_value_text : List Item → ℕ → List ℕ
+target_value_text items n = elim (slice_get (target_values items) n) [ None ↦ [] | Some vs ↦ shown vs ]
+
+abbrev pub item_text : Item → List ℕ
 item_text i = (if i.initial then codes "old " else []) ++ i.name
 
 -- the text of a target: its items, a comma and a space between them
 abbrev pub target_text : List Item → List ℕ
-target_text [] = []
-target_text (i ∷ []) = item_text i
-target_text (i ∷ items) = item_text i ++ (codes ", " ++ target_text items)
+target_text items = separated (map item_text items)

@@ -1,16 +1,18 @@
-//! Names, types and targets, and what a target's values print as.
+//! Types and values, their order and numbers, stores and targets, and what values print as.
 #![tactic(auto)]
 
+mod kind;
 mod mem;
 mod name;
-mod prints;
 mod target;
 mod target_item;
 mod ty;
+mod value;
 
+pub use kind::{Kind, KindList};
 pub use mem::Mem;
 pub use name::Name;
-pub use prints::print_target;
 pub use target::Target;
 pub use target_item::{TargetItem, TargetItemList};
-pub use ty::Ty;
+pub use ty::{Ty, TyFault, TyList};
+pub use value::{Value, ValueList};

@@ -1,14 +1,17 @@
-ghost use Rattle.std.specs.Prelude.{◌≡◌, ◌≤◌, ◌<◌, ◌^◌, ◌++◌, map, length, OnOk, OnErr};
+ghost use Rattle.std.specs.Prelude.{◌≡◌, ◌≤◌, ◌<◌, ◌^◌, map, length, None, IsTrue};
+ghost use Rattle.std.specs.List.{All, list_all};
+ghost use Rattle.kf_value.specs.Types.{fault_of, well_formed};
 ghost use Rattle.kf_value.specs.Targets.{item_of, target_size};
 
 use crate::TargetItemList;
 
-/// What a hyper is about: a list of variables, each read at the end or before the statements.
-///
-/// For now it is one variable of a range.
+/// What a hyper is about: variables, each read at the end or before the statements.
 #[derive(Drop)]
 pub struct Target {
+    /// At least one, of types that have a size, with at most `2^63` values together.
     pub items: TargetItemList,
-    ghost one: { length items ≡ 1 },
+    ghost some: { 1 ≤ length items },
+    ghost formed: { IsTrue (list_all (λ i. well_formed (item_of i).ty) items) },
+    ghost sized: { All (λ i. fault_of (item_of i).ty ≡ None) items },
     ghost fits: { target_size (map item_of items) ≤ 2 ^ 63 },
 }

@@ -20,9 +20,13 @@ pub struct TargetItemList {
 
 impl Model for TargetItemList {
     ghost use Rattle.std.specs.Prelude.{List};
+    ghost use Rattle.std.specs.Coded.{codes};
+    ghost use Rattle.kf_value.specs.contracts.ty.Ty as ty;
     ghost use Rattle.kf_value.specs.declared.target_item.TargetItem.{TargetItem};
 
     ghost Value = { List TargetItem };
+
+    ghost coded = { Prim.hlevel (codes, ty.the_row.coded) };
 
     ghost view = { λ l. l.items.items };
 }

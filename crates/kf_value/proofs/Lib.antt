@@ -1,1 +1,5 @@
+mod Comparing
 mod Examples
+mod ListLemmas
+mod Sizing
+pub mod Trees

@@ -1,5 +1,5 @@
 -- Types as plain trees, the values of each in their order, and how many there are.
-use Rattle.std.specs.Prelude.{◌≡◌, ℕ, ℤ, pos, negsuc, ◌+◌, ◌*◌, ◌^◌, ◌-ℤ◌, ◌+ℤ◌, int_le, Bool, true, false, ◌&&◌, List, [], ◌∷◌, map, length, nat_le, if◌then◌else◌, Option, None, Some, Result, Ok, Err}
+use Rattle.std.specs.Prelude.{◌≡◌, ℕ, ℤ, pos, negsuc, ◌+◌, ◌*◌, ◌^◌, ◌-◌, min, ◌-ℤ◌, ◌+ℤ◌, int_le, Bool, true, false, ◌&&◌, List, [], ◌∷◌, map, length, nat_le, if◌then◌else◌, Option, None, Some, Result, Ok, Err}
 use Rattle.std.specs.List.{flat_map, range_with_len}
 use Rattle.kf_value.specs.declared.ty.Ty.{Ty, fold-Ty, Ty-F}
 use Rattle.kf_value.specs.declared.ty.TyList.{TyList-F}
@@ -114,9 +114,16 @@ abbrev mutual
 abbrev pub fault_of : TypeTree → Option TyFault
 fault_of t = fault_within 65536 t
 
--- the number of values of a type, or the fault of its first faulty part
+-- the number of values of a type that may have `limit` of them, or the fault of its first faulty part
+abbrev pub size_within : ℕ → TypeTree → Result ℕ TyFault
+size_within limit t = elim (fault_within limit t) [ None ↦ Ok (count t) | Some fault ↦ Err fault ]
+
 abbrev pub size_of : TypeTree → Result ℕ TyFault
-size_of t = elim (fault_of t) [ None ↦ Ok (count t) | Some fault ↦ Err fault ]
+size_of t = size_within 65536 t
+
+-- the product of the sizes as far as 32 bits hold it, or the first fault
+abbrev pub capped_product : List TypeTree → Result ℕ TyFault
+capped_product ts = elim (first_fault (type_parts ts)) [ None ↦ Ok (min (product (map count ts)) (2 ^ 32 - 1)) | Some fault ↦ Err fault ]
 
 -- at each nesting, a tuple has at least two parts
 abbrev mutual

@@ -4,6 +4,8 @@
 mod kind;
 mod mem;
 mod name;
+mod order;
+mod sizes;
 mod target;
 mod target_item;
 mod ty;
@@ -12,6 +14,8 @@ mod value;
 pub use kind::{Kind, KindList};
 pub use mem::Mem;
 pub use name::Name;
+pub use order::compare;
+pub use sizes::size;
 pub use target::Target;
 pub use target_item::{TargetItem, TargetItemList};
 pub use ty::{Ty, TyFault, TyList};

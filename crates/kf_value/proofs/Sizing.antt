@@ -1,0 +1,122 @@
+-- The sizes of types: what the code multiplies against what is defined.
+use Rattle.std.specs.Prelude.{nat_le, if◌then◌else◌}
+use Rattle.std.proofs.Common.{◌≡◌, ℕ, ℤ, ◌-◌, ◌*◌, ◌^◌, ◌<◌, ◌≤◌, ◌-ℤ◌, min, Bool, true, false, List, [], ◌∷◌, map, Option, None, Some, Result, Ok, Err, refl, sym, ap, ◌∙◌, ⊎_elim, arith}
+use Rattle.std.proofs.Math.Nat.{mul-le-mul_left, mul-le-mul_right, mul_assoc}
+use Rattle.std.proofs.lemmas.Nat.{pow_pos}
+use Rattle.std.proofs.lemmas.Bool.{cases_lt}
+use Rattle.std.proofs.lemmas.Int.{ints}
+use Rattle.std.proofs.lemmas.Bool.Decides.{nat_tests}
+use Rattle.kf_value.specs.declared.ty.TyFault.{TyFault}
+use Rattle.kf_value.specs.declared.ty.TyFault.TheVariants.{BadRange, TooManyValues}
+use Rattle.kf_value.specs.Types.{TypeTree, TypeTrees, Boolean, Range, TupleOf, SetOf, no_type, more_types, type_parts, count, counts, product, fault_within, first_fault, first_of, crowded, crowded_after, size_within, capped_product, in_bounds, counted}
+use Rattle.kf_value.proofs.Trees.{counts-type_parts}
+
+-- ---- a type without a fault has a value
+
+crowded_after-None : (inner : Option TyFault) (limit : ℕ) (t : TypeTree) → crowded_after inner limit t ≡ None → inner ≡ None
+crowded_after-None None limit t h = refl
+crowded_after-None (Some fault) limit t h = (cc)
+
+pub first_of-None : (a b : Option TyFault) → first_of a b ≡ None → (a ≡ None) × (b ≡ None)
+first_of-None None b h = (refl, h)
+first_of-None (Some fault) b h = (cc)
+
+in_bounds_upright : (lo hi : ℤ) → in_bounds lo hi ≡ true → 0 < counted (hi -ℤ lo)
+in_bounds_upright lo hi h = grind (arith, ints)
+
+range_has_values : (ok : Bool) (lo hi : ℤ) (limit : ℕ) → in_bounds lo hi ≡ ok
+    → (if ok then crowded limit (counted (hi -ℤ lo)) else Some BadRange) ≡ None → 0 < counted (hi -ℤ lo)
+range_has_values false lo hi limit is h = (cc)
+range_has_values true lo hi limit is h = in_bounds_upright lo hi is
+
+product_some : (a b : ℕ) → 0 < a → 0 < b → 0 < a * b
+product_some a b ha hb = let grown : a * 1 ≤ a * b = mul-le-mul_left a hb in omega arith
+
+mutual
+  pub some_values : (limit : ℕ) (t : TypeTree) → fault_within limit t ≡ None → 0 < count t
+  some_values limit Boolean h = omega arith
+  some_values limit (Range lo hi) h = range_has_values (in_bounds lo hi) lo hi limit refl h
+  some_values limit (TupleOf ts) h = each_some_values ts (crowded_after-None (first_fault ts) limit (TupleOf ts) h)
+  some_values limit (SetOf base) h = pow_pos (count base)
+
+  pub each_some_values : (ts : TypeTrees) → first_fault ts ≡ None → 0 < product (counts ts)
+  each_some_values no_type h = omega arith
+  each_some_values (more_types t ts) h =
+      let inner = first_of-None (fault_within 65536 t) (first_fault ts) h in
+      product_some (count t) (product (counts ts)) (some_values 65536 t inner.0) (each_some_values ts inner.1)
+
+-- ---- products that are held as far as they fit
+
+pub min_saturates : (a p m : ℕ) → 0 < p → min (min a m * p) m ≡ min (a * p) m
+min_saturates a p m some =
+    ⊎_elim
+    (λ (low : m < a). let grown : m * 1 ≤ m * p = mul-le-mul_left m some in
+    let more : m * p ≤ a * p = mul-le-mul_right p (omega arith) in
+    let held : min a m ≡ m = omega arith in rw held (omega arith))
+    (λ (low : a ≤ m). let held : min a m ≡ a = omega arith in rw held refl)
+    (cases_lt m a)
+
+-- a size, or the fault that stands in its way
+abbrev pub held : Option TyFault → ℕ → Result ℕ TyFault
+held o n = elim o [ None ↦ Ok n | Some fault ↦ Err fault ]
+
+-- the answer for what is left, times what is known
+abbrev pub capped_after : ℕ → List TypeTree → Result ℕ TyFault
+capped_after n ts = held (first_fault (type_parts ts)) (min (n * product (map count ts)) (2 ^ 32 - 1))
+
+pub capped_start : (ts : List TypeTree) → capped_after 1 ts ≡ capped_product ts
+capped_start ts =
+    let one : 1 * product (map count ts) ≡ product (map count ts) = omega arith in
+    ap (λ n. held (first_fault (type_parts ts)) (min n (2 ^ 32 - 1))) one
+
+pub capped_end : (n : ℕ) → n < 2 ^ 32 → Ok n ≡ capped_after n []
+capped_end n small = let fits : n ≡ min (n * 1) 4294967295 = omega arith in ap (λ m. Ok m) fits
+
+capped_more : (n size rest : ℕ) (later : Option TyFault) → (later ≡ None → 0 < rest)
+    → held later (min (n * (size * rest)) (2 ^ 32 - 1)) ≡ held later (min (min (n * size) (2 ^ 32 - 1) * rest) (2 ^ 32 - 1))
+capped_more n size rest None some =
+    ap (λ m. Ok m) (sym (min_saturates (n * size) rest (2 ^ 32 - 1) (some refl) ∙ ap (λ m. min m (2 ^ 32 - 1)) (mul_assoc n size rest)))
+capped_more n size rest (Some fault) some = refl
+
+-- a size is that of a type without a fault
+held-Ok : (o : Option TyFault) (n size : ℕ) → Ok size ≡ held o n → (o ≡ None) × (size ≡ n)
+held-Ok None n size h = (refl, (cc))
+held-Ok (Some fault) n size h = (cc)
+
+pub sized : (limit : ℕ) (t : TypeTree) (size : ℕ) → Ok size ≡ size_within limit t → (fault_within limit t ≡ None) × (size ≡ count t)
+sized limit t size h = held-Ok (fault_within limit t) (count t) size h
+
+rest_some : (ts : List TypeTree) → first_fault (type_parts ts) ≡ None → 0 < product (map count ts)
+rest_some ts h = rw (counts-type_parts ts) at (each_some_values (type_parts ts) h)
+
+pub capped_step : (n : ℕ) (t : TypeTree) (ts : List TypeTree) (size : ℕ) → Ok size ≡ size_within 65536 t
+    → capped_after n (t ∷ ts) ≡ capped_after (min (n * size) (2 ^ 32 - 1)) ts
+capped_step n t ts size is =
+    let known = sized 65536 t size is in
+    let rest = product (map count ts) in
+    let later = first_fault (type_parts ts) in
+    ap (λ o. held (first_of o later) (min (n * (count t * rest)) (2 ^ 32 - 1))) known.0
+    ∙ (capped_more n (count t) rest later (rest_some ts) ∙ ap (λ s. held later (min (min (n * s) (2 ^ 32 - 1) * rest) (2 ^ 32 - 1))) (sym known.1))
+
+-- ---- a tuple's size against the limit
+
+judged : (b : Bool) (n : ℕ) → ◌≡◌ {A = Result ℕ TyFault} (if b then Ok n else Err TooManyValues) (held (if b then None else Some TooManyValues) n)
+judged true n = refl
+judged false n = refl
+
+judged_capped : (n limit : ℕ) → limit ≤ 65536
+    → ◌≡◌ {A = Result ℕ TyFault} (if nat_le (min n (2 ^ 32 - 1)) limit then Ok (min n (2 ^ 32 - 1)) else Err TooManyValues)
+    (if nat_le n limit then Ok n else Err TooManyValues)
+judged_capped n limit low = grind (arith, nat_tests)
+
+pub judged_tuple : (limit size : ℕ) (ts : List TypeTree) → limit ≤ 65536 → Ok size ≡ capped_product ts
+    → (if nat_le size limit then Ok size else Err TooManyValues) ≡ size_within limit (TupleOf (type_parts ts))
+judged_tuple limit size ts low h =
+    let most = product (map count ts) in
+    let known = held-Ok (first_fault (type_parts ts)) (min most (2 ^ 32 - 1)) size h in
+    let same = counts-type_parts ts in
+    ap (λ s. if nat_le s limit then Ok s else Err TooManyValues) known.1
+    ∙ (judged_capped most limit low
+    ∙ (judged (nat_le most limit) most
+    ∙ (ap (λ ns. held (crowded limit (product ns)) (product ns)) (sym same)
+    ∙ ap (λ o. held (crowded_after o limit (TupleOf (type_parts ts))) (product (counts (type_parts ts)))) (sym known.0))))

@@ -1,0 +1,61 @@
+-- The trees of values and types: lists of parts, and what each constructor shows.
+use Rattle.std.proofs.Common.{◌≡◌, Bool, ℤ, List, [], ◌∷◌, map, refl, ap, rules}
+use Rattle.kf_value.specs.declared.value.Value.{the_lemmas as value_lemmas}
+use Rattle.kf_value.specs.declared.value.Value.TheVariants as value
+use Rattle.kf_value.specs.declared.value.ValueList.{ValueList}
+use Rattle.kf_value.specs.declared.ty.Ty.{the_lemmas as type_lemmas}
+use Rattle.kf_value.specs.declared.ty.Ty.TheVariants as ty
+use Rattle.kf_value.specs.declared.ty.TyList.{TyList}
+use Rattle.kf_value.specs.Values.{ValueTree, Truth, Whole, Tuple, Set, parts, parts_list, order, orders}
+use Rattle.kf_value.specs.Types.{TypeTree, Boolean, Range, TupleOf, type_parts, type_list, type_tree, values, each_values, count, counts}
+use Rattle.kf_value.specs.Texts.{text, texts}
+use Rattle.kf_value.specs.Views.{value_tree, value_trees, type_trees}
+
+pub parts_list-parts : (vs : List ValueTree) → parts_list (parts vs) ≡ vs
+parts_list-parts [] = refl
+parts_list-parts (v ∷ vs) = ap (λ ws. v ∷ ws) (parts_list-parts vs)
+
+pub orders-parts : (vs : List ValueTree) → orders (parts vs) ≡ map order vs
+orders-parts [] = refl
+orders-parts (v ∷ vs) = ap (λ os. order v ∷ os) (orders-parts vs)
+
+pub texts-parts : (vs : List ValueTree) → texts (parts vs) ≡ map text vs
+texts-parts [] = refl
+texts-parts (v ∷ vs) = ap (λ ts. text v ∷ ts) (texts-parts vs)
+
+pub type_list-type_parts : (ts : List TypeTree) → type_list (type_parts ts) ≡ ts
+type_list-type_parts [] = refl
+type_list-type_parts (t ∷ ts) = ap (λ us. t ∷ us) (type_list-type_parts ts)
+
+pub counts-type_parts : (ts : List TypeTree) → counts (type_parts ts) ≡ map count ts
+counts-type_parts [] = refl
+counts-type_parts (t ∷ ts) = ap (λ ns. count t ∷ ns) (counts-type_parts ts)
+
+pub each_values-type_parts : (ts : List TypeTree) → each_values (type_parts ts) ≡ map values ts
+unfolding values each_values
+each_values-type_parts [] = refl
+each_values-type_parts (t ∷ ts) = ap (λ vss. values t ∷ vss) (each_values-type_parts ts)
+
+pub value_tree-Bool : (b : Bool) → value_tree (value.Bool b) ≡ Truth b
+value_tree-Bool b = search (rules, value_lemmas)
+
+pub value_tree-Int : (i : ℤ) → value_tree (value.Int i) ≡ Whole i
+value_tree-Int i = search (rules, value_lemmas)
+
+pub value_tree-Tuple : (vs : ValueList) → value_tree (value.Tuple vs) ≡ Tuple (parts (value_trees vs))
+value_tree-Tuple vs = search (rules, value_lemmas)
+
+pub value_tree-Set : (vs : ValueList) → value_tree (value.Set vs) ≡ Set (parts (value_trees vs))
+value_tree-Set vs = search (rules, value_lemmas)
+
+pub type_tree-Bool : type_tree ty.Bool ≡ Boolean
+type_tree-Bool = search (rules, type_lemmas)
+
+pub type_tree-Int : (lo hi : ℤ) → type_tree (ty.Int lo hi) ≡ Range lo hi
+type_tree-Int lo hi = search (rules, type_lemmas)
+
+pub type_tree-Tuple : (ts : TyList) → type_tree (ty.Tuple ts) ≡ TupleOf (type_parts (type_trees ts))
+type_tree-Tuple ts = search (rules, type_lemmas)
+
+-- what each constructor of a value or a type shows
+pub ruleset constructors = (value_tree-Bool, value_tree-Int, value_tree-Tuple, value_tree-Set, type_tree-Bool, type_tree-Int, type_tree-Tuple)

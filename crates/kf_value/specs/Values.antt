@@ -3,7 +3,7 @@ use Rattle.std.specs.Prelude.{◌≡◌, ◌≤◌, ℤ, Bool, List, [], ◌∷�
 use Rattle.std.specs.declared.cmp.Ordering.{Ordering}
 use Rattle.std.specs.declared.cmp.Ordering.TheVariants.{Less, Equal, Greater}
 use Rattle.std.specs.Ordering.{bool_cmp, int_cmp, ordering_then}
-use Rattle.std.specs.List.{All}
+use Rattle.std.specs.List.Sorted.{IsStrictlySortedBy}
 
 mutual
   pub data ValueTree : Type 0 where
@@ -64,18 +64,13 @@ abbrev mutual
   orders no_value = []
   orders (more_values v vs) = order v ∷ orders vs
 
--- each value is less than all later ones
-abbrev pub IsAscending : List ValueTree → Type 0
-IsAscending [] = Unit {0}
-IsAscending (v ∷ vs) = All (λ w. order v w ≡ Less) vs × IsAscending vs
-
 -- at each nesting, a tuple has at least two parts and a set's elements ascend
 abbrev mutual
   pub IsWellFormed : ValueTree → Type 0
   IsWellFormed (Truth b) = Unit {0}
   IsWellFormed (Whole i) = Unit {0}
   IsWellFormed (Tuple vs) = (2 ≤ length (parts_list vs)) × EachWellFormed vs
-  IsWellFormed (Set vs) = IsAscending (parts_list vs) × EachWellFormed vs
+  IsWellFormed (Set vs) = IsStrictlySortedBy order (parts_list vs) × EachWellFormed vs
 
   pub EachWellFormed : ValueTrees → Type 0
   EachWellFormed no_value = Unit {0}

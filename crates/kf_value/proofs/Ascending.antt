@@ -1,18 +1,17 @@
 -- The values of a type stand in their order, as many as counted, each well formed.
-use Rattle.std.proofs.Common.{◌≡◌, ℕ, ℤ, zero, suc, pos, negsuc, ◌+◌, ◌*◌, ◌^◌, ◌<◌, ◌≤◌, ◌+ℤ◌, ◌-ℤ◌, ◌<ℤ◌, List, [], ◌∷◌, ◌++◌, length, map, reverse, slice_get, Some, refl, sym, ap, ◌∙◌, subst, ⊎_elim, ◌⊎◌, arith}
-use Rattle.std.specs.Prelude.{⊤, Bool, true, false, ◌&&◌, nat_le, IsTrue}
+use Rattle.std.proofs.Common.{◌≡◌, ℕ, ℤ, zero, suc, pos, ◌+◌, ◌^◌, ◌<◌, ◌≤◌, ◌+ℤ◌, ◌-ℤ◌, ◌<ℤ◌, List, [], ◌∷◌, ◌++◌, length, map, reverse, refl, sym, ap, ◌∙◌, ⊎_elim, arith}
+use Rattle.std.specs.Prelude.{⊤, true, false, nat_le}
 use Rattle.std.specs.declared.cmp.Ordering.{Ordering}
-use Rattle.std.specs.declared.cmp.Ordering.TheVariants.{Less, Equal, Greater}
-use Rattle.std.specs.Ordering.{int_cmp}
+use Rattle.std.specs.declared.cmp.Ordering.TheVariants.{Less, Equal}
 use Rattle.std.specs.Cmp.{int_cmp_is}
-use Rattle.std.specs.List.{AllByRecursion as Each, flat_map, range_with_len}
+use Rattle.std.specs.List.{AllByRecursion as Each, range_with_len}
 use Rattle.std.specs.List.Sorted.{IsStrictlySortedBy}
 use Rattle.std.proofs.lemmas.List.{length-map, reverse-append}
 use Rattle.std.proofs.lemmas.List.FromFn.{length-map-range_with_len}
 use Rattle.std.proofs.lemmas.Int.{ints}
 use Rattle.std.proofs.lemmas.Bool.{and_parts}
 use Rattle.std.proofs.lemmas.Bool.Decides.{nat_tests}
-use Rattle.kf_value.specs.Values.{ValueTree, ValueTrees, Truth, Whole, Tuple, Set, parts, parts_list, order, lexicographic, IsWellFormed, EachWellFormed}
+use Rattle.kf_value.specs.Values.{ValueTree, Truth, Whole, Tuple, Set, parts, order, IsWellFormed, EachWellFormed}
 use Rattle.kf_value.specs.Types.{TypeTree, TypeTrees, Boolean, Range, TupleOf, SetOf, no_type, more_types, type_list, values, each_values, combinations, subsets, count, counts, counted, product, well_formed, each_well_formed}
 use Rattle.kf_value.proofs.Trees.{parts_list-parts}
 use Rattle.kf_value.proofs.ListLemmas.{each_any, each_map, each_flat_map, each_weaker, each_both, each_reverse}
@@ -99,7 +98,7 @@ longer_left (x ∷ xs) (y ∷ ys) v low h =
     then_less (order x y) (lists_order (xs ++ v ∷ []) ys) later.0 (longer_left xs ys v low.1 later.1))
     (then-Less (order x y) (lists_order xs ys) h)
 
-each_part : (P : ValueTree → Type 0) (vs : List ValueTree) → Each P vs → Each (Each P) (subsets vs)
+pub each_part : (P : ValueTree → Type 0) (vs : List ValueTree) → Each P vs → Each (Each P) (subsets vs)
 each_part P [] h = (tt, tt)
 each_part P (v ∷ vs) h =
     each_flat_map (Each P) (λ part. part ∷ (v ∷ part) ∷ []) (subsets vs)

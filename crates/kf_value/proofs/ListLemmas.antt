@@ -1,6 +1,8 @@
 -- Facts about lists of any kind.
 use Rattle.std.proofs.Common.{◌≡◌, ℕ, ◌+◌, ◌<◌, ◌≤◌, List, [], ◌∷◌, map, reverse, drop, length, get_or, slice_get, Some, zero, suc, ◌++◌, subst, refl, sym, ap, ◌∙◌}
 use Rattle.std.proofs.lemmas.List.{drop_more, drop_all}
+use Rattle.std.proofs.lemmas.Option.{slice_get-map, slice_get-get_or}
+use Rattle.std.specs.Option.{option_map}
 use mathlib.Core.List.{reverse_aux}
 use Rattle.std.specs.List.{AllByRecursion as Each, flat_map}
 
@@ -56,3 +58,8 @@ each_at P (y ∷ ys) (suc i) x h at = each_at P ys i x h.1 at
 pub each_both : {X : Type 0} (P Q R : X → Type 0) → ((x : X) → P x → Q x → R x) → (xs : List X) → Each P xs → Each Q xs → Each R xs
 each_both P Q R go [] hp hq = tt
 each_both P Q R go (x ∷ xs) hp hq = (go x hp.0 hq.0, each_both P Q R go xs hp.1 hq.1)
+
+-- what a read of a list tells of the mapped list
+pub mapped_read : {X Y : Type 0} (f : X → Y) (xs : List X) (i : ℕ) (x : X) → i < length xs → x ≡ get_or xs i x → slice_get (map f xs) i ≡ Some (f x)
+mapped_read f xs i x within read =
+    slice_get-map f xs i ∙ (ap (option_map f) (slice_get-get_or xs i x within) ∙ ap (λ y. Some (f y)) (sym read))

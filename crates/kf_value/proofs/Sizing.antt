@@ -8,7 +8,7 @@ use Rattle.std.proofs.lemmas.Int.{ints}
 use Rattle.std.proofs.lemmas.Bool.Decides.{nat_tests}
 use Rattle.kf_value.specs.declared.ty.TyFault.{TyFault}
 use Rattle.kf_value.specs.declared.ty.TyFault.TheVariants.{BadRange, TooManyValues}
-use Rattle.kf_value.specs.Types.{TypeTree, TypeTrees, Boolean, Range, TupleOf, SetOf, no_type, more_types, type_parts, count, counts, product, fault_within, first_fault, first_of, crowded, crowded_after, size_within, capped_product, in_bounds, counted}
+use Rattle.kf_value.specs.Types.{TypeTree, TypeTrees, Boolean, Range, TupleOf, SetOf, no_type, more_types, type_parts, count, counts, product, fault_within, first_fault, first_of, crowded, crowded_after, size_within, capped_product, in_bounds, counted, HasSize}
 use Rattle.kf_value.proofs.Trees.{counts-type_parts}
 
 -- ---- a type without a fault has a value
@@ -86,7 +86,7 @@ held-Ok (Some fault) n size h = (cc)
 pub sized : (limit : ℕ) (t : TypeTree) (size : ℕ) → Ok size ≡ size_within limit t → (fault_within limit t ≡ None) × (size ≡ count t)
 sized limit t size h = held-Ok (fault_within limit t) (count t) size h
 
-rest_some : (ts : List TypeTree) → first_fault (type_parts ts) ≡ None → 0 < product (map count ts)
+pub rest_some : (ts : List TypeTree) → first_fault (type_parts ts) ≡ None → 0 < product (map count ts)
 rest_some ts h = rw (counts-type_parts ts) at (each_some_values (type_parts ts) h)
 
 pub capped_step : (n : ℕ) (t : TypeTree) (ts : List TypeTree) (size : ℕ) → Ok size ≡ size_within 65536 t
@@ -120,3 +120,58 @@ judged_tuple limit size ts low h =
     ∙ (judged (nat_le most limit) most
     ∙ (ap (λ ns. held (crowded limit (product ns)) (product ns)) (sym same)
     ∙ ap (λ o. held (crowded_after o limit (TupleOf (type_parts ts))) (product (counts (type_parts ts)))) (sym known.0))))
+
+-- ---- what a type without a fault has
+
+crowded_by : (b : Bool) (limit n : ℕ) → nat_le n limit ≡ b → (if b then None else Some TooManyValues) ≡ None → n ≤ limit
+crowded_by true limit n is h = grind (arith, nat_tests)
+crowded_by false limit n is h = (cc)
+
+crowded-None : (limit n : ℕ) → crowded limit n ≡ None → n ≤ limit
+crowded-None limit n h = crowded_by (nat_le n limit) limit n refl h
+
+crowded_from : (limit n : ℕ) → n ≤ limit → crowded limit n ≡ None
+crowded_from limit n low = let fits : nat_le n limit ≡ true = grind (arith, nat_tests) in ap (λ b. if b then None else Some TooManyValues) fits
+
+range_few : (ok : Bool) (limit n : ℕ) → (if ok then crowded limit n else Some BadRange) ≡ None → n ≤ limit
+range_few true limit n h = crowded-None limit n h
+range_few false limit n h = (cc)
+
+range_looser : (ok : Bool) (low high n : ℕ) → low ≤ high → (if ok then crowded low n else Some BadRange) ≡ None → (if ok then crowded high n else Some BadRange) ≡ None
+range_looser true low high n le h = let few = crowded-None low n h in crowded_from high n (omega arith)
+range_looser false low high n le h = h
+
+after_few : (inner : Option TyFault) (limit : ℕ) (t : TypeTree) → crowded_after inner limit t ≡ None → count t ≤ limit
+after_few None limit t h = crowded-None limit (count t) h
+after_few (Some fault) limit t h = (cc)
+
+after_looser : (inner : Option TyFault) (low high : ℕ) (t : TypeTree) → low ≤ high → crowded_after inner low t ≡ None → crowded_after inner high t ≡ None
+after_looser None low high t le h = let few = crowded-None low (count t) h in crowded_from high (count t) (omega arith)
+after_looser (Some fault) low high t le h = h
+
+pub few_values : (limit : ℕ) (t : TypeTree) → fault_within limit t ≡ None → count t ≤ limit
+few_values limit Boolean h = crowded-None limit 2 h
+few_values limit (Range lo hi) h = range_few (in_bounds lo hi) limit (count (Range lo hi)) h
+few_values limit (TupleOf ts) h = after_few (first_fault ts) limit (TupleOf ts) h
+few_values limit (SetOf base) h = after_few (fault_within 16 base) limit (SetOf base) h
+
+pub looser : (low high : ℕ) (t : TypeTree) → low ≤ high → fault_within low t ≡ None → fault_within high t ≡ None
+looser low high Boolean le h = let few = crowded-None low 2 h in crowded_from high 2 (omega arith)
+looser low high (Range lo hi) le h = range_looser (in_bounds lo hi) low high (count (Range lo hi)) le h
+looser low high (TupleOf ts) le h = after_looser (first_fault ts) low high (TupleOf ts) le h
+looser low high (SetOf base) le h = after_looser (fault_within 16 base) low high (SetOf base) le h
+
+pub tuple_sized : (ts : List TypeTree) → HasSize (TupleOf (type_parts ts)) → (first_fault (type_parts ts) ≡ None) × (product (map count ts) ≤ 65536)
+tuple_sized ts h =
+    let few : product (counts (type_parts ts)) ≤ 65536 = few_values 65536 (TupleOf (type_parts ts)) h in
+    (crowded_after-None (first_fault (type_parts ts)) 65536 (TupleOf (type_parts ts)) h, rw (counts-type_parts ts) at few)
+
+pub base_sized : (base : TypeTree) → HasSize (SetOf base) → HasSize base × (count base ≤ 16)
+base_sized base h =
+    let inner = crowded_after-None (fault_within 16 base) 65536 (SetOf base) h in
+    (looser 16 65536 base (omega arith) inner, few_values 16 base inner)
+
+pub known_fits : (t : TypeTree) (n : ℕ) → HasSize t → Ok n ≡ size_within 65536 t → (n ≡ count t) × (0 < n) × (n ≤ 65536)
+known_fits t n sized_t h =
+    let known = sized 65536 t n h in
+    (known.1, rw (known.1) (some_values 65536 t sized_t), rw (known.1) (few_values 65536 t sized_t))

@@ -1,13 +1,13 @@
 -- The trees of values and types: lists of parts, and what each constructor shows.
-use Rattle.std.proofs.Common.{◌≡◌, Bool, ℤ, List, [], ◌∷◌, map, refl, ap, rules}
-use Rattle.kf_value.specs.declared.value.Value.{the_lemmas as value_lemmas}
+use Rattle.std.proofs.Common.{◌≡◌, Bool, ℤ, List, [], ◌∷◌, map, refl, sym, ap, subst, rules, Box, Global}
+use Rattle.kf_value.specs.declared.value.Value.{Value, Value-F, out-Value, roll-Value, roll-out-Value, the_lemmas as value_lemmas}
 use Rattle.kf_value.specs.declared.value.Value.TheVariants as value
 use Rattle.kf_value.specs.declared.value.ValueList.{ValueList}
-use Rattle.kf_value.specs.declared.ty.Ty.{the_lemmas as type_lemmas}
+use Rattle.kf_value.specs.declared.ty.Ty.{Ty, the_lemmas as type_lemmas}
 use Rattle.kf_value.specs.declared.ty.Ty.TheVariants as ty
 use Rattle.kf_value.specs.declared.ty.TyList.{TyList}
 use Rattle.kf_value.specs.Values.{ValueTree, Truth, Whole, Tuple, Set, parts, parts_list, order, orders}
-use Rattle.kf_value.specs.Types.{TypeTree, Boolean, Range, TupleOf, type_parts, type_list, type_tree, values, each_values, count, counts}
+use Rattle.kf_value.specs.Types.{TypeTree, Boolean, Range, TupleOf, SetOf, type_parts, type_list, type_tree, values, each_values, count, counts}
 use Rattle.kf_value.specs.Texts.{text, texts}
 use Rattle.kf_value.specs.Views.{value_tree, value_trees, type_trees}
 
@@ -57,5 +57,20 @@ type_tree-Int lo hi = search (rules, type_lemmas)
 pub type_tree-Tuple : (ts : TyList) → type_tree (ty.Tuple ts) ≡ TupleOf (type_parts (type_trees ts))
 type_tree-Tuple ts = search (rules, type_lemmas)
 
+pub type_tree-Set : (base : Box Ty Global) → type_tree (ty.Set base) ≡ SetOf (type_tree base.value)
+type_tree-Set base = search (rules, type_lemmas)
+
+-- what holds of each form of value holds of each value
+by_shape : (P : Value → Type 0) → ((b : Bool) → P (value.Bool b)) → ((i : ℤ) → P (value.Int i)) → ((vs : ValueList) → P (value.Tuple vs))
+    → ((vs : ValueList) → P (value.Set vs)) → (w : Value-F Value ValueList) → P (roll-Value w)
+by_shape P truth whole tuple set (Value-F.Bool b) = subst P (sym (value.rolls-Bool b)) (truth b)
+by_shape P truth whole tuple set (Value-F.Int i) = subst P (sym (value.rolls-Int i)) (whole i)
+by_shape P truth whole tuple set (Value-F.Tuple vs) = subst P (sym (value.rolls-Tuple vs)) (tuple vs)
+by_shape P truth whole tuple set (Value-F.Set vs) = subst P (sym (value.rolls-Set vs)) (set vs)
+
+pub by_form : (P : Value → Type 0) → ((b : Bool) → P (value.Bool b)) → ((i : ℤ) → P (value.Int i)) → ((vs : ValueList) → P (value.Tuple vs))
+    → ((vs : ValueList) → P (value.Set vs)) → (v : Value) → P v
+by_form P truth whole tuple set v = subst P (roll-out-Value v) (by_shape P truth whole tuple set (out-Value v))
+
 -- what each constructor of a value or a type shows
-pub ruleset constructors = (value_tree-Bool, value_tree-Int, value_tree-Tuple, value_tree-Set, type_tree-Bool, type_tree-Int, type_tree-Tuple)
+pub ruleset constructors = (value_tree-Bool, value_tree-Int, value_tree-Tuple, value_tree-Set, type_tree-Bool, type_tree-Int, type_tree-Tuple, type_tree-Set)

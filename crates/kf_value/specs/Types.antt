@@ -1,5 +1,5 @@
 -- Types as plain trees, the values of each in their order, and how many there are.
-use Rattle.std.specs.Prelude.{◌≡◌, ℕ, ℤ, pos, negsuc, ◌+◌, ◌*◌, ◌^◌, ◌-◌, min, ◌-ℤ◌, ◌+ℤ◌, int_le, Bool, true, false, ◌&&◌, List, [], ◌∷◌, map, length, nat_le, if◌then◌else◌, Option, None, Some, Result, Ok, Err}
+use Rattle.std.specs.Prelude.{◌≡◌, ℕ, ℤ, pos, negsuc, ◌+◌, ◌*◌, ◌^◌, ◌-◌, min, ◌-ℤ◌, ◌+ℤ◌, int_le, Bool, true, false, ◌&&◌, List, [], ◌∷◌, map, length, nat_le, slice_get, if◌then◌else◌, Option, None, Some, Result, Ok, Err}
 use Rattle.std.specs.List.{flat_map, range_with_len}
 use Rattle.kf_value.specs.declared.ty.Ty.{Ty, fold-Ty, Ty-F}
 use Rattle.kf_value.specs.declared.ty.TyList.{TyList-F}
@@ -140,3 +140,12 @@ abbrev mutual
 -- a type with no faulty part, whose tuples have at least two parts
 abbrev pub HasSize : TypeTree → Type 0
 HasSize t = fault_of t ≡ None
+
+-- the value stands at this place among the values of the type
+abbrev pub HasNumber : TypeTree → ValueTree → ℕ → Type 0
+HasNumber t v n = slice_get (values t) n ≡ Some v
+
+-- where an element stands in a list, or that it stands nowhere
+abbrev pub IsPlaceIn : {X : Type 0} → List X → X → Option ℕ → Type 0
+IsPlaceIn xs x (Some n) = slice_get xs n ≡ Some x
+IsPlaceIn xs x None = (n : ℕ) → ¬ (slice_get xs n ≡ Some x)

@@ -1,5 +1,5 @@
 -- Values as plain trees, their order, and which are well formed.
-use Rattle.std.specs.Prelude.{◌≡◌, ◌≤◌, ℤ, Bool, List, [], ◌∷◌, length, reverse}
+use Rattle.std.specs.Prelude.{◌≤◌, ℤ, Bool, List, [], ◌∷◌, length, reverse}
 use Rattle.std.specs.declared.cmp.Ordering.{Ordering}
 use Rattle.std.specs.declared.cmp.Ordering.TheVariants.{Less, Equal, Greater}
 use Rattle.std.specs.Ordering.{bool_cmp, int_cmp, ordering_then}

@@ -4,6 +4,7 @@
 mod kind;
 mod mem;
 mod name;
+mod numbers;
 mod order;
 mod sizes;
 mod target;
@@ -14,6 +15,7 @@ mod value;
 pub use kind::{Kind, KindList};
 pub use mem::Mem;
 pub use name::Name;
+pub use numbers::number;
 pub use order::compare;
 pub use sizes::size;
 pub use target::Target;

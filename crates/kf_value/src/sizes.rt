@@ -1,5 +1,5 @@
-ghost use Rattle.std.specs.Prelude.{◌≡◌, ◌≤◌, ◌-ℤ◌, map, nat_le, IfOk, if◌then◌else◌};
-ghost use Rattle.kf_value.specs.Types.{type_tree, size_of, size_within, capped_product, in_bounds, counted};
+ghost use Rattle.std.specs.Prelude.{◌≡◌, ◌≤◌, ◌<◌, ◌-ℤ◌, map, nat_le, IfOk, if◌then◌else◌};
+ghost use Rattle.kf_value.specs.Types.{type_tree, size_of, size_within, capped_product, in_bounds, counted, count, HasSize};
 
 use crate::{Ty, TyFault};
 
@@ -65,4 +65,17 @@ fn product_of_sizes(types: &[Ty]) -> Result<u32, TyFault>
         product = product.saturating_mul(size_within(ty, MOST_VALUES)?);
     }
     Ok(product)
+}
+
+/// The number of values of a type that has a size.
+pub(crate) fn known_size(ty: &Ty) -> u32
+    requires { HasSize (type_tree ty.now) }
+    ensures exact { result ≡ count (type_tree ty.now) }
+    ensures some { 0 < result }
+    ensures few { result ≤ 65536 }
+{
+    match size(ty) {
+        Ok(size) => size,
+        Err(_) => unreachable!(),
+    }
 }

@@ -3,7 +3,7 @@ use Rattle.std.proofs.Common.{◌≡◌, ℕ, ℤ, zero, suc, pos, negsuc, ◌<�
 use mir.Val.{bool_byte}
 use Rattle.std.proofs.Math.IntN.{nat_abs}
 use Rattle.std.proofs.lemmas.Bool.{and_parts}
-use Rattle.std.specs.Prelude.{IfSome, int_le, ◌&&◌}
+use Rattle.std.specs.Prelude.{IfSome, int_le, ◌&&◌, ◌==◌, if◌then◌else◌}
 use Rattle.std.specs.Option.{option_map}
 use Rattle.std.specs.List.{range_with_len, AllByRecursion as Each}
 use Rattle.std.specs.List.Sorted.{IsStrictlySortedBy}
@@ -15,7 +15,9 @@ use Rattle.kf_value.specs.declared.value.Value.TheVariants as value
 use Rattle.kf_value.specs.declared.value.ValueList.{ValueList}
 use Rattle.kf_value.specs.Views.{value_tree}
 use Rattle.kf_value.specs.Values.{ValueTree, Truth, Whole, Tuple, Set, parts, parts_list, order, IsWellFormed, EachWellFormed}
-use Rattle.kf_value.specs.Types.{TypeTree, Boolean, Range, TupleOf, SetOf, type_parts, values, each_values, combinations, subsets, count, counted, in_bounds, IsPlaceIn}
+use Rattle.kf_value.specs.Types.{TypeTree, Boolean, Range, TupleOf, SetOf, type_parts, values, each_values, combinations, subsets, count, counted, in_bounds, crowded, HasSize, IsPlaceIn}
+use Rattle.kf_value.specs.declared.ty.TyFault.{TyFault}
+use Rattle.kf_value.specs.declared.ty.TyFault.TheVariants.{BadRange}
 use Rattle.kf_value.proofs.Ascending.{length-values}
 use Rattle.kf_value.proofs.Places.{mapped_at}
 use Rattle.kf_value.proofs.Trees.{parts_list-parts, each_values-type_parts, by_form, value_tree-Bool, value_tree-Int, value_tree-Tuple, value_tree-Set}
@@ -61,6 +63,12 @@ unfolding values
 truth_place false = refl
 truth_place true = refl
 
+pub truth_at : (n : ℕ) → n < 2 → slice_get (values Boolean) n ≡ Some (Truth (n == 1))
+unfolding values
+truth_at zero below = refl
+truth_at (suc zero) below = refl
+truth_at (suc (suc n)) below = absurd (omega arith)
+
 pub values-Range : (lo hi : ℤ) → values (Range lo hi) ≡ map (λ k. Whole (lo +ℤ pos k)) (range_with_len 0 (counted (hi -ℤ lo)))
 unfolding values
 values-Range lo hi = refl
@@ -102,6 +110,10 @@ no_whole lo hi whole outside n h =
     let low : lo ≤ℤ whole = grind (arith, ints) in
     outside low (subst (λ i. i ≤ℤ hi) (sym is) high)
 
+range_within : {ok : Bool} (b : Bool) (few : Option TyFault) → b ≡ ok → (if b then few else Some BadRange) ≡ None → ok ≡ true
+range_within true few is h = sym is
+range_within false few is h = (cc)
+
 in_bounds_tells : (lo hi : ℤ) → in_bounds lo hi ≡ true → (negsuc 999999 ≤ℤ lo) × (lo ≤ℤ hi) × (hi ≤ℤ pos 1000000)
 in_bounds_tells lo hi h =
     let outer = and_parts (int_le (negsuc 999999) lo) (int_le lo hi && int_le hi (pos 1000000)) h in
@@ -110,6 +122,18 @@ in_bounds_tells lo hi h =
     let upright : lo ≤ℤ hi = grind (arith, ints, inner.0) in
     let high : hi ≤ℤ pos 1000000 = grind (arith, ints, inner.1) in
     (low, upright, high)
+
+-- a range with a size has bounds near 0
+pub range_sized : (lo hi : ℤ) → HasSize (Range lo hi) → in_bounds lo hi ≡ true
+range_sized lo hi h = range_within (in_bounds lo hi) (crowded 65536 (count (Range lo hi))) refl h
+
+-- what the code adds up for the value with a number
+pub range_sum : (lo hi : ℤ) (n : ℕ) → in_bounds lo hi ≡ true → n < counted (hi -ℤ lo)
+    → to_z w64 (of_z w64 (to_z w64 (of_z w64 lo) +ℤ to_z w64 (of_z w64 (pos n)))) ≡ lo +ℤ pos n
+range_sum lo hi n bounds below =
+    let known = in_bounds_tells lo hi bounds in
+    let high = within_counted lo hi n below in
+    omega (arith, ints)
 
 -- the number that the code takes from the difference
 pub range_number : (lo hi whole : ℤ) → in_bounds lo hi ≡ true → lo ≤ℤ whole → whole ≤ℤ hi

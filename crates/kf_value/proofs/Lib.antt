@@ -1,13 +1,17 @@
 pub mod Ascending
 mod Comparing
+mod Digits
 mod Examples
+mod Finding
 mod ListLemmas
 pub mod Orders
 mod ByForm
 mod Numbering
 mod Parts
 mod Places
+mod Replacing
 mod Sets
 mod Sizing
 mod Sorting
 pub mod Trees
+mod Widening

@@ -29,7 +29,7 @@ range_has_values : (ok : Bool) (lo hi : ℤ) (limit : ℕ) → in_bounds lo hi �
 range_has_values false lo hi limit is h = (cc)
 range_has_values true lo hi limit is h = in_bounds_upright lo hi is
 
-product_some : (a b : ℕ) → 0 < a → 0 < b → 0 < a * b
+pub product_some : (a b : ℕ) → 0 < a → 0 < b → 0 < a * b
 product_some a b ha hb = let grown : a * 1 ≤ a * b = mul-le-mul_left a hb in omega arith
 
 mutual
@@ -175,3 +175,10 @@ pub known_fits : (t : TypeTree) (n : ℕ) → HasSize t → Ok n ≡ size_within
 known_fits t n sized_t h =
     let known = sized 65536 t n h in
     (known.1, rw (known.1) (some_values 65536 t sized_t), rw (known.1) (few_values 65536 t sized_t))
+
+pub known_product_fits : (ts : List TypeTree) (n : ℕ) → HasSize (TupleOf (type_parts ts)) → Ok n ≡ capped_product ts → n ≡ product (map count ts)
+known_product_fits ts n sized_ts h =
+    let known = held-Ok (first_fault (type_parts ts)) (min (product (map count ts)) (2 ^ 32 - 1)) n h in
+    let few = (tuple_sized ts sized_ts).1 in
+    let same = known.1 in
+    omega arith

@@ -1,4 +1,5 @@
 pub mod Kinds
+pub mod Shapes
 pub mod Stores
 pub mod Targets
 pub mod Texts

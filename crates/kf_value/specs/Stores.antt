@@ -25,3 +25,7 @@ abbrev pub mixed_radix : List ℕ → List ℕ → ℕ
 mixed_radix [] ds = 0
 mixed_radix (size ∷ sizes) [] = 0
 mixed_radix (size ∷ sizes) (d ∷ ds) = d * product sizes + mixed_radix sizes ds
+
+-- in the store with the number n, the i-th variable's value has the number k in its type
+abbrev pub HasDigit : List TypeTree → ℕ → ℕ → ℕ → Type 0
+HasDigit ts n i k = (t : TypeTree) (s : List ValueTree) → slice_get ts i ≡ Some t → IsStore ts n s → slice_get s i ≡ slice_get (values t) k

@@ -1,5 +1,5 @@
 ghost use Rattle.std.specs.Prelude.{◌≡◌, ◌≤◌, ◌<◌, ◌-ℤ◌, map, nat_le, IfOk, if◌then◌else◌};
-ghost use Rattle.kf_value.specs.Types.{type_tree, size_of, size_within, capped_product, in_bounds, counted, count, HasSize};
+ghost use Rattle.kf_value.specs.Types.{type_tree, size_of, size_within, capped_product, in_bounds, counted, count, product, type_parts, TupleOf, HasSize};
 
 use crate::{Ty, TyFault};
 
@@ -76,6 +76,17 @@ pub(crate) fn known_size(ty: &Ty) -> u32
 {
     match size(ty) {
         Ok(size) => size,
+        Err(_) => unreachable!(),
+    }
+}
+
+/// The product of the sizes of types whose tuples have a size.
+pub(crate) fn known_product(types: &[Ty]) -> u32
+    requires { HasSize (TupleOf (type_parts (map type_tree types.now))) }
+    ensures { result ≡ product (map count (map type_tree types.now)) }
+{
+    match product_of_sizes(types) {
+        Ok(product) => product,
         Err(_) => unreachable!(),
     }
 }

@@ -1,0 +1,7 @@
+use Rattle.std.proofs.Common.{map, drop}
+use Rattle.kf_value.specs.Types.{type_tree}
+use Rattle.kf_value.proofs.Widening.{ListedSoFar}
+use Rattle.kf_value.proofs.shape.Shape.new.Given as goal
+
+abbrev pub invariant-loop-ty : goal.invariant-loop-ty
+invariant-loop-ty l = ListedSoFar (map type_tree l.ty-items) (map type_tree (drop l.ty-index l.ty-items)) l.sizes.items l.weights.items l.weight

@@ -1,5 +1,5 @@
 -- The turns of the loops that find the value with a number.
-use Rattle.std.proofs.Common.{◌≡◌, ◌≢◌, ℕ, suc, ◌+◌, ◌-◌, ◌*◌, ◌/◌, ◌%◌, ◌^◌, ◌<◌, ◌≤◌, List, [], ◌∷◌, ◌++◌, length, map, drop, get_or, slice_get, Some, None, true, refl, sym, ap, ◌∙◌, subst, arith}
+use Rattle.std.proofs.Common.{◌≡◌, ◌≢◌, ℕ, suc, ◌+◌, ◌-◌, ◌*◌, ◌/◌, ◌%◌, ◌^◌, ◌<◌, ◌≤◌, List, [], ◌∷◌, ◌++◌, length, map, drop, slice_get, Some, None, true, refl, sym, ap, ◌∙◌, subst, arith}
 use Rattle.std.specs.Option.{option_map}
 use Rattle.std.proofs.Math.Nat.{pow-suc, mul_assoc}
 use Rattle.std.proofs.lemmas.List.{append_assoc, map-append, append-nil, drop_all}
@@ -7,13 +7,12 @@ use Rattle.kf_value.proofs.Trees.{counts-type_parts}
 use Rattle.std.proofs.lemmas.Nat.{div-mul-add, mod-mul-add, div-add-mod', div_below, mod_below}
 use Rattle.std.proofs.lemmas.Option.{slice_get-map}
 use Rattle.kf_value.specs.declared.value.Value.{Value}
-use Rattle.kf_value.specs.declared.ty.Ty.{Ty}
 use Rattle.kf_value.specs.Values.{ValueTree, Tuple, Set, parts, IsWellFormed}
-use Rattle.kf_value.specs.Types.{TypeTree, TupleOf, SetOf, type_tree, type_parts, values, combinations, subsets, count, fault_within, first_fault, well_formed, HasSize, HasNumber}
+use Rattle.kf_value.specs.Types.{TypeTree, TupleOf, SetOf, type_parts, values, combinations, subsets, count, fault_within, first_fault, well_formed, HasSize, HasNumber}
 use Rattle.kf_value.specs.Views.{value_tree}
 use Rattle.kf_value.proofs.Ascending.{length-values, values_well_formed}
 use Rattle.kf_value.proofs.ByForm.{values-TupleOf, values-SetOf}
-use Rattle.kf_value.proofs.ListLemmas.{left_step, left_end, each_at}
+use Rattle.kf_value.proofs.ListLemmas.{each_at}
 use Rattle.kf_value.proofs.Parts.{total, length-choices}
 use Rattle.kf_value.proofs.Places.{combination_at, subset_with, subset_without}
 use Rattle.kf_value.proofs.Sets.{element_at, drop_at}
@@ -29,12 +28,12 @@ one_more done x rest =
 
 -- ---- the parts of a tuple
 
-pub record PartsFound (types : List Ty) (n : ℕ) (later : List Ty) (done : List Value) (left weight : ℕ) : Type 0 where
-  pub sized : first_fault (type_parts (map type_tree later)) ≡ None
-  pub weighs : weight ≡ total (map type_tree later)
+pub record PartsFound (types : List TypeTree) (n : ℕ) (later : List TypeTree) (done : List Value) (left weight : ℕ) : Type 0 where
+  pub sized : first_fault (type_parts later) ≡ None
+  pub weighs : weight ≡ total later
   pub within : left < weight
-  pub whole : (rest : List ValueTree) → slice_get (combinations (map values (map type_tree later))) left ≡ Some rest
-      → slice_get (combinations (map values (map type_tree types))) n ≡ Some (map value_tree done ++ rest)
+  pub whole : (rest : List ValueTree) → slice_get (combinations (map values later)) left ≡ Some rest
+      → slice_get (combinations (map values types)) n ≡ Some (map value_tree done ++ rest)
 
 below_itself : (n m : ℕ) → n < m → n % m ≡ n
 below_itself n m below = let start : n ≡ 0 * m + n = omega arith in ap (λ z. z % m) start ∙ mod-mul-add 0 m n below
@@ -42,18 +41,23 @@ below_itself n m below = let start : n ≡ 0 * m + n = omega arith in ap (λ z. 
 grouped : (q c p a b : ℕ) → q * (c * p) + (a * p + b) ≡ (q * c + a) * p + b
 grouped q c p a b = let same = mul_assoc q c p in let spread : (q * c + a) * p ≡ q * c * p + a * p = omega arith in omega arith
 
-pub find_parts_start : (types : List Ty) (n weight : ℕ) → HasSize (TupleOf (type_parts (map type_tree types)))
-    → n < count (TupleOf (type_parts (map type_tree types))) → weight ≡ total (map type_tree types) → PartsFound types n types [] (n % weight) weight
+pub find_parts_start : (types : List TypeTree) (n weight : ℕ) → first_fault (type_parts types) ≡ None → n < total types → weight ≡ total types
+    → PartsFound types n types [] (n % weight) weight
 find_parts_start types n weight sized below weighs =
-    let known = tuple_sized (map type_tree types) sized in
-    let within : n < weight = rw (weighs, ← counts-type_parts (map type_tree types)) below in
+    let within : n < weight = rw weighs below in
     let same : n % weight ≡ n = below_itself n weight within in
     record {
-      sized = known.0;
+      sized = sized;
       weighs = weighs;
       within = rw same within;
-      whole = λ rest h. ap (slice_get (combinations (map values (map type_tree types)))) (sym same) ∙ h;
+      whole = λ rest h. ap (slice_get (combinations (map values types))) (sym same) ∙ h;
     }
+
+-- a tuple with a size, and the number of one of its values
+pub find_tuple_start : (types : List TypeTree) (n weight : ℕ) → HasSize (TupleOf (type_parts types)) → n < count (TupleOf (type_parts types)) → weight ≡ total types
+    → PartsFound types n types [] (n % weight) weight
+find_tuple_start types n weight sized below weighs =
+    find_parts_start types n weight (tuple_sized types sized).0 (rw (← counts-type_parts types) below) weighs
 
 -- a digit, seen from the whole number
 digit_is : (n c p : ℕ) → 0 < c → 0 < p → (n % (c * p) / p ≡ n / p % c) × (n % (c * p) % p ≡ n % p)
@@ -75,79 +79,69 @@ digit_is n c p some_c some_p =
     let rest : n % p ≡ b = ap (λ z. z % p) number ∙ mod-mul-add (q * c + a) p b b_below in
     (sym digit, sym rest)
 
-module _ (types : List Ty) (n i weight : ℕ) (t : Ty) (done : List Value) (in_types : i < length types) (read : t ≡ get_or types i t)
-    (found : PartsFound types n (drop i types) done (n % weight) weight) where
-  abbrev pub later : List TypeTree
-  later = map type_tree (drop (i + 1) types)
-
-  here : map type_tree (drop i types) ≡ type_tree t ∷ later
-  here = left_step type_tree types i t in_types read
-
-  sized_here : first_fault (type_parts (type_tree t ∷ later)) ≡ None
-  sized_here = rw here at found.sized
-
-  pub find_part_sized : HasSize (type_tree t)
-  find_part_sized = (first_of-None (fault_within 65536 (type_tree t)) (first_fault (type_parts later)) sized_here).0
+module _ (types : List TypeTree) (n weight : ℕ) (t : TypeTree) (later : List TypeTree) (done : List Value)
+    (found : PartsFound types n (t ∷ later) done (n % weight) weight) where
+  pub find_part_sized : HasSize t
+  find_part_sized = (first_of-None (fault_within 65536 t) (first_fault (type_parts later)) found.sized).0
 
   later_some : 0 < total later
-  later_some = rest_some later (first_of-None (fault_within 65536 (type_tree t)) (first_fault (type_parts later)) sized_here).1
+  later_some = rest_some later (first_of-None (fault_within 65536 t) (first_fault (type_parts later)) found.sized).1
 
-  weighs_here : weight ≡ count (type_tree t) * total later
-  weighs_here = rw here at found.weighs
-
-  pub find_weight : weight / count (type_tree t) ≡ total later
+  pub find_weight : weight / count t ≡ total later
   find_weight =
-      let some = some_values 65536 (type_tree t) find_part_sized in
-      let turned : count (type_tree t) * total later ≡ total later * count (type_tree t) + 0 = omega arith in
-      ap (λ w. w / count (type_tree t)) (weighs_here ∙ turned) ∙ div-mul-add (total later) (count (type_tree t)) 0 some
+      let some = some_values 65536 t find_part_sized in
+      let turned : count t * total later ≡ total later * count t + 0 = omega arith in
+      ap (λ w. w / count t) (found.weighs ∙ turned) ∙ div-mul-add (total later) (count t) 0 some
 
   left : ℕ
   left = n % weight
 
-  left_is : left ≡ n % (count (type_tree t) * total later)
+  left_is : left ≡ n % (count t * total later)
   unfolding left
-  left_is = ap (λ w. n % w) weighs_here
+  left_is = ap (λ w. n % w) found.weighs
 
-  below_here : left / total later < count (type_tree t)
+  below_here : left / total later < count t
   unfolding left
-  below_here = div_below (n % weight) (total later) (count (type_tree t)) later_some (subst (λ w. n % weight < w) weighs_here found.within)
+  below_here = div_below (n % weight) (total later) (count t) later_some (subst (λ w. n % weight < w) found.weighs found.within)
 
-  digits_here : (left / total later ≡ n / total later % count (type_tree t)) × (left % total later ≡ n % total later)
+  digits_here : (left / total later ≡ n / total later % count t) × (left % total later ≡ n % total later)
   digits_here =
-      let some = some_values 65536 (type_tree t) find_part_sized in
-      let known = digit_is n (count (type_tree t)) (total later) some later_some in
+      let some = some_values 65536 t find_part_sized in
+      let known = digit_is n (count t) (total later) some later_some in
       (ap (λ l. l / total later) left_is ∙ known.0, ap (λ l. l % total later) left_is ∙ known.1)
 
-  pub find_parts_step : (x : Value) → HasNumber (type_tree t) (value_tree x) (n / total later % count (type_tree t))
-      → PartsFound types n (drop (i + 1) types) (done ++ x ∷ []) (n % total later) (total later)
+  pub find_parts_step : (x : Value) → HasNumber t (value_tree x) (n / total later % count t)
+      → PartsFound types n later (done ++ x ∷ []) (n % total later) (total later)
   unfolding left
   find_parts_step x at = record {
-    sized = (first_of-None (fault_within 65536 (type_tree t)) (first_fault (type_parts later)) sized_here).1;
+    sized = (first_of-None (fault_within 65536 t) (first_fault (type_parts later)) found.sized).1;
     weighs = refl;
     within = mod_below n (total later) later_some;
     whole = λ rest h.
         let size = length-choices later in
         let number = n % weight in
-        let at_digit : slice_get (values (type_tree t)) (number / total later) ≡ Some (value_tree x) = ap (slice_get (values (type_tree t))) digits_here.0 ∙ at in
+        let at_digit : slice_get (values t) (number / total later) ≡ Some (value_tree x) = ap (slice_get (values t)) digits_here.0 ∙ at in
         let rest_digit : slice_get (combinations (map values later)) (number % total later) ≡ Some rest =
         ap (slice_get (combinations (map values later))) digits_here.1 ∙ h in
         let place : number ≡ number / total later * length (combinations (map values later)) + number % total later =
         sym (div-add-mod' number (total later)) ∙ ap (λ s. number / total later * s + number % total later) (sym size) in
-        let first = combination_at (values (type_tree t)) (map values later) (number / total later) (number % total later) number (value_tree x) rest place at_digit rest_digit in
-        found.whole (value_tree x ∷ rest) (rw here first) ∙ ap (λ vs. Some vs) (one_more done x rest);
+        let first = combination_at (values t) (map values later) (number / total later) (number % total later) number (value_tree x) rest place at_digit rest_digit in
+        found.whole (value_tree x ∷ rest) first ∙ ap (λ vs. Some vs) (one_more done x rest);
   }
 
-pub find_parts_end : (types : List Ty) (n i weight : ℕ) (done : List Value) → length types ≤ i → PartsFound types n (drop i types) done (n % weight) weight
-    → HasNumber (TupleOf (type_parts (map type_tree types))) (Tuple (parts (map value_tree done))) n
-find_parts_end types n i weight done past found =
-    let used = left_end type_tree types i past in
-    let weighs : weight ≡ 1 = rw used at found.weighs in
+pub find_parts_end : (types : List TypeTree) (n weight : ℕ) (done : List Value) → PartsFound types n [] done (n % weight) weight
+    → slice_get (combinations (map values types)) n ≡ Some (map value_tree done)
+find_parts_end types n weight done found =
+    let weighs : weight ≡ 1 = found.weighs in
     let within = found.within in
     let first : n % weight ≡ 0 = omega arith in
-    let whole = found.whole [] (rw (used, first) refl) in
-    ap (λ us. slice_get us n) (values-TupleOf (map type_tree types))
-    ∙ (slice_get-map (λ vs. Tuple (parts vs)) (combinations (map values (map type_tree types))) n
-    ∙ (ap (option_map (λ vs. Tuple (parts vs))) whole ∙ ap (λ vs. Some (Tuple (parts vs))) (append-nil (map value_tree done))))
+    found.whole [] (rw first refl) ∙ ap (λ vs. Some vs) (append-nil (map value_tree done))
+
+pub find_tuple_end : (types : List TypeTree) (n weight : ℕ) (done : List Value) → PartsFound types n [] done (n % weight) weight
+    → HasNumber (TupleOf (type_parts types)) (Tuple (parts (map value_tree done))) n
+find_tuple_end types n weight done found =
+    ap (λ us. slice_get us n) (values-TupleOf types)
+    ∙ (slice_get-map (λ vs. Tuple (parts vs)) (combinations (map values types)) n ∙ ap (option_map (λ vs. Tuple (parts vs))) (find_parts_end types n weight done found))
 
 -- ---- the elements of a set
 

@@ -3,12 +3,14 @@ mod Comparing
 mod Digits
 mod Examples
 mod Finding
+mod Items
 mod ListLemmas
 pub mod Orders
 mod ByForm
 mod Numbering
 mod Parts
 mod Places
+mod Printing
 mod Replacing
 mod Sets
 mod Sizing

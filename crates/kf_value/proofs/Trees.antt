@@ -74,3 +74,6 @@ by_form P truth whole tuple set v = subst P (roll-out-Value v) (by_shape P truth
 
 -- what each constructor of a value or a type shows
 pub ruleset constructors = (value_tree-Bool, value_tree-Int, value_tree-Tuple, value_tree-Set, type_tree-Bool, type_tree-Int, type_tree-Tuple, type_tree-Set)
+
+-- what a value shows, and the texts of its parts
+pub ruleset shown_values = (constructors, texts-parts)

@@ -1,31 +1,36 @@
-use Rattle.std.proofs.Common.{◌≡◌, ◌/◌, ◌<◌, Some, pos, ◌+ℤ◌, to_z, of_z, w64, map, slice_get, sym, ap, ◌∙◌, subst, arith}
+use Rattle.std.proofs.Common.{◌≡◌, ◌+◌, ◌/◌, ◌<◌, Some, pos, ◌+ℤ◌, to_z, of_z, w64, map, drop, slice_get, sym, ap, ◌∙◌, subst, arith}
 use Rattle.kf_value.specs.Types.{type_tree, type_parts, Range, TupleOf, SetOf, values, count, HasSize, HasNumber}
 use Rattle.kf_value.specs.Values.{Whole, Tuple, Set, parts}
 use Rattle.kf_value.specs.Views.{value_tree}
 use Rattle.kf_value.proofs.Trees.{type_tree-Bool, type_tree-Int, value_tree-Bool, value_tree-Int}
 use Rattle.std.specs.Prelude.{◌==◌}
 use Rattle.kf_value.proofs.ByForm.{truth_at, whole_place, range_sized, range_sum}
-use Rattle.kf_value.proofs.Finding.{find_parts_start, find_weight, find_parts_step, find_parts_end, find_with, find_without, find_elements_end}
+use Rattle.kf_value.proofs.ListLemmas.{left_step, left_end}
+use Rattle.kf_value.proofs.Finding.{find_tuple_start, find_weight, find_parts_step, find_tuple_end, find_with, find_without, find_elements_end}
 use Rattle.kf_value.proofs.nth.+value_at.Goals as goal
 use Rattle.kf_value.proofs.nth.+value_at.Goals.{elements_at-then-left-eq1+in_ok-value_at+in_ok-push, elements_at-else-left-eq1}
 
 pub parts_at-loop-ty-init : goal.parts_at-loop-ty-init
 parts_at-loop-ty-init t c =
-    rw (c.new-parts.ensures.items) (find_parts_start c.args.types.now c.args.n c.known_product-weight.result c.requires.sized c.requires.below c.known_product-weight.ensures)
+    rw (c.new-parts.ensures.items)
+    (find_tuple_start (map type_tree c.args.types.now) c.args.n c.known_product-weight.result c.requires.sized c.requires.below c.known_product-weight.ensures)
 
 pub parts_at-loop-ty-preserved : goal.parts_at-loop-ty-preserved
 parts_at-loop-ty-preserved t c =
-    let weighs = find_weight c.args.types.now c.args.n c.loop-ty.ty-index c.loop-ty.weight c.ty-item.result c.loop-ty.parts.items
-    (omega arith) c.ty-item.is c.loop-ty.invariant in
+    let later = map type_tree (drop (c.loop-ty.ty-index + 1) c.args.types.now) in
+    let here = left_step type_tree c.args.types.now c.loop-ty.ty-index c.ty-item.result (omega arith) c.ty-item.is in
+    let found = rw here at c.loop-ty.invariant in
+    let weighs = find_weight (map type_tree c.args.types.now) c.args.n c.loop-ty.weight (type_tree c.ty-item.result) later c.loop-ty.parts.items found in
     let weight = ap (λ s. c.loop-ty.weight / s) c.known_size-size.ensures.exact ∙ weighs in
     let place = rw (weight, c.known_size-size.ensures.exact) at c.in_ok-value_at.ensures.place in
-    let next = find_parts_step c.args.types.now c.args.n c.loop-ty.ty-index c.loop-ty.weight c.ty-item.result c.loop-ty.parts.items
-    (omega arith) c.ty-item.is c.loop-ty.invariant c.in_ok-value_at.field-0 place in
+    let next = find_parts_step (map type_tree c.args.types.now) c.args.n c.loop-ty.weight (type_tree c.ty-item.result) later c.loop-ty.parts.items found
+    c.in_ok-value_at.field-0 place in
     rw (weight, c.in_ok-push.ensures.items) next
 
 pub parts_at-returns : goal.parts_at-returns
 parts_at-returns t c =
-    let done = find_parts_end c.args.types.now c.args.n c.loop-ty.ty-index c.loop-ty.weight c.loop-ty.parts.items (omega arith) c.loop-ty.invariant in
+    let used = left_end type_tree c.args.types.now c.loop-ty.ty-index (omega arith) in
+    let done = find_tuple_end (map type_tree c.args.types.now) c.args.n c.loop-ty.weight c.loop-ty.parts.items (rw used at c.loop-ty.invariant) in
     subst (λ items. HasNumber (TupleOf (type_parts (map type_tree c.args.types.now))) (Tuple (parts (map value_tree items))) c.args.n) (sym c.new.ensures) done
 
 pub elements_at-loop-k-preserved : goal.elements_at-loop-k-preserved

@@ -1,0 +1,48 @@
+-- Texts written piece by piece.
+use Rattle.std.proofs.Common.{◌≡◌, ◌≢◌, ℕ, List, [], ◌∷◌, ◌++◌, length, map, slice_get, Option, Some, None, codes, arith, refl, sym, ap, ◌∙◌}
+use Rattle.std.proofs.lemmas.List.{append_assoc}
+use Rattle.kf_value.specs.Values.{ValueTree, Tuple, Set, parts}
+use Rattle.kf_value.specs.Texts.{text, separated}
+use Rattle.kf_value.specs.Targets.{Item, target_values, target_value_text, shown}
+use Rattle.kf_value.proofs.Trees.{texts-parts}
+
+bracketed : (out first mid last a b c : List ℕ) → a ≡ out ++ first → b ≡ a ++ mid → c ≡ b ++ last → c ≡ out ++ (first ++ (mid ++ last))
+bracketed out first mid last a b c h k l =
+    l
+    ∙ (ap (λ z. z ++ last) (k ∙ ap (λ z. z ++ mid) h)
+    ∙ (append_assoc (out ++ first) mid last ∙ append_assoc out first (mid ++ last)))
+
+pub tuple_text : (vs : List ValueTree) → text (Tuple (parts vs)) ≡ codes "(" ++ (separated (map text vs) ++ codes ")")
+tuple_text vs = ap (λ ts. codes "(" ++ (separated ts ++ codes ")")) (texts-parts vs)
+
+pub set_text : (vs : List ValueTree) → text (Set (parts vs)) ≡ codes "{" ++ (separated (map text vs) ++ codes "}")
+set_text vs = ap (λ ts. codes "{" ++ (separated ts ++ codes "}")) (texts-parts vs)
+
+pub tuple_written : (vs : List ValueTree) (out a b c : List ℕ) → a ≡ out ++ 40 ∷ [] → b ≡ a ++ separated (map text vs) → c ≡ b ++ 41 ∷ []
+    → c ≡ out ++ text (Tuple (parts vs))
+tuple_written vs out a b c first second third =
+    bracketed out (codes "(") (separated (map text vs)) (codes ")") a b c first second third ∙ ap (λ z. out ++ z) (sym (tuple_text vs))
+
+pub set_written : (vs : List ValueTree) (out a b c : List ℕ) → a ≡ out ++ 123 ∷ [] → b ≡ a ++ separated (map text vs) → c ≡ b ++ 125 ∷ []
+    → c ≡ out ++ text (Set (parts vs))
+set_written vs out a b c first second third =
+    bracketed out (codes "{") (separated (map text vs)) (codes "}") a b c first second third ∙ ap (λ z. out ++ z) (sym (set_text vs))
+
+-- several values show as a tuple, and so does none
+pub shown_many : (vs : List ValueTree) → length vs ≢ 1 → shown vs ≡ text (Tuple (parts vs))
+shown_many [] many = refl
+shown_many (v ∷ []) many = absurd (many refl)
+shown_many (v ∷ (w ∷ vs)) many = refl
+
+pub shown_one : (vs : List ValueTree) (v : ValueTree) → length vs ≡ 1 → slice_get vs 0 ≡ Some v → shown vs ≡ text v
+shown_one [] v one at = (cc)
+shown_one (w ∷ []) v one at = let same : w ≡ v = (cc) in ap text same
+shown_one (w ∷ (u ∷ vs)) v one at = absurd (omega arith)
+
+shown_or_nothing : (o : Option (List ValueTree)) (vs : List ValueTree) → o ≡ Some vs → elim o as (λ x. List ℕ) [ None ↦ [] | Some us ↦ shown us ] ≡ shown vs
+shown_or_nothing None vs h = (cc)
+shown_or_nothing (Some us) vs h = let same : us ≡ vs = (cc) in ap shown same
+
+pub target_text_is : (items : List Item) (n : ℕ) (vs : List ValueTree) → slice_get (target_values items) n ≡ Some vs → target_value_text items n ≡ shown vs
+unfolding target_value_text
+target_text_is items n vs at = shown_or_nothing (slice_get (target_values items) n) vs at

@@ -1,7 +1,9 @@
 -- The types of a target's items.
-use Rattle.std.proofs.Common.{◌≡◌, ◌*◌, List, [], ◌∷◌, map, None, refl, ap, ◌∙◌}
-use Rattle.std.specs.List.{All}
-use Rattle.std.proofs.lemmas.List.Elements.{All-head, All-tail, All-map}
+use Rattle.std.proofs.Common.{◌≡◌, ◌*◌, List, [], ◌∷◌, length, map, Bool, true, None, refl, sym, ap, ◌∙◌, subst}
+use Rattle.std.specs.Prelude.{◌&&◌}
+use Rattle.std.proofs.lemmas.List.{length-map}
+use Rattle.std.specs.List.{All, list_all}
+use Rattle.std.proofs.lemmas.List.Elements.{All-head, All-tail, All-map, All-nil, All-cons}
 use Rattle.kf_value.specs.declared.target_item.TargetItem.{TargetItem}
 use Rattle.kf_value.specs.Types.{TypeTree, type_parts, product, count, fault_of, first_fault, first_of, values, combinations}
 use Rattle.kf_value.specs.Stores.{stores}
@@ -30,3 +32,25 @@ no_first_fault (t ∷ ts) h =
 pub values_of_items : (items : List TargetItem) → target_values (map item_of items) ≡ combinations (map values (map item_type items))
 unfolding stores
 values_of_items items = ap (λ ts. combinations (map values ts)) (item_types items)
+
+-- ---- items that show the same
+
+pub all_items : (P : Item → Type 0) (xs ys : List TargetItem) → map item_of xs ≡ map item_of ys → All (λ i. P (item_of i)) ys → All (λ i. P (item_of i)) xs
+all_items P [] ys same h = All-nil (λ i. P (item_of i))
+all_items P (x ∷ xs) [] same h = (cc)
+all_items P (x ∷ xs) (y ∷ ys) same h =
+    let first : item_of x ≡ item_of y = (cc) in
+    let rest : map item_of xs ≡ map item_of ys = (cc) in
+    All-cons (λ i. P (item_of i)) x xs (subst P (sym first) (All-head (λ i. P (item_of i)) y ys h))
+    (all_items P xs ys rest (All-tail (λ i. P (item_of i)) y ys h))
+
+tested : (p : Item → Bool) (xs : List TargetItem) → list_all (λ i. p (item_of i)) xs ≡ list_all p (map item_of xs)
+tested p [] = refl
+tested p (x ∷ xs) = ap (λ b. p (item_of x) && b) (tested p xs)
+
+pub test_items : (p : Item → Bool) (xs ys : List TargetItem) → map item_of xs ≡ map item_of ys → list_all (λ i. p (item_of i)) ys ≡ true
+    → list_all (λ i. p (item_of i)) xs ≡ true
+test_items p xs ys same h = tested p xs ∙ (ap (list_all p) same ∙ (sym (tested p ys) ∙ h))
+
+pub as_many_items : (xs ys : List TargetItem) → map item_of xs ≡ map item_of ys → length xs ≡ length ys
+as_many_items xs ys same = sym (length-map xs item_of) ∙ (ap length same ∙ length-map ys item_of)

@@ -11,6 +11,7 @@ mod Numbering
 mod Parts
 mod Places
 mod Printing
+pub mod Ranges
 mod Replacing
 mod Sets
 mod Sizing

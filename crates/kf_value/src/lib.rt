@@ -2,6 +2,7 @@
 #![tactic(auto)]
 
 mod kind;
+mod laws;
 mod mem;
 mod name;
 mod nth;
@@ -10,12 +11,14 @@ mod order;
 mod prints;
 mod shape;
 mod sizes;
+mod slot_list;
 mod target;
 mod target_item;
 mod ty;
 mod value;
 
 pub use kind::{Kind, KindList};
+pub use laws::order_laws;
 pub use mem::Mem;
 pub use name::Name;
 pub use nth::value_at;
@@ -24,6 +27,7 @@ pub use order::compare;
 pub use prints::{print_target, print_value};
 pub use shape::{OutOfRange, Shape, ShapeError};
 pub use sizes::size;
+pub use slot_list::SlotList;
 pub use target::Target;
 pub use target_item::{TargetItem, TargetItemList};
 pub use ty::{Ty, TyFault, TyList};

@@ -1,6 +1,7 @@
 ghost use Rattle.std.specs.Prelude.{◌≡◌};
 
-use crate::{Name, Ty};
+use crate::{Mem, Name, Ty};
+use std::alloc::Global;
 use std::marker::Model;
 
 /// One part of a target: a variable's final value, or its initial one.
@@ -31,7 +32,26 @@ impl Model for TargetItemList {
     ghost view = { λ l. l.items.items };
 }
 
+impl TargetItem {
+    ghost use Rattle.std.specs.Prelude.{IfOk};
+    ghost use Rattle.kf_value.specs.Targets.{item_of};
+
+    /// An equal item.
+    pub fn copy(&self, alloc: Global) -> Result<TargetItem, Mem>
+        ensures { IfOk result (λ copied. item_of copied ≡ item_of self.now) }
+    {
+        Ok(TargetItem {
+            initial: self.initial,
+            name: self.name.copy()?,
+            ty: self.ty.copy(alloc)?,
+        })
+    }
+}
+
 impl TargetItemList {
+    ghost use Rattle.std.specs.Prelude.{IfOk, map};
+    ghost use Rattle.kf_value.specs.Targets.{item_of};
+
     pub fn new(items: Vec<TargetItem>) -> Self
         ensures { result ≡ items.items }
     {
@@ -42,5 +62,16 @@ impl TargetItemList {
         ensures { result.now ≡ self.now }
     {
         self.items.as_slice()
+    }
+
+    /// An equal list.
+    pub fn copy(&self, alloc: Global) -> Result<TargetItemList, Mem>
+        ensures { IfOk result (λ copied. map item_of copied ≡ map item_of self.now) }
+    {
+        let mut items = Vec::new(alloc);
+        for item in &self.items {
+            items.push(item.copy(alloc)?)?;
+        }
+        Ok(TargetItemList { items })
     }
 }

@@ -32,3 +32,6 @@ pub use target::Target;
 pub use target_item::{TargetItem, TargetItemList};
 pub use ty::{Ty, TyFault, TyList};
 pub use value::{Value, ValueList};
+
+#[cfg(test)]
+mod tests;

@@ -67,7 +67,7 @@ combinations_ascend (vs ∷ vss) each =
 abbrev pub back_order : List ValueTree → List ValueTree → Ordering
 back_order xs ys = lists_order (reverse xs) (reverse ys)
 
-reverse-cons : (v : ValueTree) (vs : List ValueTree) → reverse (v ∷ vs) ≡ reverse vs ++ v ∷ []
+pub reverse-cons : (v : ValueTree) (vs : List ValueTree) → reverse (v ∷ vs) ≡ reverse vs ++ v ∷ []
 reverse-cons v vs = reverse-append (v ∷ []) vs
 
 longer_itself : (xs : List ValueTree) (v : ValueTree) → lists_order xs (xs ++ v ∷ []) ≡ Less

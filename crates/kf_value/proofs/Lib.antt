@@ -1,5 +1,6 @@
 pub mod Ascending
 mod Comparing
+mod Deciding
 mod Digits
 mod Examples
 mod Finding

@@ -1,5 +1,5 @@
 -- Values as plain trees, their order, and which are well formed.
-use Rattle.std.specs.Prelude.{◌≤◌, ℤ, Bool, List, [], ◌∷◌, length, reverse}
+use Rattle.std.specs.Prelude.{◌≡◌, ◌≤◌, ℤ, Bool, List, [], ◌∷◌, ◌⊎◌, length, reverse}
 use Rattle.std.specs.declared.cmp.Ordering.{Ordering}
 use Rattle.std.specs.declared.cmp.Ordering.TheVariants.{Less, Equal, Greater}
 use Rattle.std.specs.Ordering.{bool_cmp, int_cmp, ordering_then}
@@ -75,3 +75,16 @@ abbrev mutual
   pub EachWellFormed : ValueTrees → Type 0
   EachWellFormed no_value = Unit {0}
   EachWellFormed (more_values v vs) = IsWellFormed v × EachWellFormed vs
+
+-- the value is one of the list
+abbrev pub IsIn : ValueTree → List ValueTree → Type 0
+IsIn v [] = ⊥
+IsIn v (w ∷ ws) = (v ≡ w) ⊎ IsIn v ws
+
+-- of the values that stand in exactly one of two lists there is a greatest, and it stands in the first list
+pub record HoldsGreatest (vs ws : List ValueTree) : Type 0 where
+  pub greatest : ValueTree
+  pub held : IsIn greatest vs
+  pub missed : IsIn greatest ws → ⊥
+  pub ours : (v : ValueTree) → IsIn v vs → (IsIn v ws → ⊥) → (v ≡ greatest) ⊎ (order v greatest ≡ Less)
+  pub theirs : (v : ValueTree) → IsIn v ws → (IsIn v vs → ⊥) → order v greatest ≡ Less

@@ -53,7 +53,7 @@ begun_before v w less rests others =
     (each_any (λ ys. lists_order (v ∷ xs) (w ∷ ys) ≡ Less) (λ ys. first_less (order v w) (lists_order xs ys) less) others))
     rests)
 
-combinations_ascend : (vss : List (List ValueTree)) → Each (IsStrictlySortedBy order) vss → IsStrictlySortedBy lists_order (combinations vss)
+pub combinations_ascend : (vss : List (List ValueTree)) → Each (IsStrictlySortedBy order) vss → IsStrictlySortedBy lists_order (combinations vss)
 combinations_ascend [] each = sorted-cons lists_order [] [] tt (sorted-nil lists_order)
 combinations_ascend (vs ∷ vss) each =
     sorted-flat_map (λ v. ⊤) order lists_order (λ v. map (λ rest. v ∷ rest) (combinations vss))
@@ -167,7 +167,7 @@ mutual
 
 -- ---- well formed
 
-each_combination : (P : ValueTree → Type 0) (vss : List (List ValueTree)) → Each (Each P) vss
+pub each_combination : (P : ValueTree → Type 0) (vss : List (List ValueTree)) → Each (Each P) vss
     → Each (λ s. Each P s × (length s ≡ length vss)) (combinations vss)
 each_combination P [] h = ((tt, refl), tt)
 each_combination P (vs ∷ vss) h =

@@ -88,7 +88,7 @@ whole_place lo hi k below =
 counted_in : (lo hi whole : ℤ) → lo ≤ℤ whole → whole ≤ℤ hi → (k : ℕ) → whole ≡ lo +ℤ pos k → k < counted (hi -ℤ lo)
 counted_in lo hi whole low high k is = grind (arith, ints)
 
-within_counted : (lo hi : ℤ) (k : ℕ) → k < counted (hi -ℤ lo) → (lo +ℤ pos k) ≤ℤ hi
+pub within_counted : (lo hi : ℤ) (k : ℕ) → k < counted (hi -ℤ lo) → (lo +ℤ pos k) ≤ℤ hi
 within_counted lo hi k below = grind (arith, ints)
 
 pub number_of_whole : (lo hi whole : ℤ) (k : ℕ) → lo ≤ℤ whole → whole ≤ℤ hi → whole ≡ lo +ℤ pos k → slice_get (values (Range lo hi)) k ≡ Some (Whole whole)
@@ -114,7 +114,7 @@ range_within : {ok : Bool} (b : Bool) (few : Option TyFault) → b ≡ ok → (i
 range_within true few is h = sym is
 range_within false few is h = (cc)
 
-in_bounds_tells : (lo hi : ℤ) → in_bounds lo hi ≡ true → (negsuc 999999 ≤ℤ lo) × (lo ≤ℤ hi) × (hi ≤ℤ pos 1000000)
+pub in_bounds_tells : (lo hi : ℤ) → in_bounds lo hi ≡ true → (negsuc 999999 ≤ℤ lo) × (lo ≤ℤ hi) × (hi ≤ℤ pos 1000000)
 in_bounds_tells lo hi h =
     let outer = and_parts (int_le (negsuc 999999) lo) (int_le lo hi && int_le hi (pos 1000000)) h in
     let inner = and_parts (int_le lo hi) (int_le hi (pos 1000000)) outer.1 in

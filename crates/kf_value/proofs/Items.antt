@@ -54,3 +54,6 @@ test_items p xs ys same h = tested p xs ∙ (ap (list_all p) same ∙ (sym (test
 
 pub as_many_items : (xs ys : List TargetItem) → map item_of xs ≡ map item_of ys → length xs ≡ length ys
 as_many_items xs ys same = sym (length-map xs item_of) ∙ (ap length same ∙ length-map ys item_of)
+
+pub all_of_items : (items : List TargetItem) → All (λ i. fault_of (item_of i).ty ≡ None) items → All (λ (i : Item). fault_of i.ty ≡ None) (map item_of items)
+all_of_items items h = All-map (λ (i : Item). fault_of i.ty ≡ None) item_of items h

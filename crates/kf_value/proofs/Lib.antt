@@ -1,3 +1,4 @@
+mod Apart
 pub mod Ascending
 mod Comparing
 mod Deciding
@@ -17,5 +18,6 @@ mod Replacing
 mod Sets
 mod Sizing
 mod Sorting
+mod Telling
 pub mod Trees
 mod Widening

@@ -13,7 +13,7 @@ use Rattle.kf_value.proofs.Trees.{counts-type_parts}
 
 -- ---- a type without a fault has a value
 
-crowded_after-None : (inner : Option TyFault) (limit : ℕ) (t : TypeTree) → crowded_after inner limit t ≡ None → inner ≡ None
+pub crowded_after-None : (inner : Option TyFault) (limit : ℕ) (t : TypeTree) → crowded_after inner limit t ≡ None → inner ≡ None
 crowded_after-None None limit t h = refl
 crowded_after-None (Some fault) limit t h = (cc)
 

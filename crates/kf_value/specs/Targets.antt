@@ -1,5 +1,5 @@
 -- Targets: what a hyper is about, and the texts of their values.
-use Rattle.std.specs.Prelude.{ℕ, ◌*◌, Bool, List, [], ◌∷◌, ◌++◌, map, codes, slice_get, None, Some, if◌then◌else◌}
+use Rattle.std.specs.Prelude.{◌≡◌, ◌<◌, ◌↔◌, Option, ℕ, ◌*◌, Bool, List, [], ◌∷◌, ◌++◌, map, codes, slice_get, None, Some, if◌then◌else◌}
 use Rattle.kf_value.specs.declared.target_item.TargetItem.{TargetItem}
 use Rattle.kf_value.specs.Values.{ValueTree, Tuple, parts}
 use Rattle.kf_value.specs.Types.{TypeTree, type_tree, count}
@@ -39,3 +39,7 @@ item_text i = (if i.initial then codes "old " else []) ++ i.name
 -- the text of a target: its items, a comma and a space between them
 abbrev pub target_text : List Item → List ℕ
 target_text items = separated (map item_text items)
+
+-- the answer is the number of the value with this text, or there is no such value
+abbrev pub IsNumberOf : List Item → List ℕ → Option ℕ → Type 0
+IsNumberOf items bytes found = (n : ℕ) → (found ≡ Some n) ↔ ((n < target_size items) × (target_value_text items n ≡ bytes))

@@ -18,13 +18,13 @@ mod ty;
 mod value;
 
 pub use kind::{Kind, KindList};
-pub use laws::order_laws;
+pub use laws::{order_laws, text_laws};
 pub use mem::Mem;
 pub use name::Name;
 pub use nth::value_at;
 pub use numbers::number;
 pub use order::compare;
-pub use prints::{print_target, print_value};
+pub use prints::{number_of, print_target, print_value};
 pub use shape::{OutOfRange, Shape, ShapeError};
 pub use sizes::size;
 pub use slot_list::SlotList;

@@ -3,7 +3,7 @@ ghost use Rattle.std.specs.List.{All};
 ghost use Rattle.kf_value.specs.Types.{fault_of};
 ghost use Rattle.kf_value.specs.Values.{Tuple, parts};
 ghost use Rattle.kf_value.specs.Texts.{text, separated};
-ghost use Rattle.kf_value.specs.Targets.{item_of, target_size, target_values, target_value_text, shown};
+ghost use Rattle.kf_value.specs.Targets.{item_of, target_size, target_values, target_value_text, shown, IsNumberOf};
 ghost use Rattle.kf_value.specs.Views.{value_tree, value_trees, items_of};
 
 use crate::nth::value_at;
@@ -120,4 +120,20 @@ fn value_count(items: &[TargetItem]) -> u64
         count = count.saturating_mul(u64::from(known_size(&item.ty)));
     }
     count
+}
+
+/// The number of the target's value that prints as the text, or `None` where no value does.
+///
+/// It tries the numbers in turn, so the time is that of printing all values before it.
+pub fn number_of(alloc: Global, target: &Target, text: &str) -> Result<Option<u64>, Mem>
+    ensures { IfOk result (λ found. IsNumberOf (items_of target.now) text.now found) }
+{
+    for n in 0..value_count(target.items.as_slice()) {
+        let mut printed = Vec::new(alloc);
+        print_target(alloc, target, n, &mut printed)?;
+        if printed.as_slice() == text.as_bytes() {
+            return Ok(Some(n));
+        }
+    }
+    Ok(None)
 }

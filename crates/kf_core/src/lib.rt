@@ -9,4 +9,5 @@ mod read;
 mod tests;
 
 pub use first::{First, FirstError, ModList};
+pub use kf_value::SlotList;
 pub use read::read_first;

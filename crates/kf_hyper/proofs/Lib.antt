@@ -1,12 +1,17 @@
 pub mod Proportions
 pub mod Abstraction
 pub mod AtMostOne
+pub mod Averaging
 pub mod Factors
 pub mod Gathering
+pub mod Inserting
 pub mod Listing
 pub mod Ordered
 pub mod Posteriors
+pub mod Projecting
 pub mod Reading
 pub mod Scaling
+pub mod Searching
 pub mod Steps
+pub mod Summing
 pub mod Weights

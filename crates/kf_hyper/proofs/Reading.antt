@@ -1,5 +1,6 @@
 -- What a hyper's shape says of one of its classes.
-use Rattle.std.proofs.Common.{◌≡◌, ℕ, ◌/◌, ◌<◌, ◌≤◌, pos, List, map, sum_by, sym, ◌∙◌, ap, subst, arith, length, get_or}
+use Rattle.std.proofs.Common.{◌≡◌, ℕ, ◌*◌, ◌/◌, ◌<◌, ◌≤◌, pos, List, map, sum_by, sym, ◌∙◌, ap, subst, arith, length, get_or, ⊎_elim}
+use Rattle.std.proofs.Math.Nat.{div-mul_cancel, eq-zero-or-pos, zero-mul}
 use Rattle.std.proofs.lemmas.List.{get_or-map, length-map}
 use Rattle.std.proofs.lemmas.List.Sums.{get_or-le-sum_by}
 use Rattle.std.proofs.lemmas.Nat.Gcd.{le_of_dvd}
@@ -10,9 +11,10 @@ use Rattle.kf_frac.proofs.CommonDivisors.{gcd_positive}
 use Rattle.kf_frac.proofs.LowestTerms.{reduced_num_abs, reduced_den_is}
 use Rattle.kf_hyper.specs.declared.entry.Entry.{Entry}
 use Rattle.kf_hyper.specs.declared.class.Class.{Class}
-use Rattle.kf_hyper.specs.Columns.{IsBelow, total}
+use Rattle.kf_hyper.specs.Columns.{IsBelow, weight_at, total}
 use Rattle.kf_hyper.specs.Hypers.{Inner, IsInner}
 use Rattle.kf_hyper.specs.Shapes.{IsShape, inner_of}
+use Rattle.kf_hyper.specs.Sums.{joint_weight}
 use Rattle.kf_hyper.proofs.Scaling.{total_positive}
 
 -- a quotient is at most what is divided
@@ -59,6 +61,20 @@ module _ (classes : List Class) (i : ℕ) (c : Class) (size scale : ℕ) (shape 
   -- the inner that readers show is the class's
   pub shown_here : (d : Inner) → get_or (map inner_of classes) i d ≡ inner_of c
   shown_here d = get_or-map inner_of classes i c d within ∙ sym (ap inner_of is)
+
+  pub weighs : c.whole ≡ total c.inner → (x : ℕ) (d : Inner) → weight_at c.inner x * (c.total / c.whole) ≡ joint_weight x (get_or (map inner_of classes) i d)
+  weighs summed x d = ap (λ (n : ℕ). weight_at c.inner x * (c.total / n)) summed ∙ sym (ap (joint_weight x) (shown_here d))
+
+  -- the inner goes whole into the total of its class
+  pub times_whole : c.whole ≡ total c.inner → (c.total / c.whole) * total c.inner ≡ c.total
+  times_whole summed =
+      let divides : total c.inner ∣ c.total = subst (λ (j : Inner). total j.entries ∣ j.total) here (shape.multiple i (inner_of c) inside) in
+      ap (λ (n : ℕ). (c.total / n) * total c.inner) summed ∙ div-mul_cancel (total c.inner) divides
+
+  pub times_some : c.whole ≡ total c.inner → 0 < c.total / c.whole
+  times_some summed =
+      let used : 0 < c.total = subst (λ (j : Inner). 0 < j.total) here (shape.used i (inner_of c) inside) in
+      ⊎_elim (λ (h : c.total / c.whole ≡ 0). absurd (omega (arith, used, times_whole summed, ap (λ (n : ℕ). n * total c.inner) h, zero-mul (total c.inner)))) (λ (h : 0 < c.total / c.whole). h) (eq-zero-or-pos (c.total / c.whole))
 
 -- an entry's weight is at most the sum
 pub entry_within : (entries : List Entry) (k : ℕ) (d : Entry) → k < length entries → (get_or entries k d).weight ≤ total entries

@@ -1,5 +1,5 @@
 -- A column that is a multiple of an inner: its weights, its total, and what it is proportional to.
-use Rattle.std.proofs.Common.{◌≡◌, ℕ, ◌+◌, ◌*◌, ◌/◌, ◌<◌, ◌==◌, List, [], ◌∷◌, Bool, true, false, map, refl, sym, ◌∙◌, ap, arith, if◌then◌else◌}
+use Rattle.std.proofs.Common.{◌≡◌, ℕ, ◌+◌, ◌*◌, ◌/◌, ◌<◌, ◌==◌, List, [], ◌∷◌, Bool, true, false, map, refl, sym, ◌∙◌, ap, arith, if◌then◌else◌, suc, zero}
 use Rattle.std.proofs.Math.Nat.{mul_assoc, mul_comm, mul-add, mul-zero, mul-div_cancel_left}
 use Rattle.std.proofs.lemmas.List.Sums.{sum_by-cons}
 use Rattle.kf_hyper.specs.declared.entry.Entry.{Entry}
@@ -7,6 +7,11 @@ use Rattle.kf_hyper.specs.Columns.{weight_at, total, IsColumn, proportional}
 use Rattle.kf_hyper.specs.Classes.{scaled, IsReduced}
 use Rattle.kf_hyper.proofs.Weights.{weight_at-cons, above_column}
 use Rattle.kf_hyper.proofs.Proportions.{proportional_all, all_proportional}
+
+pub product_positive : (a b : ℕ) → 0 < a → 0 < b → 0 < a * b
+product_positive (suc a) (suc b) p q = omega arith
+product_positive zero b p q = absurd (omega arith)
+product_positive (suc a) zero p q = absurd (omega arith)
 
 pub total-cons : (e : Entry) (es : List Entry) → total (e ∷ es) ≡ e.weight + total es
 total-cons e es = sum_by-cons (λ (e : Entry). e.weight) e es
@@ -17,7 +22,7 @@ total-scaled factor (e ∷ es) =
     total-cons (scaled factor e) (map (scaled factor) es) ∙ ap (λ (n : ℕ). factor * e.weight + n) (total-scaled factor es)
     ∙ sym (ap (λ (n : ℕ). factor * n) (total-cons e es) ∙ mul-add factor e.weight (total es))
 
-times_if : (factor w : ℕ) (b : Bool) → (if b then factor * w else 0) ≡ factor * (if b then w else 0)
+pub times_if : (factor w : ℕ) (b : Bool) → (if b then factor * w else 0) ≡ factor * (if b then w else 0)
 times_if factor w true = refl
 times_if factor w false = sym (mul-zero factor)
 

@@ -1,5 +1,5 @@
 -- The classes of one more column, and what all of them make.
-use Rattle.std.proofs.Common.{◌≡◌, ℕ, ◌+◌, ◌*◌, ◌<◌, ◌≤◌, List, [], ◌∷◌, ◌++◌, Bool, true, false, All, map, sum_by, refl, sym, ◌∙◌, ap, subst, arith, suc, zero, length, get_or, take, if◌then◌else◌, unwrap_or, Some}
+use Rattle.std.proofs.Common.{◌≡◌, ℕ, ◌+◌, ◌<◌, ◌≤◌, List, [], ◌∷◌, ◌++◌, Bool, true, false, map, sum_by, refl, sym, ◌∙◌, ap, subst, arith, length, get_or, take, if◌then◌else◌, unwrap_or, Some}
 use Rattle.std.proofs.Math.Nat.{dvd-add, dvd-mul_left}
 use Rattle.std.proofs.lemmas.List.{take_more}
 use Rattle.std.proofs.lemmas.List.Elements.{All-head, All-tail, All-nil, All-cons, All-push, All-pop}
@@ -16,41 +16,12 @@ use Rattle.kf_hyper.specs.Columns.{IsBelow, total, proportional}
 use Rattle.kf_hyper.specs.Joint.{mass}
 use Rattle.kf_hyper.specs.Hypers.{IsInner, class_total}
 use Rattle.kf_hyper.specs.Classes.{key_order, scaled, IsReduced, HasInner, ClassesOf, keyed, gathered}
-use Rattle.kf_hyper.proofs.Gathering.{Key, Inserts, fresh, added, past, inserted}
-use Rattle.kf_hyper.proofs.Scaling.{total_positive, total_reduced, proportional_reduced}
+use Rattle.kf_hyper.proofs.Gathering.{Key, shown_key, key_total, same_key}
+use Rattle.kf_hyper.proofs.Inserting.{Inserts, inserted, sum_inserts, all_inserts}
+use Rattle.kf_hyper.proofs.Scaling.{product_positive, total_positive, total_reduced, proportional_reduced}
 
 abbrev Pair : Type 0
 Pair = List Entry × ℕ
-
-module _ (f : List Entry → ℕ → ℕ) (adds : (k : List Entry) (a b : ℕ) → f k (a + b) ≡ f k a + f k b) (key : Key) (t : ℕ) where
-  abbrev all_of : List (Key × ℕ) → ℕ
-  all_of es = sum_by (λ (c : Pair). f c.0 c.1) (keyed es)
-
-  all_of-cons : (e : Key × ℕ) (es : List (Key × ℕ)) → all_of (e ∷ es) ≡ f e.0.items e.1 + all_of es
-  all_of-cons e es = sum_by-cons (λ (c : Pair). f c.0 c.1) (e.0.items, e.1) (keyed es)
-
-  -- a sum over the classes grows by what is added
-  sum_inserts : {es fs : List (Key × ℕ)} → Inserts key t es fs → all_of fs ≡ all_of es + f key.items t
-  sum_inserts (fresh es) = omega (arith, all_of-cons (key, t) es)
-  sum_inserts (added k n es same) =
-      let at_key : f k.items t ≡ f key.items t = ap (λ (l : List Entry). f l t) same in
-      omega (arith, all_of-cons (k, n + t) es, all_of-cons (k, n) es, adds k.items n t)
-  sum_inserts (past e es fs rest) = omega (arith, all_of-cons e es, all_of-cons e fs, sum_inserts rest)
-
-module _ (P : Pair → Type 0) (key : Key) (t : ℕ) (new : P (key.items, t)) (more : (n : ℕ) → P (key.items, n) → P (key.items, n + t)) where
-  all_inserts : {es fs : List (Key × ℕ)} → Inserts key t es fs → All P (keyed es) → All P (keyed fs)
-  all_inserts (fresh es) all = All-cons P (key.items, t) (keyed es) new all
-  all_inserts (added k n es same) all =
-      All-cons P (k.items, n + t) (keyed es)
-      (subst (λ (l : List Entry). P (l, n + t)) (sym same) (more n (subst (λ (l : List Entry). P (l, n)) same (All-head P (k.items, n) (keyed es) all))))
-      (All-tail P (k.items, n) (keyed es) all)
-  all_inserts (past e es fs rest) all =
-      All-cons P (e.0.items, e.1) (keyed fs) (All-head P (e.0.items, e.1) (keyed es) all) (all_inserts rest (All-tail P (e.0.items, e.1) (keyed es) all))
-
-product_positive : (a b : ℕ) → 0 < a → 0 < b → 0 < a * b
-product_positive (suc a) (suc b) p q = omega arith
-product_positive zero b p q = absurd (omega arith)
-product_positive (suc a) zero p q = absurd (omega arith)
 
 if_adds : (b : Bool) (m n : ℕ) → (if b then m + n else 0) ≡ (if b then m else 0) + (if b then n else 0)
 if_adds true m n = refl
@@ -80,7 +51,7 @@ classes_none = record {
   within = λ size below. All-nil (λ (c : Pair). IsBelow size c.0);
 }
 
-pub classes_more : (columns : List Column) (column : Column) (key : Key) {es fs : List (Key × ℕ)} → IsReduced column key.items → ClassesOf columns (keyed es) → Inserts key (total column) es fs
+pub classes_more : (columns : List Column) (column : Column) (key : Key) {es fs : List (Key × ℕ)} → IsReduced column key.items → ClassesOf columns (keyed es) → Inserts shown_key key (total column) es fs
     → ClassesOf (columns ++ column ∷ []) (keyed fs)
 classes_more columns column key {es} {fs} is had how =
     let t : ℕ = total column in
@@ -88,12 +59,12 @@ classes_more columns column key {es} {fs} is had how =
     let divides : total key.items ∣ t = subst (λ (n : ℕ). total key.items ∣ n) (sym (total_reduced column key.items is)) (dvd-mul_left (total key.items) is.factor) in
     record {
       reduced = All-push HasInner columns column had.reduced (record { inner = key.items; is_reduced = is });
-      inners = all_inserts (λ (c : Pair). IsInner c.0) key t is.is_inner (λ n h. h) how had.inners;
-      used = all_inserts (λ (c : Pair). 0 < c.1) key t some (λ n h. omega arith) how had.used;
-      whole = all_inserts (λ (c : Pair). total c.0 ∣ c.1) key t divides (λ n h. dvd-add (total key.items) h divides) how had.whole;
+      inners = all_inserts shown_key key t (λ (c : Pair). IsInner c.0) is.is_inner (λ n h. h) how had.inners;
+      used = all_inserts shown_key key t (λ (c : Pair). 0 < c.1) some (λ n h. omega arith) how had.used;
+      whole = all_inserts shown_key key t (λ (c : Pair). total c.0 ∣ c.1) divides (λ n h. dvd-add (total key.items) h divides) how had.whole;
       totals = λ inner is_inner.
           let grown : gathered (keyed fs) inner ≡ gathered (keyed es) inner + (if proportional key.items inner then t else 0) =
-          sum_inserts (λ (k : List Entry) (n : ℕ). if proportional k inner then n else 0) (λ k a b. if_adds (proportional k inner) a b) key t how in
+          sum_inserts shown_key key t (λ (k : List Entry) (n : ℕ). if proportional k inner then n else 0) (λ k a b. if_adds (proportional k inner) a b) how in
           let same : (if proportional key.items inner then t else 0) ≡ (if proportional column inner then t else 0) =
           ap (λ (b : Bool). if b then t else 0) (sym (proportional_reduced column key.items inner is)) in
           let push : class_total (columns ++ column ∷ []) inner ≡ class_total columns inner + (if proportional column inner then t else 0) =
@@ -101,12 +72,12 @@ classes_more columns column key {es} {fs} is had how =
           omega (arith, grown, same, push, had.totals inner is_inner);
       mass =
           let grown : sum_by (λ (c : Pair). c.1) (keyed fs) ≡ sum_by (λ (c : Pair). c.1) (keyed es) + t =
-          sum_inserts (λ (k : List Entry) (n : ℕ). n) (λ k a b. refl) key t how in
+          sum_inserts shown_key key t (λ (k : List Entry) (n : ℕ). n) (λ k a b. refl) how in
           let push : mass (columns ++ column ∷ []) ≡ mass columns + t = sum_by_push total columns column in
           omega (arith, grown, push, had.mass);
       within = λ size below.
           let parts = All-pop (IsBelow size) (columns ++ column ∷ []) columns (Some column) refl below in
-          all_inserts (λ (c : Pair). IsBelow size c.0) key t (below_reduced size is.factor column key.items is.multiple parts.1) (λ n h. h) how (had.within size parts.0);
+          all_inserts shown_key key t (λ (c : Pair). IsBelow size c.0) (below_reduced size is.factor column key.items is.multiple parts.1) (λ n h. h) how (had.within size parts.0);
     }
 
 sum-keyed : (es : List (Key × ℕ)) → sum_by (λ (n : ℕ). n) (values_of es) ≡ sum_by (λ (c : Pair). c.1) (keyed es)
@@ -126,4 +97,4 @@ pub classes_step : (columns : List Column) (i : ℕ) (column : Column) (key : Ke
     → ClassesOf (take (i + 1) columns) (keyed (insert_entry key_order es key n))
 classes_step columns i column key es n within is reduced had sorted sum =
     let end : take (i + 1) columns ≡ take i columns ++ column ∷ [] = take_more columns i column within ∙ ap (λ (c : Column). take i columns ++ c ∷ []) (sym is) in
-    rw (end, sum) (classes_more (take i columns) column key reduced had (inserted key (total column) es sorted))
+    rw (end, sum) (classes_more (take i columns) column key reduced had (inserted shown_key key_order key_total same_key key (total column) es sorted))

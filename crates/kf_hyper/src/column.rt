@@ -62,6 +62,12 @@ impl ColumnList {
         ColumnList { items }
     }
 
+    pub(crate) fn into_items(self) -> Vec<Column>
+        ensures { result.items ≡ self }
+    {
+        self.items
+    }
+
     pub fn as_slice(&self) -> &[Column]
         ensures { result.now ≡ self.now }
     {

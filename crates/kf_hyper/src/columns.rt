@@ -1,7 +1,9 @@
-ghost use Rattle.std.specs.Prelude.{◌≡◌, ◌≤◌, ◌<◌, ◌^◌};
-ghost use Rattle.kf_hyper.specs.Joint.{IsJoint};
+ghost use Rattle.std.specs.Prelude.{◌≡◌, ◌≤◌, ◌<◌, ◌+◌, ◌^◌, ◌++◌, IfOk};
+ghost use Rattle.kf_hyper.specs.Joint.{IsJoint, mass};
 
 use crate::ColumnList;
+use kf_value::Mem;
+use std::alloc::Global;
 use std::marker::Model;
 
 /// A joint matrix: columns of whole weights over a common scale of 1 to 2^127 - 1, which their sum doesn't pass.
@@ -44,4 +46,17 @@ impl Columns {
     {
         &self.columns
     }
+}
+
+/// The columns of `a`, then those of `b`.
+pub fn join(alloc: Global, a: Columns, b: Columns) -> Result<Columns, Mem>
+    requires one_scale { a.scale ≡ b.scale }
+    requires fits { mass a.columns + mass b.columns ≤ a.scale }
+    ensures { IfOk result (λ joined. joined ≡ record { scale = a.scale; columns = a.columns ++ b.columns }) }
+{
+    let scale = a.scale;
+    let mut columns = Vec::new(alloc);
+    columns.append(&mut a.columns.into_items())?;
+    columns.append(&mut b.columns.into_items())?;
+    Ok(Columns::new(scale, ColumnList::new(columns)))
 }

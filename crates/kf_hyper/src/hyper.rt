@@ -19,6 +19,7 @@ pub struct Hyper {
 }
 
 mod abstraction;
+mod joints;
 mod readers;
 
 pub use abstraction::abstract_columns;

@@ -8,12 +8,15 @@ mod columns;
 mod entry;
 mod hyper;
 mod law;
+mod projection;
+mod sums;
 
 pub use column::{Column, ColumnList};
-pub use columns::Columns;
+pub use columns::{Columns, join};
 pub use entry::{Entry, EntryList};
 pub use hyper::{Hyper, abstract_columns};
 pub use law::{at_most_one_hyper, proportional_means};
+pub use projection::project;
 
 #[cfg(test)]
 mod tests;

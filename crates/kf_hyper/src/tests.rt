@@ -1,12 +1,13 @@
-// Hypers of small joint matrices, worked out by hand.
+// Small joint matrices and their hypers, worked out by hand.
 ghost use Rattle.std.specs.Prelude.{◌≡◌, ◌<◌, ◌≤◌, ◌^◌, ◌-◌, All, IfOk};
+ghost use Rattle.kf_value.specs.Types.{type_tree, Range};
 ghost use Rattle.kf_value.specs.Targets.{target_size};
 ghost use Rattle.kf_value.specs.Views.{items_of};
 ghost use Rattle.kf_hyper.specs.Columns.{IsColumn, IsBelow};
 ghost use Rattle.kf_hyper.specs.Joint.{mass};
 
 use super::*;
-use kf_value::{Mem, Name, Target, TargetItem, TargetItemList, Ty};
+use kf_value::{Mem, Name, Shape, SlotList, Target, TargetItem, TargetItemList, Ty, TyList};
 use std::alloc::Global;
 use std::test::Fail;
 
@@ -112,5 +113,125 @@ fn proportional_columns_become_one_inner(rt: HostRuntime) -> Result<(), Fail> {
     ] {
         assert_eq!(rt; got.as_str(), want, "{case}");
     }
+    Ok(())
+}
+
+// A joint matrix: its scale, and for each column its values with their weights.
+fn matrix(alloc: Global, joint: &Columns) -> Result<String, Mem> {
+    let scale = joint.scale();
+    let mut text = format!(in alloc; "/{scale}")?;
+    for column in joint.columns().as_slice() {
+        text.push_str(" |")?;
+        text.push_str(&weights(alloc, column)?)?;
+    }
+    Ok(text)
+}
+
+fn weights(alloc: Global, column: &Column) -> Result<String, Mem> {
+    let mut text = String::new(alloc);
+    for entry in column.entries().as_slice() {
+        let (value, weight) = (entry.value, entry.weight);
+        text.push_str(&format!(in alloc; " {value}:{weight}")?)?;
+    }
+    Ok(text)
+}
+
+#[test]
+fn joined_columns_keep_their_order(rt: HostRuntime) -> Result<(), Fail> {
+    let alloc = rt.alloc();
+    let one = vec![in alloc; column(alloc, &[entry(0, 2), entry(3, 2)])?]?;
+    let two = vec![in alloc; column(alloc, &[entry(0, 2), entry(3, 2)])?]?;
+    let a = Columns::new(8, ColumnList::new(one));
+    let b = Columns::new(8, ColumnList::new(two));
+    let joined = join(alloc, a, b)?;
+    assert_eq!(rt;
+        matrix(alloc, &joined)?.as_str(),
+        "/8 | 0:2 3:2 | 0:2 3:2",
+        "two equal"
+    );
+    Ok(())
+}
+
+fn range(lo: i64, hi: i64) -> Ty
+    ensures { type_tree result ≡ Range lo hi }
+{
+    Ty::Int { lo, hi }
+}
+
+#[test]
+fn stores_become_numbers_of_their_slots(rt: HostRuntime) -> Result<(), Fail> {
+    let alloc = rt.alloc();
+    let types = vec![in alloc; range(0, 3), range(0, 1)]?;
+    let shape = Shape::new(alloc, TyList::new(types))?;
+    let stores = vec![in alloc; column(alloc, &[entry(0, 1), entry(1, 1), entry(6, 2)])?]?;
+    let stores = Columns::new(4, ColumnList::new(stores));
+    let first = project(alloc, &stores, &shape, &SlotList::new(vec![in alloc; 0]?))?;
+    assert_eq!(rt;
+        matrix(alloc, &first)?.as_str(),
+        "/4 | 0:2 3:2",
+        "the first slot"
+    );
+    let turned = project(
+        alloc,
+        &stores,
+        &shape,
+        &SlotList::new(vec![in alloc; 1, 0]?),
+    )?;
+    assert_eq!(rt;
+        matrix(alloc, &turned)?.as_str(),
+        "/4 | 0:1 3:2 4:1",
+        "both, the second first"
+    );
+    let nothing = project(alloc, &stores, &shape, &SlotList::new(Vec::new(alloc)))?;
+    assert_eq!(rt; matrix(alloc, &nothing)?.as_str(), "/4 | 0:4", "no slot");
+    Ok(())
+}
+
+// The hyper of the parity of a uniform value of `0..3`, of which each odd value counts twice.
+#[test]
+fn joint_weights_and_their_average(rt: HostRuntime) -> Result<(), Fail> {
+    let alloc = rt.alloc();
+    let parities = vec![in alloc;
+        column(alloc, &[entry(0, 1), entry(2, 1)])?,
+        column(alloc, &[entry(1, 2), entry(3, 2)])?,
+    ]?;
+    let columns = Columns::new(6, ColumnList::new(parities));
+    let hyper = abstract_columns(alloc, ten_values(alloc)?, columns)?;
+    assert_eq!(rt; hyper.count(), 2, "the inners");
+    if hyper.count() == 2 {
+        assert_eq!(rt;
+            (hyper.weight(0, 2), hyper.weight(0, 3)),
+            (1, 0),
+            "of even values"
+        );
+        assert_eq!(rt;
+            (hyper.weight(1, 2), hyper.weight(1, 3)),
+            (0, 2),
+            "of odd values"
+        );
+    }
+    let average = hyper.average(alloc)?;
+    assert_eq!(rt;
+        weights(alloc, &average)?.as_str(),
+        " 0:1 1:2 2:1 3:2",
+        "all columns together"
+    );
+    Ok(())
+}
+
+#[test]
+fn average_of_a_uniform_value(rt: HostRuntime) -> Result<(), Fail> {
+    let alloc = rt.alloc();
+    let parities = vec![in alloc;
+        column(alloc, &[entry(0, 1), entry(2, 1)])?,
+        column(alloc, &[entry(1, 1), entry(3, 1)])?,
+    ]?;
+    let columns = Columns::new(4, ColumnList::new(parities));
+    let average = abstract_columns(alloc, ten_values(alloc)?, columns)?.average(alloc)?;
+    assert_eq!(rt;
+        weights(alloc, &average)?.as_str(),
+        " 0:1 1:1 2:1 3:1",
+        "as it began"
+    );
     Ok(())
 }

@@ -1,5 +1,6 @@
 pub mod Adding
 pub mod Ending
+pub mod FirstTarget
 pub mod Gathering
 pub mod Listing
 pub mod OneAnswer

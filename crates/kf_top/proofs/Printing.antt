@@ -7,7 +7,7 @@ use Rattle.kf_frac.specs.declared.frac.Frac.{Frac}
 use Rattle.kf_frac.specs.Fractions.{fraction_text, reduced_num, reduced_den, denominator_text}
 use Rattle.kf_frac.proofs.LowestTerms.{text_of_reduced}
 use Rattle.kf_value.specs.declared.target_item.TargetItem.{TargetItem}
-use Rattle.kf_value.specs.Targets.{item_of, target_text}
+use Rattle.kf_value.specs.Targets.{item_of, item_text, target_text}
 
 -- a fraction in lowest terms is written as the one that it was made of
 pub share_text : (f : Frac) (n : ℤ) (d : ℕ) → f.num ≡ reduced_num n d → f.den ≡ reduced_den n d → fraction_text f.num f.den ≡ fraction_text n d
@@ -20,10 +20,18 @@ share_text f n d num den =
 abbrev pub further_text : TargetItem → List ℕ
 further_text i = codes ", " ++ target_text (item_of i ∷ [])
 
+-- the texts of the further items
+further_texts : (others : List TargetItem) → flat_map (λ (t : List ℕ). codes ", " ++ t) (map item_text (map item_of others)) ≡ flat_map further_text others
+further_texts [] = refl
+further_texts (j ∷ others) =
+    ap (λ (t : List ℕ). (codes ", " ++ item_text (item_of j)) ++ t) (further_texts others)
+    ∙ ap (λ (t : List ℕ). (codes ", " ++ t) ++ flat_map further_text others) (sym (append-nil (item_text (item_of j))))
+
 -- the text of a target is that of its first item, then those of the further ones
 target_first : (i : TargetItem) (others : List TargetItem) → target_text (map item_of (i ∷ others)) ≡ target_text (item_of i ∷ []) ++ flat_map further_text others
-target_first i [] = sym (append-nil (target_text (item_of i ∷ [])))
-target_first i (j ∷ others) = ap (λ (t : List ℕ). target_text (item_of i ∷ []) ++ (codes ", " ++ t)) (target_first j others)
+target_first i others =
+    ap (λ (t : List ℕ). item_text (item_of i) ++ t) (further_texts others)
+    ∙ ap (λ (t : List ℕ). t ++ flat_map further_text others) (sym (append-nil (item_text (item_of i))))
 
 -- the first item stands, and the further ones are left
 pub first_printed : (items : List TargetItem) (first : TargetItem) (out now : List ℕ) → 0 < length items → first ≡ get_or items 0 first

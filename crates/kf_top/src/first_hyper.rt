@@ -1,10 +1,10 @@
-ghost use Rattle.std.specs.Prelude.{◌≡◌, ◌<◌, ◌≤◌, ◌+◌, ◌%◌, ℕ, List, IfOk, All, map, pos};
+ghost use Rattle.std.specs.Prelude.{◌≡◌, ◌<◌, ◌≤◌, ◌+◌, ◌%◌, ℕ, List, IfOk, All, map, pos, None};
 ghost use Rattle.std.specs.Map.{keys_of};
 ghost use Rattle.std.specs.List.Sorted.{IsStrictlySortedBy};
 ghost use Rattle.kf_core.specs.FirstView.{form_of};
 ghost use Rattle.kf_core.specs.Rows.{trace_of as trace_of_value, scale_of as scale_of_form};
 ghost use Rattle.kf_core.specs.Joint.{joint_of};
-ghost use Rattle.kf_value.specs.Targets.{item_of};
+ghost use Rattle.kf_value.specs.Types.{type_tree, fault_of, Range};
 ghost use Rattle.kf_value.specs.Views.{items_of};
 ghost use Rattle.kf_hyper.specs.Joint.{mass};
 ghost use Rattle.kf_hyper.specs.Columns.{IsBelow, IsColumn};
@@ -74,18 +74,29 @@ fn columns_of(alloc: Global, first: &First) -> Result<Columns, Mem>
     Ok(Columns::new(u128::from(first.high) + 1, ColumnList::new(columns)))
 }
 
+// The type `0..high`.
+#[tactic(auto, using(crate::proofs::FirstTarget::range_sized))]
+fn range_to(high: u32) -> Ty
+    requires { high ≤ 65535 }
+    ensures range { type_tree result ≡ Range (pos 0) (pos high) }
+    ensures sized { fault_of (type_tree result) ≡ None }
+{
+    Ty::Int {
+        lo: 0,
+        hi: i64::from(high),
+    }
+}
+
 // The variable `x` of a text of the first form.
 fn target_of_first(alloc: Global, first: &First) -> Result<Target, Mem>
+    requires { first.now.high ≤ 65535 }
     ensures { IfOk result (λ target. items_of target ≡ first_target (form_of first.now)) }
 {
     let mut items = Vec::new(alloc);
     items.push(TargetItem {
         initial: false,
         name: Name::new(String::from_str(alloc, "x")?),
-        ty: Ty::Int {
-            lo: 0,
-            hi: i64::from(first.high),
-        },
+        ty: range_to(first.high),
     })?;
     Ok(Target {
         items: TargetItemList::new(items),
@@ -94,7 +105,8 @@ fn target_of_first(alloc: Global, first: &First) -> Result<Target, Mem>
 
 /// The hyper of a text of the first form.
 pub fn hyper_of(alloc: Global, first: &First) -> Result<Hyper, Mem>
-    requires { All (λ k. 0 < k) first.now.mods }
+    requires high { first.now.high ≤ 65535 }
+    requires mods { All (λ k. 0 < k) first.now.mods }
     ensures hyper { IfOk result (λ h. IsHyperOf (joint_of (form_of first.now)) (inners_of h)) }
     ensures scale { IfOk result (λ h. scale_of h ≡ scale_of_form (form_of first.now)) }
     ensures target { IfOk result (λ h. target_of h ≡ first_target (form_of first.now)) }

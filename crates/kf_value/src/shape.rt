@@ -103,6 +103,14 @@ impl Shape {
         &self.types
     }
 
+    /// How many values the type of variable `i` has.
+    pub fn size(&self, i: usize) -> u32
+        requires { i < length (shape_types self.now) }
+        ensures { result ≡ slice_index (shape_sizes self.now) i }
+    {
+        self.sizes[i]
+    }
+
     /// The number, in its type, of the value of variable `i` in a store.
     pub fn slot(&self, store: u64, i: usize) -> u32
         requires store { store < product (shape_sizes self.now) }

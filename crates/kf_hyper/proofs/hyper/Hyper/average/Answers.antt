@@ -1,0 +1,96 @@
+use Rattle.std.proofs.Common.{◌≡◌, ℕ, ◌*◌, ◌/◌, ◌<◌, List, refl, sym, ◌∙◌, ap, subst, arith, length, map, get_or}
+use Rattle.std.proofs.Math.Nat.{mul_comm}
+use Rattle.std.proofs.lemmas.Result.{IfOk-weaker}
+use Rattle.std.proofs.lemmas.List.{length-map}
+use Rattle.kf_hyper.specs.declared.entry.Entry.{Entry}
+use Rattle.kf_hyper.specs.declared.class.Class.{Class}
+use Rattle.kf_hyper.specs.Columns.{weight_at, total}
+use Rattle.kf_hyper.specs.Hypers.{Inner}
+use Rattle.kf_hyper.specs.Shapes.{inner_of}
+use Rattle.kf_hyper.specs.Sums.{summed, ArePositive, average_weight, joint_weight}
+use Rattle.kf_hyper.proofs.Reading.{whole_some, times_some, times_whole}
+use Rattle.kf_hyper.proofs.Averaging.{one_more, one_more_le, all_seen}
+use Rattle.kf_hyper.proofs.hyper.Hyper.average.Goals as goal
+
+pub nonzero_div-times : goal.nonzero_div-times
+nonzero_div-times c =
+    let all : c.deref-class-items.result.now ≡ c.args.self.now.classes.items = c.deref-class-items.ensures.value in
+    whole_some c.args.self.now.classes.items c.loop-class.class-index c.class-item.result _ _ c.args.self.now.shape
+    (rw (length-map, ← all) c.loop-class-test.true) (subst (λ (cs : List Class). c.class-item.result ≡ get_or cs c.loop-class.class-index c.class-item.result) all c.class-item.is) c.class-item.result.summed
+
+pub add_all-requires : goal.add_all-requires
+add_all-requires c =
+    let all : c.deref-class-items.result.now ≡ c.args.self.now.classes.items = c.deref-class-items.ensures.value in
+    let inside : c.loop-class.class-index < length c.args.self.now.classes.items = rw (← all) c.loop-class-test.true in
+    let is : c.class-item.result ≡ get_or c.args.self.now.classes.items c.loop-class.class-index c.class-item.result =
+    subst (λ (cs : List Class). c.class-item.result ≡ get_or cs c.loop-class.class-index c.class-item.result) all c.class-item.is in
+    let column : c.as_slice.result.now ≡ c.class-item.result.inner = c.as_slice.ensures ∙ c.entries.ensures.kept in
+    let part = one_more_le (λ (j : Inner). j.total) c.args.self.now.classes.items c.loop-class.class-index c.class-item.result inside is in
+    let times = times_whole c.args.self.now.classes.items c.loop-class.class-index c.class-item.result _ _ c.args.self.now.shape (rw length-map inside) is c.class-item.result.summed in
+    record {
+      some = times_some c.args.self.now.classes.items c.loop-class.class-index c.class-item.result _ _ c.args.self.now.shape (rw length-map inside) is c.class-item.result.summed;
+      positive = subst ArePositive (sym c.as_slice.ensures) c.entries.ensures.column.positive;
+      fits = omega (
+        arith,
+        part,
+        c.loop-class.invariant.totals,
+        times,
+        ap (λ (es : List Entry). (c.class-item.result.total / c.class-item.result.whole) * total es) column,
+        c.args.self.now.shape.whole,
+        c.args.self.now.shape.narrow,
+      );
+    }
+
+pub loop-class-init : goal.loop-class-init
+loop-class-init c = record {
+  weights = λ x. rw c.new-sums.ensures.empty refl;
+  totals = rw c.new-sums.ensures.empty refl;
+  positive = rw c.new-sums.ensures.empty (λ k d within. absurd (omega arith));
+}
+
+pub loop-class-preserved : goal.loop-class-preserved
+loop-class-preserved c =
+    let all : c.deref-class-items.result.now ≡ c.args.self.now.classes.items = c.deref-class-items.ensures.value in
+    let inside : c.loop-class.class-index < length c.args.self.now.classes.items = rw (← all) c.loop-class-test.true in
+    let is : c.class-item.result ≡ get_or c.args.self.now.classes.items c.loop-class.class-index c.class-item.result =
+    subst (λ (cs : List Class). c.class-item.result ≡ get_or cs c.loop-class.class-index c.class-item.result) all c.class-item.is in
+    let column : c.as_slice.result.now ≡ c.class-item.result.inner = c.as_slice.ensures ∙ c.entries.ensures.kept in
+    let times = times_whole c.args.self.now.classes.items c.loop-class.class-index c.class-item.result _ _ c.args.self.now.shape (rw length-map inside) is c.class-item.result.summed in
+    record {
+      weights = λ x.
+          let gained : (c.class-item.result.total / c.class-item.result.whole) * weight_at c.as_slice.result.now x ≡ joint_weight x (inner_of c.class-item.result) =
+          mul_comm (c.class-item.result.total / c.class-item.result.whole) (weight_at c.as_slice.result.now x)
+          ∙ ap (λ (es : List Entry). weight_at es x * (c.class-item.result.total / c.class-item.result.whole)) column
+          ∙ ap (λ (n : ℕ). weight_at c.class-item.result.inner x * (c.class-item.result.total / n)) c.class-item.result.summed in
+          omega (arith, c.in_ok-add_all.ensures.gains.weights x, c.loop-class.invariant.weights x, gained, one_more (joint_weight x) c.args.self.now.classes.items c.loop-class.class-index c.class-item.result inside is);
+      totals = omega (
+        arith,
+        c.in_ok-add_all.ensures.gains.total,
+        c.loop-class.invariant.totals,
+        times,
+        ap (λ (es : List Entry). (c.class-item.result.total / c.class-item.result.whole) * total es) column,
+        one_more (λ (j : Inner). j.total) c.args.self.now.classes.items c.loop-class.class-index c.class-item.result inside is,
+      );
+      positive = c.in_ok-add_all.ensures.positive c.loop-class.invariant.positive;
+    }
+
+pub column_of-requires : goal.column_of-requires
+column_of-requires c =
+    let past = rw c.deref-class-items.ensures.value at c.loop-class-test.false in
+    record {
+      positive = c.loop-class.invariant.positive;
+      some = omega (
+        arith,
+        c.loop-class.invariant.totals,
+        all_seen (λ (j : Inner). j.total) c.args.self.now.classes.items c.loop-class.class-index past,
+        c.args.self.now.shape.whole,
+        c.args.self.now.shape.some,
+      );
+    }
+
+pub returns : goal.returns
+returns c =
+    let past = rw c.deref-class-items.ensures.value at c.loop-class-test.false in
+    IfOk-weaker c.column_of.result (λ column. column ≡ summed c.loop-class.sums.entries) (λ column. (x : ℕ) → weight_at column x ≡ average_weight (map inner_of c.args.self.now.classes.items) x)
+    (λ column is x. ap (λ (es : List Entry). weight_at es x) is ∙ c.loop-class.invariant.weights x ∙ all_seen (joint_weight x) c.args.self.now.classes.items c.loop-class.class-index past)
+    c.column_of.ensures

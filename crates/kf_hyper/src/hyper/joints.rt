@@ -1,0 +1,39 @@
+ghost use Rattle.std.specs.Prelude.{◌≡◌, ◌≤◌, ◌<◌, ◌*◌, ◌+◌, ◌^◌, ◌-◌, ℕ, All, IfOk, length, map, sum_by};
+ghost use Rattle.kf_hyper.specs.Columns.{weight_at, total};
+ghost use Rattle.kf_hyper.specs.Sums.{joint_weight, average_weight, summed, ArePositive};
+ghost use Rattle.kf_hyper.specs.Views.{inners_of, inner_at};
+
+use super::Hyper;
+use crate::Column;
+use crate::sums::{add_all, column_of};
+use kf_value::Mem;
+use std::alloc::Global;
+use std::collections::BTreeMap;
+
+impl Hyper {
+    /// The joint weight of the posterior `i` and the value `x`, over the hyper's scale: 0 where the posterior
+    /// holds the value impossible.
+    pub fn weight(&self, i: usize, x: u64) -> u128
+        requires { i < length (inners_of self.now) }
+        ensures { result ≡ joint_weight x (inner_at self.now i) }
+    {
+        let class = &self.classes[i];
+        let entries = class.inner.entries().as_slice();
+        match entries.binary_search_by_key(&x, |entry| entry.value) {
+            Ok(place) => entries[place].weight * (class.total / class.whole),
+            Err(_) => 0,
+        }
+    }
+
+    /// The sum of all joint columns: the weights that the values have before anything is known, over the scale.
+    pub fn average(&self, alloc: Global) -> Result<Column, Mem>
+        ensures { IfOk result (λ column. (x : ℕ) → weight_at column x ≡ average_weight (inners_of self.now) x) }
+    {
+        let mut sums = BTreeMap::new(alloc);
+        for class in &self.classes {
+            let times = class.total / class.whole;
+            add_all(&mut sums, class.inner.entries().as_slice(), times)?;
+        }
+        column_of(alloc, sums)
+    }
+}

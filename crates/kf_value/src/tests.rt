@@ -169,3 +169,43 @@ fn variables_of_a_store(rt: HostRuntime) -> Result<(), Fail> {
     assert_eq!(rt; shape.with_slot(7, 0, &Value::Int(4)), Err(OutOfRange));
     Ok(())
 }
+
+fn item(alloc: Global, name: &str, ty: Ty) -> Result<TargetItem, Mem>
+    ensures { IfOk result (λ item. type_tree item.ty ≡ type_tree ty) }
+{
+    Ok(TargetItem {
+        initial: false,
+        name: Name::new(name.to_string(alloc)?),
+        ty,
+    })
+}
+
+#[test]
+fn texts_of_a_target(rt: HostRuntime) -> Result<(), Fail> {
+    let alloc = rt.alloc();
+    let one = Target {
+        items: TargetItemList::new(vec![in alloc; item(alloc, "x", range(0, 3))?]?),
+    };
+    assert_eq!(rt; number_of(alloc, &one, "3")?, Some(3));
+    assert_eq!(rt; number_of(alloc, &one, "03")?, None);
+    assert_eq!(rt; number_of(alloc, &one, "4")?, None);
+    assert_eq!(rt; number_of(alloc, &one, "(3)")?, None);
+    let mut text = Vec::new(alloc);
+    text.push(b'=')?;
+    print_target(alloc, &one, 2, &mut text)?;
+    assert_eq!(rt; text.as_slice(), b"=2".as_slice());
+    Ok(())
+}
+
+#[test]
+fn copies_are_equal(rt: HostRuntime) -> Result<(), Fail> {
+    let alloc = rt.alloc();
+    let ty = pair(alloc, set_of(alloc, range(0, 2))?, Ty::Bool)?;
+    let copied = ty.copy(alloc)?;
+    let value = value_at(alloc, &copied, 11)?;
+    let value = value.copy(alloc)?;
+    let mut text = Vec::new(alloc);
+    print_value(alloc, &value, &mut text)?;
+    assert_eq!(rt; text.as_slice(), b"({0, 2}, true)".as_slice());
+    Ok(())
+}

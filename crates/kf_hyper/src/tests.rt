@@ -1,5 +1,7 @@
 // Small joint matrices and their hypers, worked out by hand.
-ghost use Rattle.std.specs.Prelude.{◌≡◌, ◌<◌, ◌≤◌, ◌^◌, ◌-◌, All, IfOk};
+ghost use Rattle.std.specs.Prelude.{◌≡◌, ◌<◌, ◌≤◌, ◌^◌, ◌-◌, ◌==◌, ◌∷◌, [], pos, All, IfOk};
+ghost use Rattle.std.specs.List.{IsDistinct};
+ghost use Rattle.kf_value.specs.Shapes.{shape_types};
 ghost use Rattle.kf_value.specs.Types.{type_tree, Range};
 ghost use Rattle.kf_value.specs.Targets.{target_size};
 ghost use Rattle.kf_value.specs.Views.{items_of};
@@ -7,7 +9,9 @@ ghost use Rattle.kf_hyper.specs.Columns.{IsColumn, IsBelow};
 ghost use Rattle.kf_hyper.specs.Joint.{mass};
 
 use super::*;
-use kf_value::{Mem, Name, Shape, SlotList, Target, TargetItem, TargetItemList, Ty, TyList};
+use kf_value::{
+    Mem, Name, Shape, ShapeError, SlotList, Target, TargetItem, TargetItemList, Ty, TyList,
+};
 use std::alloc::Global;
 use std::test::Fail;
 
@@ -158,32 +162,45 @@ fn range(lo: i64, hi: i64) -> Ty
     Ty::Int { lo, hi }
 }
 
+// The shape of two variables, of `0..3` and of `0..1`.
+fn two_ranges(alloc: Global) -> Result<Shape, ShapeError>
+    ensures { IfOk result (λ shape. shape_types shape ≡ Range (pos 0) (pos 3) ∷ Range (pos 0) (pos 1) ∷ []) }
+{
+    let types = vec![in alloc; range(0, 3), range(0, 1)]?;
+    Shape::new(alloc, TyList::new(types))
+}
+
+// A matrix of stores of these variables.
+fn stores(alloc: Global) -> Result<Columns, Mem>
+    ensures { IfOk result (λ joint. All (IsBelow 8) joint.columns) }
+{
+    let columns = vec![in alloc; column(alloc, &[entry(0, 1), entry(1, 1), entry(6, 2)])?]?;
+    Ok(Columns::new(4, ColumnList::new(columns)))
+}
+
+fn at_slots(alloc: Global, shape: &Shape, slots: Vec<u8>) -> Result<String, Mem>
+    requires types { shape_types shape.now ≡ Range (pos 0) (pos 3) ∷ Range (pos 0) (pos 1) ∷ [] }
+    requires places { All (λ i. i < 2) slots.items }
+    requires apart { IsDistinct (λ i j. i == j) slots.items }
+{
+    let joint = project(alloc, &stores(alloc)?, shape, &SlotList::new(slots))?;
+    matrix(alloc, &joint)
+}
+
 #[test]
 fn stores_become_numbers_of_their_slots(rt: HostRuntime) -> Result<(), Fail> {
     let alloc = rt.alloc();
-    let types = vec![in alloc; range(0, 3), range(0, 1)]?;
-    let shape = Shape::new(alloc, TyList::new(types))?;
-    let stores = vec![in alloc; column(alloc, &[entry(0, 1), entry(1, 1), entry(6, 2)])?]?;
-    let stores = Columns::new(4, ColumnList::new(stores));
-    let first = project(alloc, &stores, &shape, &SlotList::new(vec![in alloc; 0]?))?;
+    let shape = two_ranges(alloc)?;
+    let first = at_slots(alloc, &shape, vec![in alloc; 0]?)?;
+    assert_eq!(rt; first.as_str(), "/4 | 0:2 3:2", "the first slot");
+    let turned = at_slots(alloc, &shape, vec![in alloc; 1, 0]?)?;
     assert_eq!(rt;
-        matrix(alloc, &first)?.as_str(),
-        "/4 | 0:2 3:2",
-        "the first slot"
-    );
-    let turned = project(
-        alloc,
-        &stores,
-        &shape,
-        &SlotList::new(vec![in alloc; 1, 0]?),
-    )?;
-    assert_eq!(rt;
-        matrix(alloc, &turned)?.as_str(),
+        turned.as_str(),
         "/4 | 0:1 3:2 4:1",
         "both, the second first"
     );
-    let nothing = project(alloc, &stores, &shape, &SlotList::new(Vec::new(alloc)))?;
-    assert_eq!(rt; matrix(alloc, &nothing)?.as_str(), "/4 | 0:4", "no slot");
+    let nothing = at_slots(alloc, &shape, Vec::new(alloc))?;
+    assert_eq!(rt; nothing.as_str(), "/4 | 0:4", "no slot");
     Ok(())
 }
 

@@ -31,13 +31,27 @@ fn range(lo: i64, hi: i64) -> Ty
     Ty::Int { lo, hi }
 }
 
-/// The type's values have these texts, in this order, and no others; each has the number of its place.
+/// A target of one variable of the type.
+#[tactic(auto, using(crate::proofs::Sizing::few_values))]
+fn alone(alloc: Global, ty: &Ty) -> Result<Target, Mem>
+    requires formed { IsTrue (well_formed (type_tree ty.now)) }
+    requires sized { HasSize (type_tree ty.now) }
+{
+    let items = vec![in alloc; item(alloc, "x", ty.copy(alloc)?)?]?;
+    Ok(Target {
+        items: TargetItemList::new(items),
+    })
+}
+
+/// The type's values have these texts, in this order, and no others; each has the number of its place, which is found
+/// again from its text.
 fn has_values(rt: &impl Abort, alloc: Global, ty: &Ty, texts: &[&str]) -> Result<(), Mem>
     requires formed { IsTrue (well_formed (type_tree ty.now)) }
     requires sized { HasSize (type_tree ty.now) }
 {
     let count = known_size(ty);
     assert_eq!(rt; count as usize, texts.len(), "how many values");
+    let target = alone(alloc, ty)?;
     let mut previous = None;
     for n in 0..count {
         let value = value_at(alloc, ty, n)?;
@@ -49,6 +63,8 @@ fn has_values(rt: &impl Abort, alloc: Global, ty: &Ty, texts: &[&str]) -> Result
             "the text of a value"
         );
         assert_eq!(rt; number(ty, &value), Some(n), "the number of a value");
+        let found = number_of(alloc, &target, texts[n as usize])?;
+        assert_eq!(rt; found, Some(u64::from(n)), "the number of a text");
         if let Some(before) = &previous {
             assert_eq!(rt;
                 compare(before, &value),

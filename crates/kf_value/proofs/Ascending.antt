@@ -201,7 +201,7 @@ two_or_more n h = grind (arith, nat_tests)
 formed_tuple : (n : ℕ) (s : List ValueTree) → 2 ≤ n → Each IsWellFormed s × (length s ≡ n) → IsWellFormed (Tuple (parts s))
 formed_tuple n s two h = rw (parts_list-parts s) (rw (h.1) two, each_well_formed_parts s h.0)
 
-formed_set : (s : List ValueTree) → IsStrictlySortedBy order s → Each IsWellFormed s → IsWellFormed (Set (parts s))
+pub formed_set : (s : List ValueTree) → IsStrictlySortedBy order s → Each IsWellFormed s → IsWellFormed (Set (parts s))
 formed_set s sorted h = rw (parts_list-parts s) (sorted, each_well_formed_parts s h)
 
 mutual

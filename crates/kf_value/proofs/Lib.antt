@@ -6,7 +6,7 @@ mod Digits
 mod Examples
 mod Finding
 mod Items
-mod ListLemmas
+pub mod ListLemmas
 pub mod Orders
 mod ByForm
 mod Numbering
@@ -17,7 +17,7 @@ pub mod Ranges
 mod Replacing
 mod Sets
 mod Sizing
-mod Sorting
+pub mod Sorting
 mod Telling
 pub mod Trees
 mod Widening

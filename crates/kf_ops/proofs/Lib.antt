@@ -1,0 +1,12 @@
+mod Applying
+mod Ascending
+mod Euclid
+mod First
+mod Keeping
+pub mod Mapped
+mod Merging
+mod Naming
+mod Readings
+mod SetLaws
+mod Sound
+mod Trials

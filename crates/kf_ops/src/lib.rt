@@ -1,0 +1,25 @@
+//! The operator table: the one list of operators that lexer, parser, checker and evaluator read.
+#![tactic(auto)]
+
+mod arguments;
+mod facts;
+mod fault;
+mod laws;
+mod lookup;
+mod row;
+mod sets;
+mod table;
+mod values;
+
+pub use facts::{operators, table_facts};
+pub use fault::OpFault;
+pub use laws::row_laws;
+pub use lookup::find;
+pub use row::{Op, OpRow, Pat};
+pub use table::OPS;
+pub use values::apply;
+
+#[cfg(test)]
+mod tests;
+#[cfg(test)]
+mod value_tests;

@@ -1,0 +1,14 @@
+pub mod Spelling
+pub mod Runs
+pub mod SignSearch
+pub mod FirstBytes
+pub mod SamePiece
+pub mod SameKind
+pub mod Following
+pub mod Faults
+pub mod Spanning
+pub mod Cutting
+pub mod Both
+pub mod LongestCuts
+pub mod Going
+pub mod Judging

@@ -1,0 +1,22 @@
+use Rattle.std.proofs.Common.{◌≡◌, ◌∙◌, ℕ, List, Option, sym, subst}
+use Rattle.kf_ops.specs.Rows.{Row, row_of, rows_of, operators}
+use Rattle.kf_lex.specs.Words.{operator_word}
+use Rattle.kf_lex.specs.declared.token.Word.{Word}
+use Rattle.kf_lex.proofs.Spelling.{differs, found, unchosen}
+use Rattle.kf_lex.proofs.words.operator_word.Goals as goal
+
+-- what is said of the table's rows is said of the operators
+along : (text : List ℕ) (rows : List Row) (w : Option Word) → rows ≡ operators → w ≡ operator_word rows text → w ≡ operator_word operators text
+along text rows w e h = subst (λ rs. w ≡ operator_word rs text) e h
+
+pub returns-in_err-row : goal.returns-in_err-row
+returns-in_err-row c =
+    let text = c.args.text.now in
+    along text (rows_of c.operators-table.result) _ c.operators-table.ensures
+    (c.from_residual.ensures ∙ sym (unchosen text _ (λ k d below. differs _ text (λ e. c.in_err-row.ensures.exact k d below (sym e)))))
+
+pub returns : goal.returns
+returns c =
+    let text = c.args.text.now in
+    along text (rows_of c.operators-table.result) _ c.operators-table.ensures
+    (found row_of text c.operators-table.result _ _ _ (sym c.in_ok-row.ensures.computed) c.word_of.ensures)

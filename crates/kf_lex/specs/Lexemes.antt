@@ -1,0 +1,57 @@
+-- The shapes of tokens, and which texts each kind of token has.
+use Rattle.std.specs.Prelude.{◌≡◌, ◌≤◌, ◌⊎◌, ◌||◌, ◌==◌, ℕ, Bool, true, List, [], ◌∷◌, ◌++◌, Some, None, IsSome}
+use Rattle.std.specs.List.{All, AllByRecursion}
+use Rattle.std.specs.Str.{encode_utf8_all, all_scalars}
+use Rattle.std.specs.Str.Parse.{IsNumeral, digits_value}
+use Rattle.unicode_ident.specs.Ident.{is_xid_start, is_xid_continue}
+use Rattle.kf_ops.specs.Rows.{operators}
+use Rattle.kf_lex.specs.declared.token.Sign.{Sign}
+use Rattle.kf_lex.specs.declared.token.Tok.{Tok}
+use Rattle.kf_lex.specs.declared.token.Tok.TheVariants as tok
+use Rattle.kf_lex.specs.Words.{sign_text, reserved, word_of}
+
+-- a sign
+abbrev pub IsSign : List ℕ → Type 0
+IsSign text = (s : Sign) × (text ≡ sign_text s)
+
+-- one decimal digit or more
+abbrev pub IsNumber : List ℕ → Type 0
+IsNumber text = IsNumeral 10 text
+
+-- the greatest number of a source
+abbrev pub greatest_number : ℕ
+greatest_number = 1000000000
+
+-- a character that may begin a name: XID start, or `_`
+abbrev pub begins_name : ℕ → Bool
+begins_name c = is_xid_start c || (c == 95)
+
+-- the characters of a word: one that may begin a name, and then any that may continue it
+pub record IsWordOf (c : ℕ) (cs : List ℕ) : Type 0 where
+  pub begins : begins_name c ≡ true
+  pub continues : AllByRecursion (λ d. is_xid_continue d ≡ true) cs
+  pub scalars : all_scalars (c ∷ cs) ≡ true
+
+-- the UTF-8 of such characters, be it a name or a reserved word
+abbrev pub IsWord : List ℕ → Type 0
+IsWord text = (c : ℕ) × (cs : List ℕ) × IsWordOf c cs × (text ≡ encode_utf8_all (c ∷ cs))
+
+-- what has the shape of a token; a number may be of any size
+abbrev pub IsLexeme : List ℕ → Type 0
+IsLexeme text = IsSign text ⊎ IsNumber text ⊎ IsWord text
+
+-- a lexeme with which these bytes begin, and no longer front of them is one
+pub record IsLongest (text rest : List ℕ) : Type 0 where
+  pub lexeme : IsLexeme text
+  pub longest : (more left : List ℕ) → rest ≡ more ++ left → IsLexeme (text ++ more) → more ≡ []
+
+-- the texts that a kind of token has
+abbrev pub Spells : Tok → List ℕ → Type 0
+Spells (tok.Sign s) text = text ≡ sign_text s
+Spells (tok.Number n) text = IsNumber text × (digits_value 10 text ≡ n) × (n ≤ greatest_number)
+Spells (tok.Word w) text = reserved text ≡ Some w
+Spells tok.Name text = IsWord text × (reserved text ≡ None)
+
+-- every operator that is written as a word has a reserved word
+abbrev pub AreOperatorsReserved : Type 0
+AreOperatorsReserved = All (λ row. IsWord row.word → IsSome (word_of row.code)) operators

@@ -1,0 +1,5 @@
+pub mod Words
+pub mod Lexemes
+pub mod Pieces
+pub mod Readings
+pub mod Cuts

@@ -1,0 +1,75 @@
+-- How signs and reserved words are written. All of it is ASCII.
+use Rattle.std.specs.Prelude.{ℕ, List, [], ◌∷◌, Option, Some, None, if◌then◌else◌, codes}
+use Rattle.std.specs.Map.{lookup}
+use Rattle.std.specs.Str.{bytes_eq}
+use Rattle.kf_ops.specs.Rows.{Row, operators}
+use Rattle.kf_ops.specs.declared.row.Op.{Op}
+use Rattle.kf_ops.specs.declared.row.Op.TheVariants as op
+use Rattle.kf_lex.specs.declared.token.Sign.{Sign}
+use Rattle.kf_lex.specs.declared.token.Sign.TheVariants as sign
+use Rattle.kf_lex.specs.declared.token.Word.{Word}
+use Rattle.kf_lex.specs.declared.token.Word.TheVariants as word
+
+-- the bytes of each sign
+abbrev pub sign_text : Sign → List ℕ
+sign_text sign.Assign = codes ":="
+sign_text sign.Colon = codes ":"
+sign_text sign.Semi = codes ";"
+sign_text sign.Comma = codes ","
+sign_text sign.ParenOpen = codes "("
+sign_text sign.ParenClose = codes ")"
+sign_text sign.BraceOpen = codes "{"
+sign_text sign.BraceClose = codes "}"
+sign_text sign.Range = codes ".."
+sign_text sign.Dot = codes "."
+sign_text sign.Slash = codes "/"
+sign_text sign.Equal = codes "="
+sign_text sign.NotEqual = codes "!="
+sign_text sign.AtMost = codes "<="
+sign_text sign.Less = codes "<"
+sign_text sign.AtLeast = codes ">="
+sign_text sign.Greater = codes ">"
+sign_text sign.Plus = codes "+"
+sign_text sign.Minus = codes "-"
+sign_text sign.Star = codes "*"
+
+-- the reserved words that are no operators, each with its letters
+abbrev pub own_words : List (List ℕ × Word)
+own_words =
+    (codes "var", word.VarWord) ∷ (codes "bool", word.BoolWord) ∷ (codes "set", word.SetWord) ∷ (codes "of", word.OfWord)
+    ∷ (codes "about", word.AboutWord) ∷ (codes "old", word.OldWord) ∷ (codes "skip", word.SkipWord) ∷ (codes "observe", word.ObserveWord)
+    ∷ (codes "if", word.IfWord) ∷ (codes "else", word.ElseWord) ∷ (codes "while", word.WhileWord) ∷ (codes "uniform", word.UniformWord)
+    ∷ (codes "choose", word.ChooseWord) ∷ (codes "flip", word.FlipWord) ∷ (codes "true", word.TrueWord) ∷ (codes "false", word.FalseWord) ∷ []
+
+-- the word of an operator, where it is written with letters; the letters themselves stand in the operator's row
+abbrev pub word_of : Op → Option Word
+word_of op.Or = Some word.OrWord
+word_of op.And = Some word.AndWord
+word_of op.Not = Some word.NotWord
+word_of op.Elem = Some word.InWord
+word_of op.Union = Some word.UnionWord
+word_of op.Without = Some word.LessWord
+word_of op.Div = Some word.DivWord
+word_of op.Mod = Some word.ModWord
+word_of op.Inter = Some word.InterWord
+word_of op.Size = Some word.SizeWord
+word_of op.Cond = Some word.CondWord
+word_of _ = None
+
+-- the word of the first row with these letters
+abbrev pub operator_word : List Row → List ℕ → Option Word
+operator_word [] text = None
+operator_word (row ∷ rows) text = if bytes_eq row.word text then word_of row.code else operator_word rows text
+
+-- the reserved word with these letters that is no operator
+abbrev pub own_word : List ℕ → Option Word
+own_word text = lookup (λ letters. bytes_eq letters text) own_words
+
+-- the first, or else the second
+abbrev pub or_else : Option Word → Option Word → Option Word
+or_else (Some w) other = Some w
+or_else None other = other
+
+-- the reserved word with these letters, if there is one
+unfoldable pub reserved : List ℕ → Option Word
+reserved text = or_else (own_word text) (operator_word operators text)

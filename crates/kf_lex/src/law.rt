@@ -1,0 +1,25 @@
+//! What holds of every source.
+
+ghost use Rattle.std.specs.Prelude.{List, ℕ};
+ghost use Rattle.kf_lex.specs.declared.token.Token.{Token};
+ghost use Rattle.std.specs.List.{All};
+ghost use Rattle.kf_lex.specs.Lexemes.{AreOperatorsReserved};
+ghost use Rattle.kf_lex.specs.Readings.{HasName, HasSpans, IsOneReading, IsTokens};
+
+/// A source has at most one list of tokens, at most one first fault, and never both. It does nothing
+/// when it runs.
+pub fn one_reading()
+    ensures { IsOneReading }
+{}
+
+/// The tokens of a source stand in it one behind the other, and the texts of names are UTF-8. It does
+/// nothing when it runs.
+pub fn spans()
+    ensures spans { (src : List ℕ) (tokens : List Token) → IsTokens src tokens → HasSpans src tokens }
+    ensures names { (src : List ℕ) (tokens : List Token) → IsTokens src tokens → All (HasName src) tokens }
+{}
+
+/// Every operator that is written as a word has a reserved word. It does nothing when it runs.
+pub fn reserved_operators()
+    ensures { AreOperatorsReserved }
+{}

@@ -1,0 +1,41 @@
+mod TrimSteps
+mod TrimMaps
+mod TrimCuts
+mod TrimTrees
+mod TrimLong
+mod FirstDeep
+mod OneCause
+mod TakesTurns
+mod TakesSteps
+mod Takes
+mod TakesExprs
+mod TakesForms
+mod TakesPrograms
+mod KindsSame
+mod KindsExprs
+mod KindsPrograms
+mod TakesOne
+pub mod Loops
+pub mod Closed
+pub mod ClosedForms
+mod ExprTurns
+mod Failing
+pub mod Shrinks
+pub mod Tame
+pub mod Told
+pub mod ToldTokens
+pub mod ToldExprs
+pub mod ToldTypes
+pub mod ToldDists
+pub mod ToldPrograms
+pub mod Sinks
+pub mod SinksExprs
+pub mod SinksPrograms
+pub mod Judging
+mod Spelled
+pub mod Turns
+mod Answering
+pub mod Runs
+pub mod Behind
+pub mod Depths
+mod OperatorTokens

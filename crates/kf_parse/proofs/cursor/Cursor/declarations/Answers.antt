@@ -1,0 +1,34 @@
+use Rattle.std.proofs.Common.{rules, arith, sym, ◌∙◌}
+use Rattle.std.proofs.lemmas.Grind.{common_steps}
+use Rattle.kf_ast.specs.Sources.{decl_tree}
+use Rattle.kf_lex.specs.declared.token.Tok.TheVariants as tok
+use Rattle.kf_lex.specs.declared.token.Word.TheVariants as word
+use Rattle.kf_parse.specs.Built.{trimmed_of}
+use Rattle.kf_parse.specs.Composed.{all_of}
+use Rattle.kf_parse.specs.Reading as r
+use Rattle.kf_parse.specs.Trimmed.{trimmed}
+use Rattle.kf_parse.proofs.Shrinks.{declaration_steps}
+use Rattle.kf_parse.proofs.Turns.{stops, turn_stuck, turn_deep, turn_got, turn_shorter}
+use Rattle.kf_parse.proofs.cursor.Cursor.declarations.Goals as goal
+
+pub decls-smaller : goal.decls-smaller
+decls-smaller c =
+    turn_shorter (tok.Word word.VarWord) (r.declaration trimmed c.args.self.now.src.now c.args.depth) (trimmed_of (all_of decl_tree) c.decls.list) c.skip.new.self.rest.now (declaration_steps trimmed c.args.self.now.src.now c.args.depth) c.decls.self.rest.now c.declaration.new.self.rest.now (trimmed_of (all_of decl_tree) c.in_ok-list.list)
+    c.skip.ensures.rest (sym c.at.ensures ∙ c.decls-test.true) (rw (c.skip.ensures.source, c.decls.invariant.source) at c.in_ok-list.ensures.reads)
+
+pub decls-preserved : goal.decls-preserved
+decls-preserved c =
+    let same = turn_got (tok.Word word.VarWord) (r.declaration trimmed c.args.self.now.src.now c.args.depth) (trimmed_of (all_of decl_tree) c.decls.list) c.skip.new.self.rest.now (declaration_steps trimmed c.args.self.now.src.now c.args.depth) c.decls.self.rest.now c.declaration.new.self.rest.now (trimmed_of (all_of decl_tree) c.in_ok-list.list)
+    c.skip.ensures.rest (sym c.at.ensures ∙ c.decls-test.true) (rw (c.skip.ensures.source, c.decls.invariant.source) at c.in_ok-list.ensures.reads) in
+    record { source = search rules; rest = c.decls.invariant.rest ∙ same }
+
+pub returns-in_err-list-clause-reads : goal.returns-in_err-list-clause-reads
+returns-in_err-list-clause-reads c =
+    let same = c.skip.ensures.source ∙ c.decls.invariant.source in
+    let a = turn_stuck (tok.Word word.VarWord) (r.declaration trimmed c.args.self.now.src.now c.args.depth) (trimmed_of (all_of decl_tree) c.decls.list) c.skip.new.self.rest.now c.decls.self.rest.now c.declaration.new.self.rest.now c.skip.ensures.rest (sym c.at.ensures ∙ c.decls-test.true) in
+    let b = turn_deep (tok.Word word.VarWord) (r.declaration trimmed c.args.self.now.src.now c.args.depth) (trimmed_of (all_of decl_tree) c.decls.list) c.skip.new.self.rest.now c.decls.self.rest.now c.skip.ensures.rest (sym c.at.ensures ∙ c.decls-test.true) in
+    let i = c.decls.invariant.rest in
+    first_of (search (rules, a, b), grind (arith, common_steps, a, b))
+
+pub returns-clause-reads : goal.returns-clause-reads
+returns-clause-reads c = c.decls.invariant.rest ∙ stops (tok.Word word.VarWord) (r.declaration trimmed c.args.self.now.src.now c.args.depth) (trimmed_of (all_of decl_tree) c.decls.list) c.decls.self.rest.now (sym c.at.ensures ∙ c.decls-test.false)

@@ -1,0 +1,21 @@
+use Rattle.std.proofs.Common.{◌≡◌, length}
+use Rattle.kf_ast.specs.Sources.{decl_tree}
+use Rattle.kf_lex.specs.declared.token.Tok.TheVariants as tok
+use Rattle.kf_lex.specs.declared.token.Word.TheVariants as word
+use Rattle.kf_parse.specs.Built.{trimmed_of}
+use Rattle.kf_parse.specs.Composed.{all_of}
+use Rattle.kf_parse.specs.Outcomes.{repeat}
+use Rattle.kf_parse.specs.Reading as r
+use Rattle.kf_parse.specs.Trimmed.{trimmed}
+use Rattle.kf_parse.proofs.Turns.{taking}
+use Rattle.kf_parse.proofs.cursor.Cursor.declarations.Given as goal
+
+abbrev pub invariant-decls : goal.invariant-decls
+invariant-decls l = record {
+  source : l.self.src.now ≡ l.fn.self.src.now;
+  rest : r.declarations trimmed l.fn.self.src.now l.depth l.fn.self.rest.now
+      ≡ repeat (taking (tok.Word word.VarWord) (r.declaration trimmed l.fn.self.src.now l.depth) (trimmed_of (all_of decl_tree) l.list)) (trimmed_of (all_of decl_tree) l.list) l.self.rest.now;
+}
+
+abbrev pub decreases-decls : goal.decreases-decls
+decreases-decls l = length l.self.rest.now

@@ -1,0 +1,6 @@
+use Rattle.kf_parse.proofs.TakesOne.{one_program}
+use Rattle.kf_parse.proofs.KindsPrograms.{kinds_alone}
+use Rattle.kf_parse.proofs.laws.grammar.Goals as goal
+
+pub returns : goal.returns
+returns c = record { one = one_program; kinds = kinds_alone }

@@ -1,0 +1,17 @@
+pub mod Operators
+pub mod Grammar
+pub mod Programs
+pub mod Depth
+pub mod Sizes
+pub mod Tokens
+pub mod Outcomes
+pub mod Builders
+pub mod Reading
+pub mod Plain
+pub mod Trimmed
+pub mod Answers
+pub mod Reads
+pub mod Built
+pub mod Composed
+pub mod Begins
+pub mod OperatorTokens

@@ -1,0 +1,24 @@
+//! The grammar of sources and the parser.
+#![tactic(auto)]
+
+mod build;
+mod compose;
+mod cursor;
+mod deep;
+mod dists;
+mod errors;
+mod exprs;
+mod kept;
+mod laws;
+mod operators;
+mod parsing;
+mod sources;
+mod stmts;
+mod stop;
+#[cfg(test)]
+mod tests;
+mod types;
+
+pub use errors::ParseError;
+pub use laws::{grammar, operator_tokens, refusals};
+pub use parsing::parse;

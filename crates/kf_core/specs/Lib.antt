@@ -3,3 +3,10 @@ pub mod FirstView
 pub mod Joint
 pub mod Numerals
 pub mod Rows
+pub mod Exs
+pub mod Dxs
+pub mod Sts
+pub mod Programs
+pub mod Evaluation
+pub mod Checked
+pub mod Laws

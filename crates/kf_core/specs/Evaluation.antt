@@ -1,0 +1,67 @@
+-- The value of an expression in a store, or its first fault (Gibbons et al. 2020 leave expressions open; these are this language's).
+use Rattle.std.specs.Prelude.{ℕ, false, if◌then◌else◌, List, [], ◌∷◌, get_or, slice_get, Option, Some, None, Result, Ok, Err}
+use Rattle.std.specs.Option.{option_map}
+use Rattle.kf_value.specs.Values.{ValueTree, Truth, parts, parts_list}
+use Rattle.kf_value.specs.Values as value
+use Rattle.kf_ops.specs.Rows.{operators}
+use Rattle.kf_ops.specs.Values.{Fault, truth, inserted, applied}
+use Rattle.kf_ops.specs.declared.row.Op.{Op}
+use Rattle.kf_ops.specs.declared.row.Op.TheVariants as op
+use Rattle.kf_core.specs.Exs.{ExTree, ExTrees, Const, Slot, Apply, Tuple, SetOf, Part, no_exs, more_exs}
+
+abbrev pub Evaluated : Type 0
+Evaluated = Result ValueTree Fault
+
+-- a value goes on, a fault stays
+abbrev pub after : {A : Type 0} → Result A Fault → (A → Evaluated) → Evaluated
+after (Ok x) next = next x
+after (Err f) next = Err f
+
+abbrev pub joined : Evaluated → Result (List ValueTree) Fault → Result (List ValueTree) Fault
+joined (Ok v) (Ok vs) = Ok (v ∷ vs)
+joined (Ok v) (Err f) = Err f
+joined (Err f) others = Err f
+
+-- all values, or the first fault from left to right
+abbrev pub all_values : List Evaluated → Result (List ValueTree) Fault
+all_values [] = Ok []
+all_values (e ∷ es) = joined e (all_values es)
+
+-- An operator at its evaluated arguments. `or` is its first argument where that is true and else its second, `and` the other way round, and
+-- `cond` is its second or its third: what doesn't decide has no part in the result.
+abbrev pub operated : Op → List Evaluated → Evaluated
+operated op.Or (a ∷ b ∷ []) = after a (λ v. if truth v then Ok v else b)
+operated op.And (a ∷ b ∷ []) = after a (λ v. if truth v then b else Ok v)
+operated op.Cond (a ∷ b ∷ c ∷ []) = after a (λ v. if truth v then b else c)
+operated code es = after (all_values es) (applied code)
+
+-- the operator of a row; a checked expression names none that isn't there
+abbrev pub operator_at : ℕ → Option Op
+operator_at row = option_map (λ r. r.code) (slice_get operators row)
+
+abbrev pub at_row : Option Op → List Evaluated → Evaluated
+at_row (Some code) es = operated code es
+at_row None es = Ok (Truth false)
+
+-- members of a set, each once and ascending
+abbrev pub set_of : List ValueTree → List ValueTree
+set_of [] = []
+set_of (v ∷ vs) = inserted v (set_of vs)
+
+-- a part of a tuple, counted from 0; a checked expression takes no part that isn't there
+abbrev pub part_of : ℕ → ValueTree → ValueTree
+part_of k (value.Tuple vs) = get_or (parts_list vs) k (Truth false)
+part_of k v = v
+
+abbrev mutual
+  pub ev : List ValueTree → ExTree → Evaluated
+  ev s (Const v) = Ok v
+  ev s (Slot i) = Ok (get_or s i (Truth false))
+  ev s (Apply row xs) = at_row (operator_at row) (evs s xs)
+  ev s (Tuple xs) = after (all_values (evs s xs)) (λ vs. Ok (value.Tuple (parts vs)))
+  ev s (SetOf xs) = after (all_values (evs s xs)) (λ vs. Ok (value.Set (parts (set_of vs))))
+  ev s (Part x k) = after (ev s x) (λ v. Ok (part_of k v))
+
+  pub evs : List ValueTree → ExTrees → List Evaluated
+  evs s no_exs = []
+  evs s (more_exs x xs) = ev s x ∷ evs s xs

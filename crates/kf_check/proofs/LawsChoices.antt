@@ -1,0 +1,79 @@
+-- Questions that can be settled, and what follows in either case.
+use Rattle.std.proofs.Common.{◌≡◌, ℕ, suc, zero, ◌≤◌, List, [], ◌∷◌, All, Ok, Err, Result, refl, sym, ap, arith}
+use Rattle.std.proofs.lemmas.List.Elements.{All-head, All-tail, All-nil, All-cons}
+use Rattle.kf_value.specs.Kinds.{KindTree, KindTrees, TruthKind, WholeKind, TupleKind, SetKind, no_kind, more_kinds}
+
+-- one value where it holds, the other where it doesn't
+abbrev pub decided : {P A : Type 0} → Dec P → A → A → A
+decided (yes h) a b = a
+decided (no n) a b = b
+
+pub is_yes : {P A : Type 0} (d : Dec P) (a b : A) → P → decided d a b ≡ a
+is_yes (yes h) a b p = refl
+is_yes (no n) a b p = absurd (n p)
+
+pub is_no : {P A : Type 0} (d : Dec P) (a b : A) → (P → ⊥) → decided d a b ≡ b
+is_no (yes h) a b n = absurd (n h)
+is_no (no m) a b n = refl
+
+pub either_way : {P A : Type 0} (Q : A → Type 0) (d : Dec P) (a b : A) → (P → Q a) → ((P → ⊥) → Q b) → Q (decided d a b)
+either_way Q (yes h) a b f g = f h
+either_way Q (no n) a b f g = g n
+
+-- an answer that is asked of another one, or the first broken rule
+abbrev pub after : {A B E : Type 0} → Result A E → (A → Result B E) → Result B E
+after (Ok x) f = f x
+after (Err e) f = Err e
+
+pub after_ok : {A B E : Type 0} {r : Result A E} (f : A → Result B E) (x : A) → Ok x ≡ r → after r f ≡ f x
+after_ok f x h = ap (λ s. after s f) (sym h)
+
+pub after_err : {A B E : Type 0} {r : Result A E} (f : A → Result B E) (e : E) → Err e ≡ r → after r f ≡ Err e
+after_err f e h = ap (λ s. after s f) (sym h)
+
+pub both : {P Q R : Type 0} → Dec P → Dec Q → (P → Q → R) → (R → P) → (R → Q) → Dec R
+both (yes p) (yes q) f g h = yes (f p q)
+both (yes p) (no n) f g h = no (λ r. n (h r))
+both (no n) q f g h = no (λ r. n (g r))
+
+pub as_well : {P R : Type 0} → Dec P → (P → R) → (R → P) → Dec R
+as_well (yes p) f g = yes (f p)
+as_well (no n) f g = no (λ r. n (g r))
+
+pub same_list : {A : Type 0} → ((a b : A) → Dec (a ≡ b)) → (xs ys : List A) → Dec (xs ≡ ys)
+same_list same [] [] = yes refl
+same_list same [] (y ∷ ys) = no (λ e. cc)
+same_list same (x ∷ xs) [] = no (λ e. cc)
+same_list same (x ∷ xs) (y ∷ ys) = both (same x y) (same_list same xs ys) (λ e f. cc) (λ e. cc) (λ e. cc)
+
+pub same_number : (a b : ℕ) → Dec (a ≡ b)
+same_number zero zero = yes refl
+same_number zero (suc b) = no (λ e. omega arith)
+same_number (suc a) zero = no (λ e. omega arith)
+same_number (suc a) (suc b) = as_well (same_number a b) (λ e. omega arith) (λ e. omega arith)
+
+pub at_most : (a b : ℕ) → Dec (a ≤ b)
+at_most zero b = yes (omega arith)
+at_most (suc a) zero = no (λ e. omega arith)
+at_most (suc a) (suc b) = as_well (at_most a b) (λ e. omega arith) (λ e. omega arith)
+
+pub same_text : (a b : List ℕ) → Dec (a ≡ b)
+same_text = same_list same_number
+
+mutual
+  pub same_kind : (j k : KindTree) → Dec (j ≡ k)
+  same_kind TruthKind TruthKind = yes refl
+  same_kind WholeKind WholeKind = yes refl
+  same_kind (TupleKind js) (TupleKind ks) = as_well (same_parts js ks) (λ e. cc) (λ e. cc)
+  same_kind (SetKind j) (SetKind k) = as_well (same_kind j k) (λ e. cc) (λ e. cc)
+  same_kind _ _ = no (λ e. cc)
+
+  same_parts : (js ks : KindTrees) → Dec (js ≡ ks)
+  same_parts no_kind no_kind = yes refl
+  same_parts no_kind (more_kinds k ks) = no (λ e. cc)
+  same_parts (more_kinds j js) no_kind = no (λ e. cc)
+  same_parts (more_kinds j js) (more_kinds k ks) = both (same_kind j k) (same_parts js ks) (λ e f. cc) (λ e. cc) (λ e. cc)
+
+pub all_or_not : {A : Type 0} (P : A → Type 0) → ((x : A) → Dec (P x)) → (xs : List A) → Dec (All P xs)
+all_or_not P test [] = yes (All-nil P)
+all_or_not P test (x ∷ xs) = both (test x) (all_or_not P test xs) (λ h hs. All-cons P x xs h hs) (λ h. All-head P x xs h) (λ h. All-tail P x xs h)

@@ -3,6 +3,7 @@ ghost use Rattle.std.specs.Prelude.{◌<◌};
 
 mod answers;
 mod causes;
+mod refusals;
 mod slow;
 
 use kf_io::{ByteList, CallList, FileEntry, FileList, FileName, Files, MemFiles, MemSink};

@@ -26,10 +26,12 @@ line_none s k = record { front = (0, omega arith, took_none s.bytes_before s.byt
 -- the statuses of what a file's bytes are refused for
 pub refused_high : (r : Refusal) → 5 ≤ status_of (refused r)
 refused_high (refusal.TooLong name) = omega arith
+refused_high (refusal.BadText name line column word) = omega arith
 refused_high (refusal.NotFirst name) = omega arith
 
 pub refused_other : (r : Refusal) → status_of (refused r) ≢ 12
 refused_other (refusal.TooLong name) = λ e. omega arith
+refused_other (refusal.BadText name line column word) = λ e. omega arith
 refused_other (refusal.NotFirst name) = λ e. omega arith
 
 answered_refused : (words : List (List ℕ)) (contents : List ℕ → List ℕ) (r : Refused) (out err : Sunk) (status : ℕ) → Outcome words contents (Err r) → status ≡ status_of r → TookNothing out → TookLine err (line_of r)

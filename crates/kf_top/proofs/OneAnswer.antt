@@ -5,6 +5,9 @@ use Rattle.std.specs.Ordering.{nat_cmp, ordering_reverse}
 use Rattle.std.specs.Cmp.Lexicographic.{slice_cmp}
 use Rattle.std.specs.List.{AllZip, AllByRecursion}
 use Rattle.std.specs.List.Sorted.{IsStrictlySortedBy}
+use Rattle.kf_lex.specs.declared.token.Token.{Token}
+use Rattle.kf_lex.specs.Readings.{IsFault, IsOneReading}
+use Rattle.kf_parse.specs.Answers.{IsRefused, OneProgram, NotBoth, OneRefusal}
 use Rattle.kf_core.specs.Joint.{Cell}
 use Rattle.kf_core.proofs.Forms.{same_form}
 use Rattle.kf_hyper.specs.declared.column.Column.{Column}
@@ -15,9 +18,10 @@ use Rattle.kf_top.specs.Columns.{IsColumnOf, AreColumnsOf, IsHyperOf}
 use Rattle.kf_top.specs.Texts.{hyper_text}
 use Rattle.kf_top.specs.Task.{Task, Hyper, task_of}
 use Rattle.kf_top.specs.Answer.{Shown, Statement, HyperOf, States, Refused, Usage}
-use Rattle.kf_top.specs.Outcome.{Step, After, Gives, FormOf, TextOutcome, TaskOutcome, SomeOutcome, source_of, first_statement}
+use Rattle.kf_top.specs.Outcome.{Step, After, Gives, Fault, bad_text, token_fault, syntax_fault, IsBad, TokensOf, SourceOf, FormOf, ProgramForm, TextOutcome, TaskOutcome, SomeOutcome, source_of, first_statement}
 use Rattle.kf_top.specs.Ends.{Answer, Settled, showing, AtMostOneAnswer}
 use Rattle.kf_top.proofs.Adding.{trace_total}
+use Rattle.kf_top.proofs.Steps.{some_syntax}
 
 -- ---- the columns of a joint
 
@@ -110,21 +114,50 @@ one_form name bytes (Ok f) (Err s) p q = absurd (q.1 f p)
 one_form name bytes (Err r) (Ok g) p q = absurd (p.1 g q)
 one_form name bytes (Err r) (Err s) p q = ap Err (p.0 ∙ sym q.0)
 
-one_text : (name bytes : List ℕ) → HasOne (TextOutcome name bytes)
-one_text name bytes = one_after (FormOf name bytes) (λ form. Gives (Ok (first_statement form))) (one_form name bytes) (λ form. one_given (Ok (first_statement form)))
-
-one_task : (contents : List ℕ → List ℕ) (task : Task) → HasOne (TaskOutcome contents task)
-one_task contents (Hyper file turns) = one_after (Gives (source_of contents file)) (TextOutcome file) (one_given (source_of contents file)) (one_text file)
-
-one_outcome : (contents : List ℕ → List ℕ) (task : Option Task) → HasOne (SomeOutcome contents task)
-one_outcome contents None = one_given (Err Usage)
-one_outcome contents (Some task) = one_task contents task
-
 one_settled : (r : Result Statement Refused) (a b : Answer) → Settled r a → Settled r b → a ≡ b
 one_settled (Ok statement) a b p q = p.2 ∙ ap showing (one_shown statement p.0 q.0 p.1 q.1) ∙ sym q.2
 one_settled (Err r) a b p q = p ∙ sym q
 
-pub one_answer : AtMostOneAnswer
-one_answer words contents a b p q =
-    let results : p.result ≡ q.result = one_outcome contents (task_of words) p.result q.result p.outcome q.outcome in
-    one_settled q.result a b (subst (λ (r : Result Statement Refused). Settled r a) results p.settled) q.settled
+-- faults of a text that have one error have one refusal
+one_bad : {E : Type 0} (IsError : E → Type 0) (fault_of : E → Option Fault) (name bytes : List ℕ) → ((e f : E) (x y : Fault) → fault_of e ≡ Some x → fault_of f ≡ Some y → IsError e → IsError f → e ≡ f)
+    → (r s : Refused) → IsBad IsError fault_of name bytes r → IsBad IsError fault_of name bytes s → r ≡ s
+one_bad IsError fault_of name bytes one r s p q =
+    let e : p.error ≡ q.error = one p.error q.error p.fault q.fault p.has q.has p.is_error q.is_error in
+    let some : Some p.fault ≡ Some q.fault = sym p.has ∙ ap fault_of e ∙ q.has in
+    let f : p.fault ≡ q.fault = cc in
+    p.is ∙ ap (bad_text name bytes) f ∙ sym q.is
+
+-- the laws of tokens and of the grammar
+module _ (reading : IsOneReading) (one : OneProgram) (both : NotBoth) (refusal : OneRefusal) where
+  one_tokens : (name bytes : List ℕ) → HasOne (TokensOf name bytes)
+  one_tokens name bytes (Ok ts) (Ok us) p q = ap Ok (reading.tokens bytes ts us p q)
+  one_tokens name bytes (Ok ts) (Err s) p q = absurd (reading.not_both bytes ts q.error p q.is_error)
+  one_tokens name bytes (Err r) (Ok us) p q = absurd (reading.not_both bytes us p.error q p.is_error)
+  one_tokens name bytes (Err r) (Err s) p q = ap Err (one_bad (IsFault bytes) token_fault name bytes (λ e f x y _ _. reading.fault bytes e f) r s p q)
+
+  one_source : (name bytes : List ℕ) (tokens : List Token) → HasOne (SourceOf name bytes tokens)
+  one_source name bytes tokens (Ok x) (Ok y) p q = ap Ok (one bytes tokens x y p.program q.program)
+  one_source name bytes tokens (Ok x) (Err s) p q = absurd (both bytes tokens x q.error (some_syntax q.error q.fault q.has) p q.is_error)
+  one_source name bytes tokens (Err r) (Ok y) p q = absurd (both bytes tokens y p.error (some_syntax p.error p.fault p.has) q p.is_error)
+  one_source name bytes tokens (Err r) (Err s) p q =
+      ap Err (one_bad (IsRefused bytes tokens) syntax_fault name bytes (λ e f x y has has'. refusal bytes tokens e f (some_syntax e x has) (some_syntax f y has')) r s p q)
+
+  one_program_form : (name bytes : List ℕ) → HasOne (ProgramForm name bytes)
+  unfolding ProgramForm
+  one_program_form name bytes = one_after (TokensOf name bytes) (λ tokens. After (SourceOf name bytes tokens) (λ tree. FormOf name bytes)) (one_tokens name bytes)
+      (λ tokens. one_after (SourceOf name bytes tokens) (λ tree. FormOf name bytes) (one_source name bytes tokens) (λ tree. one_form name bytes))
+
+  one_text : (name bytes : List ℕ) → HasOne (TextOutcome name bytes)
+  one_text name bytes = one_after (ProgramForm name bytes) (λ form. Gives (Ok (first_statement form))) (one_program_form name bytes) (λ form. one_given (Ok (first_statement form)))
+
+  one_task : (contents : List ℕ → List ℕ) (task : Task) → HasOne (TaskOutcome contents task)
+  one_task contents (Hyper file turns) = one_after (Gives (source_of contents file)) (TextOutcome file) (one_given (source_of contents file)) (one_text file)
+
+  one_outcome : (contents : List ℕ → List ℕ) (task : Option Task) → HasOne (SomeOutcome contents task)
+  one_outcome contents None = one_given (Err Usage)
+  one_outcome contents (Some task) = one_task contents task
+
+  pub one_answer : AtMostOneAnswer
+  one_answer words contents a b p q =
+      let results : p.result ≡ q.result = one_outcome contents (task_of words) p.result q.result p.outcome q.outcome in
+      one_settled q.result a b (subst (λ (r : Result Statement Refused). Settled r a) results p.settled) q.settled

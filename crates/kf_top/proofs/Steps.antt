@@ -1,13 +1,20 @@
 -- One step and then the next, and what a stop's result is.
-use Rattle.std.proofs.Common.{◌≡◌, ℕ, List, inl, inr, true, Ok, Err, refl, subst}
-use Rattle.kf_core.specs.FirstForm.{FirstForm, IsFirst}
+use Rattle.std.proofs.Common.{◌≡◌, ◌≢◌, ℕ, List, inl, inr, true, None, Some, Ok, Err, refl, sym, ap, ◌∙◌, subst}
+use Rattle.kf_lex.specs.declared.token.Token.{Token}
+use Rattle.kf_lex.specs.declared.token.LexError.{LexError}
+use Rattle.kf_lex.specs.declared.token.LexError.TheVariants as lexing
+use Rattle.kf_lex.specs.Readings.{IsFaultOrMem}
+use Rattle.kf_parse.specs.declared.errors.ParseError.{ParseError}
+use Rattle.kf_parse.specs.declared.errors.ParseError.TheVariants as parsing
+use Rattle.kf_parse.specs.Answers.{IsRefused}
+use Rattle.kf_core.specs.FirstForm.{FirstForm}
 use Rattle.kf_core.specs.Rows.{scale_of}
 use Rattle.kf_core.specs.Joint.{joint_of}
 use Rattle.kf_hyper.specs.Hypers.{Inner}
 use Rattle.kf_top.specs.Answer.{Shown, Statement, States}
 use Rattle.kf_top.specs.Columns.{IsHyperOf}
 use Rattle.kf_top.specs.Texts.{hyper_text}
-use Rattle.kf_top.specs.Outcome.{Step, After, FormOf, HyperOutcome, source_of, first_target, first_statement}
+use Rattle.kf_top.specs.Outcome.{Step, After, Fault, token_fault, syntax_fault, bad_text, TokensOf, SourceOf, ProgramForm, HyperOutcome, source_of, first_target, first_statement}
 use Rattle.kf_top.specs.Stops.{Answers, is_form}
 use Rattle.kf_top.specs.declared.stops.Stop.{Stop}
 use Rattle.kf_top.specs.declared.stops.Stop.TheVariants as stop
@@ -24,12 +31,26 @@ next_stops Meets first next Met (stop.Refused r) x done h = inr (x, done, h)
 next_stops Meets first next Met (stop.ReadFailed n) x done h = tt
 next_stops Meets first next Met stop.Mem x done h = tt
 
+-- an error with a fault isn't want of memory
+pub some_syntax : (e : ParseError) (f : Fault) → syntax_fault e ≡ Some f → e ≢ parsing.Mem
+some_syntax e f has mem = let none : None ≡ Some f = ap syntax_fault (sym mem) ∙ has in absurd (cc)
+
+-- the refusals of a text for its first fault
+pub bad_tokens : (name bytes : List ℕ) (e : LexError) (f : Fault) → token_fault e ≡ Some f → IsFaultOrMem bytes e → TokensOf name bytes (Err (bad_text name bytes f))
+bad_tokens name bytes (lexing.Utf8 at) f has is = record { error = lexing.Utf8 at; is_error = is; fault = f; has = has; is = refl }
+bad_tokens name bytes (lexing.Char at) f has is = record { error = lexing.Char at; is_error = is; fault = f; has = has; is = refl }
+bad_tokens name bytes (lexing.Number at) f has is = record { error = lexing.Number at; is_error = is; fault = f; has = has; is = refl }
+bad_tokens name bytes lexing.Mem f has is = absurd (cc)
+
+pub bad_source : (name bytes : List ℕ) (tokens : List Token) (e : ParseError) (f : Fault) → syntax_fault e ≡ Some f → IsRefused bytes tokens e → SourceOf name bytes tokens (Err (bad_text name bytes f))
+bad_source name bytes tokens e f has is = record { error = e; is_error = is; fault = f; has = has; is = refl }
+
 -- the form of the same bytes
-pub form_at : (bytes read : List ℕ) (name : List ℕ) (s : Stop) → read ≡ bytes → Answers is_form (Err s) (FormOf name read) → Answers is_form (Err s) (FormOf name bytes)
-form_at bytes read name s same h = subst (λ (l : List ℕ). Answers is_form (Err s) (FormOf name l)) same h
+pub form_at : (bytes read : List ℕ) (name : List ℕ) (s : Stop) → read ≡ bytes → Answers is_form (Err s) (ProgramForm name read) → Answers is_form (Err s) (ProgramForm name bytes)
+form_at bytes read name s same h = subst (λ (l : List ℕ). Answers is_form (Err s) (ProgramForm name l)) same h
 
 -- the shown text states the hyper of the form
-pub stated : (contents : List ℕ → List ℕ) (file bytes : List ℕ) (form : FirstForm) (shown : Shown) (inners : List Inner) → Ok bytes ≡ source_of contents file → IsFirst bytes form → IsHyperOf (joint_of form) inners
+pub stated : (contents : List ℕ → List ℕ) (file bytes : List ℕ) (form : FirstForm) (shown : Shown) (inners : List Inner) → Ok bytes ≡ source_of contents file → ProgramForm file bytes (Ok form) → IsHyperOf (joint_of form) inners
     → shown.bytes ≡ hyper_text (first_target form) (scale_of form) inners → shown.yes ≡ true
     → (statement : Statement) × States shown statement × HyperOutcome contents file (Ok statement)
 stated contents file bytes form shown inners source first hyper text yes' =

@@ -1,5 +1,6 @@
 -- What an answer states, and the words of a refusal.
 use Rattle.std.specs.Prelude.{◌≡◌, ℕ, List, [], ◌∷◌, ◌++◌, Bool, true, codes}
+use Rattle.std.specs.Fmt.{decimal}
 use Rattle.kf_value.specs.Targets.{Item}
 use Rattle.kf_core.specs.Joint.{Cell}
 use Rattle.kf_hyper.specs.Hypers.{Inner}
@@ -30,6 +31,8 @@ States shown (HyperOf target scale joint) = StatesHyper target scale joint shown
 pub data Refused : Type 0 where
   Usage : Refused
   TooLong : List ℕ → Refused
+  -- a file's name, the line and the column, and the fault's word
+  BadText : List ℕ → ℕ → ℕ → List ℕ → Refused
   NotFirst : List ℕ → Refused
 
 -- a line on standard error; `name` is the file's, or empty
@@ -39,9 +42,11 @@ said name what = codes "kuifje: " ++ (name ++ (what ++ 10 ∷ []))
 abbrev pub status_of : Refused → ℕ
 status_of Usage = 2
 status_of (TooLong name) = 11
+status_of (BadText name line column word) = 5
 status_of (NotFirst name) = 5
 
 abbrev pub line_of : Refused → List ℕ
 line_of Usage = said [] (codes "usage: kuifje COMMAND [FILES] [--gain G] [--turns N] [--json]")
 line_of (TooLong name) = said name (codes ": longer than 1048576 bytes")
+line_of (BadText name line column word) = said name (58 ∷ decimal line ++ 58 ∷ decimal column ++ codes ": " ++ word)
 line_of (NotFirst name) = said name (codes ": not of the first form")

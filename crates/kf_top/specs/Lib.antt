@@ -3,6 +3,7 @@ pub mod Columns
 pub mod Ends
 pub mod Gathering
 pub mod Outcome
+pub mod Place
 pub mod Stops
 pub mod Task
 pub mod Texts

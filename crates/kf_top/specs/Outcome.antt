@@ -4,10 +4,19 @@ use Rattle.std.specs.declared.option.Option.{Option}
 use Rattle.std.specs.declared.result.Result.{Result}
 use Rattle.kf_value.specs.Targets.{Item}
 use Rattle.kf_value.specs.Types.{Range}
+use Rattle.kf_lex.specs.declared.token.Token.{Token}
+use Rattle.kf_lex.specs.declared.token.LexError.{LexError}
+use Rattle.kf_lex.specs.declared.token.LexError.TheVariants as lexing
+use Rattle.kf_lex.specs.Readings.{IsTokens, IsFault}
+use Rattle.kf_ast.specs.Sources.{SourceTree}
+use Rattle.kf_parse.specs.declared.errors.ParseError.{ParseError}
+use Rattle.kf_parse.specs.declared.errors.ParseError.TheVariants as parsing
+use Rattle.kf_parse.specs.Answers.{IsParsed, IsRefused}
 use Rattle.kf_core.specs.FirstForm.{FirstForm, IsFirst}
 use Rattle.kf_core.specs.Rows.{scale_of}
 use Rattle.kf_core.specs.Joint.{joint_of}
-use Rattle.kf_top.specs.Answer.{Statement, HyperOf, Refused, Usage, TooLong, NotFirst}
+use Rattle.kf_top.specs.Answer.{Statement, HyperOf, Refused, Usage, TooLong, BadText, NotFirst}
+use Rattle.kf_top.specs.Place.{line_at, column_at}
 use Rattle.kf_top.specs.Task.{Task, Hyper, task_of}
 
 -- a step towards an answer: which results it may have
@@ -27,10 +36,57 @@ Gives given result = result ≡ given
 abbrev pub source_of : (List ℕ → List ℕ) → List ℕ → Result (List ℕ) Refused
 source_of contents name = if nat_le (length (contents name)) 1048576 then Ok (contents name) else Err (TooLong name)
 
+-- a fault of a text: its word, which is that of the cause, and the byte at which it stands
+pub record Fault : Type 0 where
+  pub word : List ℕ
+  pub at : ℕ
+
+abbrev pub fault : List ℕ → ℕ → Fault
+fault word at = record { word = word; at = at }
+
+abbrev pub bad_text : List ℕ → List ℕ → Fault → Refused
+bad_text name bytes f = BadText name (line_at bytes f.at) (column_at bytes f.at) f.word
+
+-- faults of characters and numbers; want of memory is none
+abbrev pub token_fault : LexError → Option Fault
+token_fault (lexing.Utf8 at) = Some (fault (codes "Utf8") at)
+token_fault (lexing.Char at) = Some (fault (codes "Char") at)
+token_fault (lexing.Number at) = Some (fault (codes "Number") at)
+token_fault lexing.Mem = None
+
+-- faults of nesting, syntax and length
+abbrev pub syntax_fault : ParseError → Option Fault
+syntax_fault (parsing.Deep at) = Some (fault (codes "Deep") at)
+syntax_fault (parsing.Syntax at) = Some (fault (codes "Syntax") at)
+syntax_fault (parsing.Long at) = Some (fault (codes "Long") at)
+syntax_fault parsing.Mem = None
+
+-- the refusal is that of an error with a fault
+pub record IsBad {E : Type 0} (IsError : E → Type 0) (fault_of : E → Option Fault) (name bytes : List ℕ) (r : Refused) : Type 0 where
+  pub error : E
+  pub is_error : IsError error
+  pub fault : Fault
+  pub has : fault_of error ≡ Some fault
+  pub is : r ≡ bad_text name bytes fault
+
+-- the tokens of a text, or its first bad character or number
+abbrev pub TokensOf : List ℕ → List ℕ → Step (List Token)
+TokensOf name bytes (Ok tokens) = IsTokens bytes tokens
+TokensOf name bytes (Err r) = IsBad (IsFault bytes) token_fault name bytes r
+
+-- the program that tokens are, or why they are none
+abbrev pub SourceOf : List ℕ → List ℕ → List Token → Step SourceTree
+SourceOf name bytes tokens (Ok tree) = IsParsed bytes tokens tree
+SourceOf name bytes tokens (Err r) = IsBad (IsRefused bytes tokens) syntax_fault name bytes r
+
 -- the form of a text, or that it has none
 abbrev pub FormOf : List ℕ → List ℕ → Step FirstForm
 FormOf name bytes (Ok form) = IsFirst bytes form
 FormOf name bytes (Err r) = (r ≡ NotFirst name) × ((form : FirstForm) → IsFirst bytes form → ⊥)
+
+-- the form of a text that is a program
+unfoldable pub ProgramForm : List ℕ → List ℕ → Step FirstForm
+ProgramForm name bytes = After (TokensOf name bytes) (λ tokens. After (SourceOf name bytes tokens) (λ tree. FormOf name bytes))
 
 -- the target of a text of the first form: its one variable
 abbrev pub first_target : FirstForm → List Item
@@ -42,7 +98,7 @@ first_statement form = HyperOf (first_target form) (scale_of form) (joint_of for
 
 -- what the bytes of a file come to
 abbrev pub TextOutcome : List ℕ → List ℕ → Step Statement
-TextOutcome file bytes = After (FormOf file bytes) (λ form. Gives (Ok (first_statement form)))
+TextOutcome file bytes = After (ProgramForm file bytes) (λ form. Gives (Ok (first_statement form)))
 
 -- `hyper`: the file is read, then its text
 abbrev pub HyperOutcome : (List ℕ → List ℕ) → List ℕ → Step Statement

@@ -1,6 +1,9 @@
 -- The work's result against the defined outcome, and the causes of its stops.
 use Rattle.std.specs.Prelude.{◌≡◌, ℕ, List, Vec, Ok, Err, Contains}
 use Rattle.std.specs.declared.alloc.Global.{Global}
+use Rattle.kf_lex.specs.declared.token.Token.{Token}
+use Rattle.kf_ast.specs.declared.decl.Source.{Source}
+use Rattle.kf_ast.specs.Sources.{SourceTree, source_tree}
 use Rattle.kf_core.specs.declared.first.First.{First}
 use Rattle.kf_core.specs.FirstForm.{FirstForm}
 use Rattle.kf_core.specs.FirstView.{form_of}
@@ -15,6 +18,7 @@ use Rattle.kf_top.specs.declared.stops.Stop.TheVariants as stop
 
 abbrev pub refused : Refusal → answer.Refused
 refused (refusal.TooLong name) = answer.TooLong name.now
+refused (refusal.BadText name line column word) = answer.BadText name.now line column word.now
 refused (refusal.NotFirst name) = answer.NotFirst name.now
 
 -- the result is one that the step may have, or its cause isn't in the words and the files' bytes
@@ -39,3 +43,9 @@ is_bytes v bytes = v.items ≡ bytes
 
 abbrev pub is_form : First → FirstForm → Type 0
 is_form first form = form_of first ≡ form
+
+abbrev pub is_tokens : List Token → List Token → Type 0
+is_tokens tokens ts = tokens ≡ ts
+
+abbrev pub is_source : Source → SourceTree → Type 0
+is_source source tree = source_tree source ≡ tree

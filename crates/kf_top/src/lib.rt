@@ -3,6 +3,7 @@
 
 mod first_hyper;
 mod law;
+mod places;
 mod stops;
 #[cfg(test)]
 mod tests;
@@ -12,6 +13,7 @@ mod words;
 mod work;
 
 pub use law::at_most_one_answer;
+pub use places::place;
 pub use texts::hyper_text;
 pub use top::run;
 pub use words::{Job, WordsError, read_words};

@@ -6,6 +6,8 @@ use std::alloc::{AllocError, AllocFailed};
 pub enum Refusal<'a> {
     /// The file has more than 1,048,576 bytes.
     TooLong(&'a str),
+    /// The file's text is no program: the line, the column and the word of the fault.
+    BadText(&'a str, u32, u32, &'static str),
     /// The file's text is not of the first form.
     NotFirst(&'a str),
 }

@@ -1,32 +1,87 @@
-ghost use Rattle.std.specs.Prelude.{◌≡◌, ◌∷◌, [], ℕ, List};
+ghost use Rattle.std.specs.Prelude.{◌≡◌, ◌≤◌, ◌∷◌, [], ℕ, List, length, vec_len, IfOk};
 ghost use Rattle.std.specs.Option.{ForSome};
 ghost use Rattle.kf_core.specs.FirstForm.{IsFirst};
 ghost use Rattle.kf_core.specs.FirstView.{form_of};
 ghost use Rattle.kf_top.specs.Answer.{States};
-ghost use Rattle.kf_top.specs.Outcome.{Gives, FormOf, source_of, HyperOutcome, TaskOutcome};
+ghost use Rattle.kf_lex.specs.Readings.{IsTokens};
+ghost use Rattle.kf_top.specs.Outcome.{Gives, TokensOf, SourceOf, FormOf, ProgramForm, source_of, HyperOutcome, TaskOutcome};
+ghost use Rattle.kf_top.specs.Place.{line_at, column_at};
 ghost use Rattle.kf_top.specs.Task.{files_of_task};
-ghost use Rattle.kf_top.specs.Stops.{Answers, Causes, is_form, is_bytes};
+ghost use Rattle.kf_top.specs.Stops.{Answers, Causes, is_form, is_bytes, is_tokens, is_source};
+ghost use Rattle.kf_top.specs.declared.stops.Refusal.TheVariants as refusal;
+ghost use Rattle.kf_top.specs.declared.stops.Stop.TheVariants as stop;
 ghost use Rattle.kf_top.specs.Views.{shown, task_of_job, ShowsStatement};
 
 use crate::first_hyper::hyper_of;
+use crate::places::place;
 use crate::stops::{Done, Refusal, Stop};
 use crate::texts::hyper_text;
 use crate::words::Job;
+use kf_ast::Source;
 use kf_core::{First, FirstError, read_first};
 use kf_io::{Files, ReadError, read_whole};
+use kf_lex::{LexError, Tokens, lex};
+use kf_parse::{ParseError, parse};
 use std::alloc::Global;
+
+// The refusal of a text for a fault of this word at this byte.
+fn bad_text<'a>(name: &'a str, bytes: &[u8], at: u32, word: &'static str) -> Stop<'a>
+    requires { length bytes.now ≤ 1048576 }
+    ensures { result ≡ stop.Refused (refusal.BadText name.entry (line_at bytes.now at) (column_at bytes.now at) word.entry) }
+{
+    let (line, column) = place(bytes, at);
+    Stop::Refused(Refusal::BadText(name, line, column, word))
+}
 
 // The bytes of a file that isn't too long.
 fn source<'a, F: Files>(alloc: Global, files: &mut F, name: &'a str) -> Result<Vec<u8>, Stop<'a>>
     ensures answer { ForSome (F.contents files.old) (λ c. Answers is_bytes result (Gives (source_of c name.now))) }
     ensures causes { Causes (name.now ∷ []) (F.faults files.old) (F.faults files.new) result }
     ensures unchanged { F.contents files.new ≡ F.contents files.old }
+    ensures short { IfOk result (λ bytes. vec_len bytes ≤ 1048576) }
 {
     match read_whole(alloc, files, name) {
         Ok(bytes) => Ok(bytes),
         Err(ReadError::Failed) => Err(Stop::ReadFailed(name)),
         Err(ReadError::TooLong) => Err(Stop::Refused(Refusal::TooLong(name))),
         Err(ReadError::Mem) => Err(Stop::Mem),
+    }
+}
+
+// The tokens of a file's bytes.
+fn tokens<'a>(alloc: Global, name: &'a str, bytes: &[u8]) -> Result<Tokens, Stop<'a>>
+    requires { length bytes.now ≤ 1048576 }
+    ensures answer { Answers is_tokens result (TokensOf name.now bytes.now) }
+    ensures tokens { IfOk result (λ tokens. IsTokens bytes.now tokens) }
+    ensures causes { (before : List ℕ → ℕ) → Causes (name.now ∷ []) before before result }
+{
+    match lex(alloc, bytes) {
+        Ok(tokens) => Ok(tokens),
+        Err(LexError::Utf8 { at }) => Err(bad_text(name, bytes, at, "Utf8")),
+        Err(LexError::Char { at }) => Err(bad_text(name, bytes, at, "Char")),
+        Err(LexError::Number { at }) => Err(bad_text(name, bytes, at, "Number")),
+        Err(LexError::Mem) => Err(Stop::Mem),
+    }
+}
+
+// The program that the tokens are.
+fn program<'a>(
+    alloc: Global,
+    name: &'a str,
+    bytes: &[u8],
+    tokens: &Tokens,
+) -> Result<Source, Stop<'a>>
+    requires short { length bytes.now ≤ 1048576 }
+    requires tokens { IsTokens bytes.now tokens.now }
+    ensures answer { Answers is_source result (SourceOf name.now bytes.now tokens.now) }
+    ensures causes { (before : List ℕ → ℕ) → Causes (name.now ∷ []) before before result }
+{
+    match parse(alloc, bytes, tokens) {
+        Ok(source) => Ok(source),
+        Err(ParseError::Deep { at }) => Err(bad_text(name, bytes, at, "Deep")),
+        Err(ParseError::Syntax { at }) => Err(bad_text(name, bytes, at, "Syntax")),
+        Err(ParseError::Long { at }) => Err(bad_text(name, bytes, at, "Long")),
+        Err(ParseError::Mem) => Err(Stop::Mem),
     }
 }
 
@@ -42,13 +97,26 @@ fn form<'a>(alloc: Global, name: &'a str, bytes: &[u8]) -> Result<First, Stop<'a
     }
 }
 
+// The first form of a file's bytes, which are a program.
+#[tactic(auto, unfolding(crate::specs::Outcome::ProgramForm))]
+fn text<'a>(alloc: Global, name: &'a str, bytes: &[u8]) -> Result<First, Stop<'a>>
+    requires { length bytes.now ≤ 1048576 }
+    ensures answer { Answers is_form result (ProgramForm name.now bytes.now) }
+    ensures first { IfOk result (λ first. IsFirst bytes.now (form_of first)) }
+    ensures causes { (before : List ℕ → ℕ) → Causes (name.now ∷ []) before before result }
+{
+    let tokens = tokens(alloc, name, bytes)?;
+    let _program = program(alloc, name, bytes, &tokens)?;
+    form(alloc, name, bytes)
+}
+
 // The command `hyper`.
 fn hyper<'a, F: Files>(alloc: Global, files: &mut F, file: &'a str) -> Result<Done, Stop<'a>>
     ensures answer { ForSome (F.contents files.old) (λ c. Answers ShowsStatement result (HyperOutcome c file.now)) }
     ensures causes { Causes (file.now ∷ []) (F.faults files.old) (F.faults files.new) result }
 {
     let source = source(alloc, files, file)?;
-    let first = form(alloc, file, &source)?;
+    let first = text(alloc, file, &source)?;
     let hyper = hyper_of(alloc, &first)?;
     let bytes = hyper_text(alloc, &hyper)?;
     Ok(Done { yes: true, bytes })

@@ -1,0 +1,154 @@
+// Texts that are no programs, and where.
+use crate::tests::*;
+use kf_io::SureFiles;
+
+// A text of these bytes ends with status 5 and this line.
+fn refused(rt: &(impl Abort + AllocGlobal), bytes: Vec<u8>, err: &str) -> Result<(), Fail> {
+    let mut files = SureFiles::new(one_file(rt.alloc(), bytes)?, 65536);
+    let want = End {
+        status: 5,
+        out: "",
+        err,
+    };
+    ends(rt, HYPER, &mut files, want)
+}
+
+// Short texts, each with its line.
+fn rows() -> [(&'static [u8], &'static str); 16] {
+    [
+        (
+            b"var a : 0..1 := 0;\nobserve a < a < a;\n",
+            "kuifje: p.kf:2:15: Syntax\n",
+        ),
+        (b"\xff", "kuifje: p.kf:1:1: Utf8\n"),
+        (b"skip; # caf\xe9\n", "kuifje: p.kf:1:12: Utf8\n"),
+        (b"var x : 0..3 := @;", "kuifje: p.kf:1:17: Char\n"),
+        (b"observe !1;", "kuifje: p.kf:1:9: Char\n"),
+        (b"\xef\xbb\xbfskip;", "kuifje: p.kf:1:1: Char\n"),
+        (b"@\xff", "kuifje: p.kf:1:1: Char\n"),
+        (
+            b"var x : 0..3 := 1000000001;",
+            "kuifje: p.kf:1:17: Number\n",
+        ),
+        (b"var x : 0..3 := 1", "kuifje: p.kf:1:18: Syntax\n"),
+        (b"var x : 0..3 := 1\n", "kuifje: p.kf:2:1: Syntax\n"),
+        (b"observe (1, 2;", "kuifje: p.kf:1:14: Syntax\n"),
+        (
+            b"var x : bool := not not true;",
+            "kuifje: p.kf:1:21: Syntax\n",
+        ),
+        (
+            b"var x : 0..1 := uniform 0..1..2;",
+            "kuifje: p.kf:1:29: Syntax\n",
+        ),
+        (b"var x : 0...3 := 0;", "kuifje: p.kf:1:12: Syntax\n"),
+        (
+            b"skip;\n\n  var x : bool := true;",
+            "kuifje: p.kf:3:3: Syntax\n",
+        ),
+        (b"if 1 { }", "kuifje: p.kf:1:9: Syntax\n"),
+    ]
+}
+
+#[test]
+fn texts_that_are_no_programs(rt: HostRuntime) -> Result<(), Fail> {
+    for (text, err) in rows() {
+        refused(&rt, text.to_vec(rt.alloc())?, err)?;
+    }
+    Ok(())
+}
+
+// Pieces, each so many times.
+fn repeated(alloc: Global, pieces: &[(&str, u32)]) -> Result<Vec<u8>, AllocError> {
+    let mut text = Vec::new(alloc);
+    for (piece, times) in pieces {
+        for _time in 0..*times {
+            text.extend_from_slice(piece.as_bytes())?;
+        }
+    }
+    Ok(text)
+}
+
+// A text of these pieces ends with status 5 and this line.
+fn refuses(rt: &(impl Abort + AllocGlobal), pieces: &[(&str, u32)], err: &str) -> Result<(), Fail> {
+    refused(rt, repeated(rt.alloc(), pieces)?, err)
+}
+
+#[test]
+fn brackets_up_to_the_limit(rt: HostRuntime) -> Result<(), Fail> {
+    let form = "kuifje: p.kf: not of the first form\n";
+    refuses(
+        &rt,
+        &[("observe ", 1), ("(", 64), ("1", 1), (")", 64), (";", 1)],
+        form,
+    )?;
+    refuses(
+        &rt,
+        &[("var x : 0..3 := ", 1), ("(", 65)],
+        "kuifje: p.kf:1:81: Deep\n",
+    )?;
+    refuses(
+        &rt,
+        &[("var x : ", 1), ("set of ", 65), ("bool := {true};", 1)],
+        "kuifje: p.kf:1:461: Deep\n",
+    )?;
+    refuses(&rt, &[("(", 1_000_000)], "kuifje: p.kf:1:65: Deep\n")?;
+    refuses(
+        &rt,
+        &[("observe ", 1), ("{", 1_000_000)],
+        "kuifje: p.kf:1:73: Deep\n",
+    )?;
+    refuses(&rt, &[("if 1{", 200_000)], "kuifje: p.kf:1:325: Deep\n")?;
+    refuses(
+        &rt,
+        &[("var x : ", 1), ("set of ", 140_000)],
+        "kuifje: p.kf:1:461: Deep\n",
+    )
+}
+
+#[test]
+fn expressions_up_to_the_limit(rt: HostRuntime) -> Result<(), Fail> {
+    let form = "kuifje: p.kf: not of the first form\n";
+    refuses(&rt, &[("observe -1", 1), (" + 1", 499), (";", 1)], form)?;
+    refuses(
+        &rt,
+        &[("var x : 0..3 := 1", 1), (" + 1", 500), (";", 1)],
+        "kuifje: p.kf:1:17: Long\n",
+    )?;
+    refuses(
+        &rt,
+        &[("observe 1", 1), ("+1", 500_000), (";", 1)],
+        "kuifje: p.kf:1:9: Long\n",
+    )?;
+    refuses(
+        &rt,
+        &[("observe x", 1), (".1", 500_000), (";", 1)],
+        "kuifje: p.kf:1:9: Long\n",
+    )?;
+    refuses(
+        &rt,
+        &[("observe {1", 1), (",1", 500_000), ("};", 1)],
+        "kuifje: p.kf:1:9: Long\n",
+    )?;
+    refuses(
+        &rt,
+        &[("observe 1", 1), ("+1", 500_000)],
+        "kuifje: p.kf:1:1000010: Syntax\n",
+    )
+}
+
+#[test]
+fn long_texts(rt: HostRuntime) -> Result<(), Fail> {
+    let form = "kuifje: p.kf: not of the first form\n";
+    refuses(&rt, &[("skip;", 200_000)], form)?;
+    refuses(
+        &rt,
+        &[("observe ", 1), ("not ", 250_000), ("true;", 1)],
+        "kuifje: p.kf:1:13: Syntax\n",
+    )?;
+    refuses(
+        &rt,
+        &[("observe ", 1), ("- ", 500_000), ("1;", 1)],
+        "kuifje: p.kf:1:11: Syntax\n",
+    )
+}

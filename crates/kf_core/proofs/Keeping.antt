@@ -43,7 +43,7 @@ part_kind (Tuple vs) js n k h formed at =
     at_kind (parts_list vs) js n k (Truth false) (record { kinds = rw same h; formed = rw same formed.1 }) at
 part_kind (Set vs) js n k h formed at = absurd h
 
-kinds_length : (vs : List ValueTree) (ks : List KindTree) → HaveKinds (parts vs) (kind_parts ks) → length vs ≡ length ks
+pub kinds_length : (vs : List ValueTree) (ks : List KindTree) → HaveKinds (parts vs) (kind_parts ks) → length vs ≡ length ks
 kinds_length [] [] h = refl
 kinds_length [] (k ∷ ks) h = absurd h
 kinds_length (v ∷ vs) [] h = absurd h
@@ -65,7 +65,7 @@ joined_given (Ok v) (Ok vs) k ks h hs = record { kinds = (h.0, hs.kinds); formed
 joined_given (Ok v) (Err f) k ks h hs = tt
 joined_given (Err f) r k ks h hs = tt
 
-all_given : (es : List Evaluated) (ks : List KindTree) → EachGives es ks → ListGiven (all_values es) ks
+pub all_given : (es : List Evaluated) (ks : List KindTree) → EachGives es ks → ListGiven (all_values es) ks
 all_given [] [] h = record { kinds = tt; formed = tt }
 all_given [] (k ∷ ks) h = absurd h
 all_given (e ∷ es) [] h = absurd h

@@ -1,8 +1,20 @@
+mod Among
 mod Digits
 mod Examples
 pub mod Forms
+mod PassFollows
+pub mod PassTells
+pub mod RunEnds
+mod RunsChain
+pub mod Scales
+mod SupportAgrees
 pub mod Runs
 pub mod StoreKinds
 pub mod SetLiterals
 pub mod Keeping
 pub mod Trees
+pub mod Gcds
+pub mod Shares
+mod Choosing
+pub mod Plain
+pub mod Wider

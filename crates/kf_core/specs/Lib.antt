@@ -10,3 +10,9 @@ pub mod Programs
 pub mod Evaluation
 pub mod Checked
 pub mod Laws
+pub mod Choices
+pub mod Runs
+pub mod Support
+pub mod Scale
+pub mod SupportLaws
+pub mod ChoiceLaws

@@ -17,7 +17,7 @@ pub use dx::{Dx, DxCase, DxCaseList, DxList, DxNode};
 pub use ex::{Ex, ExList};
 pub use first::{First, FirstError, ModList};
 pub use kf_value::SlotList;
-pub use laws::evaluation_laws;
+pub use laws::{choice_laws, evaluation_laws, run_laws};
 pub use program::Program;
 pub use read::read_first;
 pub use st::{St, StList};

@@ -11,7 +11,7 @@ pub mod Orders
 mod ByForm
 mod Numbering
 mod Parts
-mod Places
+pub mod Places
 mod Printing
 pub mod Ranges
 mod Replacing

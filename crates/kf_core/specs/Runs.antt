@@ -1,0 +1,140 @@
+-- Runs: every way through statements from a store, to its end or to a fault, with its trace and its weight (Gibbons et al. 2020, weighted
+-- pairs of trace and state; the loop here has a bound on its turns). A store is named by its number in the shape.
+use Rattle.std.specs.Prelude.{ℕ, suc, zero, ◌*◌, List, [], ◌∷◌, ◌++◌, false, map, take, length, get_or, slice_set, if◌then◌else◌, Option, None, Some, Result, Ok, Err, flat_map}
+use Rattle.std.specs.List.{position}
+use Rattle.std.specs.Cmp.Lexicographic.{pointwise}
+use Rattle.kf_value.specs.Values.{ValueTree, Truth}
+use Rattle.kf_value.specs.Types.{TypeTree}
+use Rattle.kf_value.specs.Stores.{stores}
+use Rattle.kf_ops.specs.Values.{truth, is_equal}
+use Rattle.kf_core.specs.Dxs.{DxTree, dx_at}
+use Rattle.kf_core.specs.Sts.{StTree, StTrees, Skip, Assign, Observe, If, While, no_sts, more_sts, sts}
+use Rattle.kf_core.specs.Programs.{ProgramTree}
+use Rattle.kf_core.specs.Choices.{Weighted, ChoiceFault, choices, total}
+
+pub data Cause : Type 0 where
+  Choosing : ChoiceFault → Cause
+  OutOfRange : Cause
+  LoopBound : Cause
+
+-- why a run doesn't end, and the first byte of the distribution at which it stops
+pub record Halted : Type 0 where
+  pub cause : Cause
+  pub at : ℕ
+
+-- a run: the values leaked, in order; the store in which it ends, or the fault at which it stops; and its probability weight / scale
+pub record Run : Type 0 where
+  pub trace : List ValueTree
+  pub end : Result ℕ Halted
+  pub weight : ℕ
+  pub scale : ℕ
+
+-- the values of the variables in the store with this number
+abbrev pub store_at : List TypeTree → ℕ → List ValueTree
+store_at ts n = get_or (stores ts) n []
+
+-- the number of the store with these values; none where one of them isn't of its variable's type
+abbrev pub store_number : List TypeTree → List ValueTree → Option ℕ
+store_number ts s = position (pointwise is_equal s) (stores ts)
+
+-- the store in which variable i has the value
+abbrev pub replaced : List TypeTree → ℕ → ValueTree → ℕ → Option ℕ
+replaced ts i v n = store_number ts (slice_set (store_at ts n) i v)
+
+-- what a distribution chooses in a store, or the fault there
+abbrev pub Tried : Type 0
+Tried = Result (List Weighted) Halted
+
+abbrev pub placed_at : ℕ → Result (List Weighted) ChoiceFault → Tried
+placed_at at (Ok ws) = Ok ws
+placed_at at (Err f) = Err (record { cause = Choosing f; at = at })
+
+abbrev pub tried : List TypeTree → DxTree → ℕ → Tried
+tried ts (dx_at at d) n = placed_at at (choices (store_at ts n) d)
+
+abbrev pub place : DxTree → ℕ
+place (dx_at at d) = at
+
+-- the one run that ends here
+abbrev pub ended : Result ℕ Halted → List Run
+ended end = record { trace = []; end = end; weight = 1; scale = 1 } ∷ []
+
+abbrev pub stay : ℕ → List Run
+stay n = ended (Ok n)
+
+abbrev pub stopped : Cause → ℕ → List Run
+stopped cause at = ended (Err (record { cause = cause; at = at }))
+
+-- one run and another from where it ends
+abbrev pub joined : Run → Run → Run
+joined r q = record { trace = r.trace ++ q.trace; end = q.end; weight = r.weight * q.weight; scale = r.scale * q.scale }
+
+abbrev pub onward : (ℕ → List Run) → Run → Result ℕ Halted → List Run
+onward next r (Ok n) = map (joined r) (next n)
+onward next r (Err f) = r ∷ []
+
+-- each run goes on from where it ends
+abbrev pub chain : List Run → (ℕ → List Run) → List Run
+chain rs next = flat_map (λ r. onward next r r.end) rs
+
+-- a choice as a run that leaks what it leaks
+abbrev pub choice_run : (ValueTree → List ValueTree) → ℕ → ℕ → Weighted → Run
+choice_run leak n scale w = record { trace = leak w.value; end = Ok n; weight = w.weight; scale = scale }
+
+-- a run for each choice in the store, which goes on as its value says
+abbrev pub branched : (ValueTree → List ValueTree) → ℕ → (ValueTree → List Run) → Tried → List Run
+branched leak n next (Ok ws) = flat_map (λ w. map (joined (choice_run leak n (total ws) w)) (next w.value)) ws
+branched leak n next (Err f) = ended (Err f)
+
+abbrev pub silent : ValueTree → List ValueTree
+silent v = []
+
+abbrev pub shown : ValueTree → List ValueTree
+shown v = v ∷ []
+
+abbrev pub moved : ℕ → Option ℕ → List Run
+moved at (Some n) = stay n
+moved at None = stopped OutOfRange at
+
+-- variable i takes a value, and nothing is leaked
+abbrev pub assigned : List TypeTree → ℕ → DxTree → ℕ → List Run
+assigned ts i d n = branched silent n (λ v. moved (place d) (replaced ts i v n)) (tried ts d n)
+
+-- the guard's value is leaked and decides
+abbrev pub guarded : (ℕ → Tried) → (ℕ → List Run) → (ℕ → List Run) → ℕ → List Run
+guarded guard taken left n = branched shown n (λ v. if truth v then taken n else left n) (guard n)
+
+-- a loop of at most so many turns, whose guard stands at this place
+abbrev pub looped : ℕ → (ℕ → Tried) → ℕ → (ℕ → List Run) → ℕ → List Run
+looped zero guard at body = guarded guard (λ n. stopped LoopBound at) stay
+looped (suc k) guard at body = guarded guard (λ n. chain (body n) (looped k guard at body)) stay
+
+-- the runs of a statement, and of a block, from a store, where each loop has at most so many turns
+abbrev mutual
+  pub runs : List TypeTree → ℕ → StTree → ℕ → List Run
+  runs ts turns Skip n = stay n
+  runs ts turns (Assign i d) n = assigned ts i d n
+  runs ts turns (Observe d) n = branched shown n (λ v. stay n) (tried ts d n)
+  runs ts turns (If d xs ys) n = guarded (tried ts d) (all_runs ts turns xs) (all_runs ts turns ys) n
+  runs ts turns (While d xs) n = looped turns (tried ts d) (place d) (all_runs ts turns xs) n
+
+  pub all_runs : List TypeTree → ℕ → StTrees → ℕ → List Run
+  all_runs ts turns no_sts n = stay n
+  all_runs ts turns (more_sts x xs) n = chain (runs ts turns x n) (all_runs ts turns xs)
+
+-- declarations from variable i on, each an assignment
+abbrev pub declared : List TypeTree → ℕ → List DxTree → ℕ → List Run
+declared ts i [] n = stay n
+declared ts i (d ∷ ds) n = chain (assigned ts i d n) (declared ts (suc i) ds)
+
+-- the values of a store where each carried copy has the value of its variable
+abbrev pub carried : ProgramTree → List ValueTree → List ValueTree
+carried p s = take (length p.decls) s ++ map (λ c. get_or s c (Truth false)) p.copies
+
+-- the number of that store; a checked program's copies are of their variables' types
+abbrev pub copied : ProgramTree → ℕ → ℕ
+copied p n = elim (store_number p.types (carried p (store_at p.types n))) [ Some m ↦ m | None ↦ n ]
+
+-- the runs of the declarations from the first store, and behind them of the body
+abbrev pub program_runs : ℕ → ProgramTree → List Run
+program_runs turns p = chain (declared p.types 0 p.decls 0) (λ n. all_runs p.types turns (sts p.body) (copied p n))

@@ -1,0 +1,21 @@
+-- The scale: the one denominator of the weights of all runs.
+use Rattle.std.specs.Prelude.{ℕ, ◌<◌, ◌≤◌, List, [], ◌∷◌}
+use Rattle.std.specs.List.{All}
+use Rattle.std.specs.Int.{◌∣◌}
+use Rattle.kf_frac.specs.Divisors.{lcm_of}
+use Rattle.kf_core.specs.Programs.{ProgramTree}
+use Rattle.kf_core.specs.Runs.{Run, program_runs}
+
+-- m is the least positive number that all of these divide
+pub record IsLeastMultiple (ks : List ℕ) (m : ℕ) : Type 0 where
+  pub positive : 0 < m
+  pub multiple : All (λ k. k ∣ m) ks
+  pub least : (n : ℕ) → 0 < n → All (λ k. k ∣ n) ks → m ≤ n
+
+-- the least common multiple of the runs' scales
+abbrev pub common_scale : List Run → ℕ
+common_scale [] = 1
+common_scale (r ∷ rs) = lcm_of r.scale (common_scale rs)
+
+abbrev pub scale_of : ℕ → ProgramTree → ℕ
+scale_of turns p = common_scale (program_runs turns p)

@@ -1,0 +1,98 @@
+-- The support pass: which stores are reached, statement by statement, or the first fault.
+use Rattle.std.specs.Prelude.{ℕ, suc, zero, Bool, true, false, not, List, [], ◌∷◌, ◌++◌, map, Option, None, Some, Result, Ok, Err}
+use Rattle.std.specs.List.{list_any}
+use Rattle.std.specs.Ordering.{nat_cmp}
+use Rattle.std.specs.BTreeSet.{insert_key}
+use Rattle.std.specs.FinSet.{FinSet, from_list, items, retain, union}
+use Rattle.kf_value.specs.Types.{TypeTree}
+use Rattle.kf_ops.specs.Values.{truth}
+use Rattle.kf_core.specs.Dxs.{DxTree}
+use Rattle.kf_core.specs.Sts.{StTree, StTrees, Skip, Assign, Observe, If, While, no_sts, more_sts, sts}
+use Rattle.kf_core.specs.Programs.{ProgramTree}
+use Rattle.kf_core.specs.Runs.{OutOfRange, LoopBound, Halted, Tried, tried, place, replaced, copied}
+
+abbrev pub StoreSet : Type 0
+StoreSet = FinSet nat_cmp
+
+-- what is reached, or the first fault on the way
+abbrev pub Passed : Type 0 → Type 0
+Passed A = Result A Halted
+
+abbrev pub then_pass : {A B : Type 0} → Passed A → (A → Passed B) → Passed B
+then_pass (Ok x) next = next x
+then_pass (Err f) next = Err f
+
+-- all that is reached from stores in turn, or the fault of the first that has one
+abbrev pub each_pass : (ℕ → Passed (List ℕ)) → List ℕ → Passed (List ℕ)
+each_pass next [] = Ok []
+each_pass next (n ∷ ns) = then_pass (next n) (λ ms. then_pass (each_pass next ns) (λ others. Ok (ms ++ others)))
+
+-- the numbers of a list, each once and ascending
+abbrev pub ascending : List ℕ → List ℕ
+ascending [] = []
+ascending (n ∷ ns) = insert_key nat_cmp (ascending ns) n
+
+-- the stores of a set are tried in ascending number
+abbrev pub step : (ℕ → Passed (List ℕ)) → StoreSet → Passed StoreSet
+step next ns = then_pass (each_pass next (ascending (items ns))) (λ ms. Ok (from_list ms))
+
+-- the store itself, once for each choice
+abbrev pub same : ℕ → Tried → Passed (List ℕ)
+same n (Ok ws) = Ok (map (λ w. n) ws)
+same n (Err f) = Err f
+
+-- where each choice leads: out of range is a fault behind those of the choices
+abbrev pub each_moved : ℕ → List (Option ℕ) → Passed (List ℕ)
+each_moved at [] = Ok []
+each_moved at (None ∷ ms) = Err (record { cause = OutOfRange; at = at })
+each_moved at (Some m ∷ ms) = then_pass (each_moved at ms) (λ others. Ok (m ∷ others))
+
+abbrev pub assign_pass : List TypeTree → ℕ → DxTree → StoreSet → Passed StoreSet
+assign_pass ts i d ns = step (λ n. then_pass (tried ts d n) (λ ws. each_moved (place d) (map (λ w. replaced ts i w.value n) ws))) ns
+
+-- a guard in a store can be true, or false
+abbrev pub can_be : Bool → Tried → Bool
+can_be true (Ok ws) = list_any (λ w. truth w.value) ws
+can_be false (Ok ws) = list_any (λ w. not (truth w.value)) ws
+can_be b (Err f) = false
+
+abbrev pub where_guard : Bool → (ℕ → Tried) → StoreSet → StoreSet
+where_guard b guard ns = retain ns (λ n. can_be b (guard n))
+
+-- what two branches reach: the first one's fault before the second one's
+abbrev pub either_pass : Passed StoreSet → Passed StoreSet → Passed StoreSet
+either_pass one other = then_pass one (λ ns. then_pass other (λ ms. Ok (union ns ms)))
+
+abbrev pub guard_pass : (ℕ → Tried) → (StoreSet → Passed StoreSet) → (StoreSet → Passed StoreSet) → StoreSet → Passed StoreSet
+guard_pass guard taken left ns = then_pass (step (λ n. same n (guard n)) ns) (λ _. either_pass (taken (where_guard true guard ns)) (left (where_guard false guard ns)))
+
+-- behind the last turn: a guard that can still be true is a fault, where it has no fault of its own
+abbrev pub bounded : ℕ → ℕ → Tried → Passed (List ℕ)
+bounded at n (Ok ws) = elim (can_be true (Ok ws)) [ true ↦ Err (record { cause = LoopBound; at = at }) | false ↦ Ok (n ∷ []) ]
+bounded at n (Err f) = Err f
+
+-- a loop turn by turn
+abbrev pub loop_pass : ℕ → (ℕ → Tried) → ℕ → (StoreSet → Passed StoreSet) → StoreSet → Passed StoreSet
+loop_pass zero guard at body ns = then_pass (step (λ n. bounded at n (guard n)) ns) (λ _. Ok (where_guard false guard ns))
+loop_pass (suc k) guard at body ns = guard_pass guard (λ turn. then_pass (body turn) (loop_pass k guard at body)) (λ left. Ok left) ns
+
+-- the stores reached by a statement, and by a block, from a set of stores
+abbrev mutual
+  pub pass : List TypeTree → ℕ → StTree → StoreSet → Passed StoreSet
+  pass ts turns Skip ns = Ok ns
+  pass ts turns (Assign i d) ns = assign_pass ts i d ns
+  pass ts turns (Observe d) ns = step (λ n. same n (tried ts d n)) ns
+  pass ts turns (If d xs ys) ns = guard_pass (tried ts d) (all_pass ts turns xs) (all_pass ts turns ys) ns
+  pass ts turns (While d xs) ns = loop_pass turns (tried ts d) (place d) (all_pass ts turns xs) ns
+
+  pub all_pass : List TypeTree → ℕ → StTrees → StoreSet → Passed StoreSet
+  all_pass ts turns no_sts ns = Ok ns
+  all_pass ts turns (more_sts x xs) ns = then_pass (pass ts turns x ns) (all_pass ts turns xs)
+
+abbrev pub declare_pass : List TypeTree → ℕ → List DxTree → StoreSet → Passed StoreSet
+declare_pass ts i [] ns = Ok ns
+declare_pass ts i (d ∷ ds) ns = then_pass (assign_pass ts i d ns) (declare_pass ts (suc i) ds)
+
+-- the final stores of a program, or its first fault
+abbrev pub program_pass : ℕ → ProgramTree → Passed StoreSet
+program_pass turns p = then_pass (declare_pass p.types 0 p.decls (from_list (0 ∷ []))) (λ ns. all_pass p.types turns (sts p.body) (from_list (map (copied p) (items ns))))

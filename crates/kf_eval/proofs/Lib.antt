@@ -1,0 +1,6 @@
+mod Holding
+mod Inserting
+mod Checking
+mod Adding
+mod Placing
+mod Weighing

@@ -1,0 +1,5 @@
+pub mod Answers
+pub mod Kinds
+pub mod Insertion
+pub mod Choices
+pub mod Gathering

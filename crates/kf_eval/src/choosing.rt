@@ -1,0 +1,62 @@
+//! What a distribution chooses in a store.
+
+ghost use Rattle.std.specs.Prelude.{◌≡◌, ◌<◌, ◌≤◌, ◌+◌, ◌^◌, List, length, map, IfOk, IfSome, OnOk};
+ghost use Rattle.std.specs.List.{All};
+ghost use Rattle.kf_value.specs.Values.{ValueTree, IsWellFormed};
+ghost use Rattle.kf_value.specs.Types.{product};
+ghost use Rattle.kf_value.specs.Kinds.{KindTree, HasKind};
+ghost use Rattle.kf_value.specs.Shapes.{shape_types, shape_sizes};
+ghost use Rattle.kf_value.specs.Stores.{IsStore};
+ghost use Rattle.kf_core.specs.Checked.{DistKinded};
+ghost use Rattle.kf_core.specs.Choices.{choices as choices_of};
+ghost use Rattle.kf_core.specs.Dxs.{dx_tree, dx_shape};
+ghost use Rattle.kf_eval.specs.Choices.{AnswersChoice, weighted_trees};
+ghost use Rattle.kf_eval.specs.Gathering.{AnswersWeights};
+ghost use Rattle.kf_eval.specs.Kinds.{shape_kinds, store_at};
+
+use crate::choice::{Choice, ChoiceError, Weighted, WeightedList};
+use crate::weights::{choose, flip, sure, total_of, uniform_range, uniform_set};
+use kf_core::{Dx, DxNode, choice_laws, evaluation_laws};
+use kf_value::Shape;
+use std::alloc::Global;
+
+/// What a checked distribution chooses in a store, named by its number in the shape.
+///
+/// Equal values are added, and the weights are in lowest terms. The first fault decides: expressions are evaluated in
+/// order, of a case its weight before its value, and a value of weight 0 isn't evaluated.
+pub fn choices(alloc: Global, d: &Dx, shape: &Shape, store: u64) -> Result<Choice, ChoiceError>
+    requires store { store < product (shape_sizes shape.now) }
+    requires kinded { (k : KindTree) × DistKinded (shape_kinds shape.now) (dx_tree d.now) k }
+    ensures choice { (s : List ValueTree) → IsStore (shape_types shape.now) store s → AnswersChoice result (choices_of s (dx_shape d.now.node)) }
+    ensures kind { (k : KindTree) → DistKinded (shape_kinds shape.now) (dx_tree d.now) k
+        → IfOk result (λ c. All (λ w. HasKind w.value k × IsWellFormed w.value) (weighted_trees c)) }
+    ensures some { IfOk result (λ c. 1 ≤ length (weighted_trees c)) }
+{
+    evaluation_laws();
+    choice_laws();
+    let items = weights_of(alloc, d, shape, store)?;
+    let total = total_of(&items);
+    Ok(Choice {
+        items: WeightedList::new(items),
+        total,
+    })
+}
+
+fn weights_of(
+    alloc: Global,
+    d: &Dx,
+    shape: &Shape,
+    store: u64,
+) -> Result<Vec<Weighted>, ChoiceError>
+    requires store { store < product (shape_sizes shape.now) }
+    requires kinded { (k : KindTree) × DistKinded (shape_kinds shape.now) (dx_tree d.now) k }
+    ensures { AnswersWeights result (choices_of (store_at shape.now store) (dx_shape d.now.node)) }
+{
+    match &d.node {
+        DxNode::Sure(x) => sure(alloc, x, shape, store),
+        DxNode::UniformSet(x) => uniform_set(alloc, x, shape, store),
+        DxNode::UniformRange(x, y) => uniform_range(alloc, x, y, shape, store),
+        DxNode::Choose(cases) => choose(alloc, cases.as_slice(), shape, store),
+        DxNode::Flip { num, den } => flip(alloc, *num, *den),
+    }
+}

@@ -1,0 +1,16 @@
+//! Values of the expressions of checked programs.
+#![tactic(auto)]
+
+mod choice;
+mod choosing;
+mod evaluation;
+mod fault;
+mod gathering;
+mod parts;
+mod sets;
+mod weights;
+
+pub use choice::{Choice, ChoiceError, Weighted, WeightedList};
+pub use choosing::choices;
+pub use evaluation::eval;
+pub use fault::EvalError;

@@ -15,6 +15,7 @@ mod KindsSame
 mod KindsExprs
 mod KindsPrograms
 mod TakesOne
+mod Built
 pub mod Loops
 pub mod Closed
 pub mod ClosedForms

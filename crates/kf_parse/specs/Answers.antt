@@ -2,7 +2,9 @@
 use Rattle.std.specs.Prelude.{◌≡◌, ℕ, List, [], ◌∷◌, ◌++◌, length, map, Some, None}
 use Rattle.kf_lex.specs.declared.token.Token.{Token}
 use Rattle.kf_lex.specs.declared.token.Tok.{Tok}
+use Rattle.kf_ops.specs.Fitting.{Takes}
 use Rattle.kf_ast.specs.Sources.{SourceTree}
+use Rattle.kf_ast.specs.Built.{IsSourceBuilt}
 use Rattle.kf_parse.specs.declared.errors.ParseError.{ParseError}
 use Rattle.kf_parse.specs.declared.errors.ParseError.TheVariants as errors
 use Rattle.kf_parse.specs.Programs.{IsProgram}
@@ -67,6 +69,10 @@ kinds ts = map (λ o. o.kind) ts
 -- whether tokens are those of a program rests on their kinds alone
 abbrev pub KindsAlone : Type 0
 KindsAlone = (src src' : List ℕ) (ts us : List Token) (x : SourceTree) → IsProgram src ts x → kinds ts ≡ kinds us → (y : SourceTree) × IsProgram src' us y
+
+-- a program's operators have as many arguments as they take, and none of its lists is too short
+abbrev pub OnlyBuilt : Type 0
+OnlyBuilt = (src : List ℕ) (ts : List Token) (x : SourceTree) → IsProgram src ts x → IsSourceBuilt Takes x
 
 -- tokens that are a program's aren't refused
 abbrev pub NotBoth : Type 0

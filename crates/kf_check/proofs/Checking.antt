@@ -1,7 +1,6 @@
 -- The program of a source that breaks no rule is checked.
 use Rattle.std.proofs.Common.{◌≡◌, ℕ, suc, zero, ◌≤◌, ◌<◌, ◌+◌, true, false, List, [], ◌∷◌, ◌++◌, length, map, take, slice_get, Option, Some, None, Ok, length-append, append_assoc, get_or, refl, sym, ap, ◌∙◌, subst, arith}
 use Rattle.std.proofs.lemmas.List.{length-map, map-append, take-append-le}
-use Rattle.std.proofs.Math.Seq.{take-append_seam}
 use Rattle.std.proofs.lemmas.List.FromFn.{get_or-range_with_len, length-range_with_len}
 use Rattle.std.specs.List.{range_with_len}
 use Rattle.std.specs.Option.{option_map}
@@ -27,7 +26,7 @@ use Rattle.kf_check.specs.Translation.{IsVariable, AreDecls, AreItems, IsTarget,
 use Rattle.kf_check.specs.Translation as becomes
 use Rattle.kf_check.specs.Laws.{IsWellBuilt}
 use Rattle.kf_check.proofs.Kinding.{names_in, kinds_in, Differ, Agree, agree, asked, dist_kinded, all_sound, slice_get-some}
-use Rattle.kf_check.proofs.Declared.{grown, counted, slice_get-left, slice_get-right, variables_differ, known_differ, names_of_known, kinds_of_known}
+use Rattle.kf_check.proofs.Declared.{grown, counted, slice_get-left, slice_get-right, variables_differ, known_differ, names_of_known, kinds_of_known, named_first, types_first}
 
 pub sts_list-sts : (ys : List StTree) → sts_list (sts ys) ≡ ys
 sts_list-sts [] = refl
@@ -46,14 +45,8 @@ listed_built (x ∷ xs) b = (b.0, listed_built xs b.1)
 -- where variables are the first of others, a name of them stands for the same in both
 agree_first : (vs more : List Variable) → Differ (names_of (vs ++ more)) → Agree (known_of vs) (names_of (vs ++ more)) (map kind_of (types_of vs))
 agree_first vs more apart n i j k h v =
-    let named : slice_get (names_of vs) i ≡ Some n = subst (λ ns. slice_get ns i ≡ Some n) (names_of_known vs) (slice_get-some (λ v. v.name) (known_of vs) i (record { name = n; kind = k }) h) in
-    let all : slice_get (names_of (vs ++ more)) i ≡ Some n = ap (λ ns. slice_get ns i) (map-append (λ v. v.name) vs more) ∙ slice_get-left (names_of vs) (names_of more) i n named in
-    let same : i ≡ j = apart n i j all v in
+    let same : i ≡ j = apart n i j (named_first vs more n i k h) v in
     subst (λ ks. slice_get ks j ≡ Some k) (kinds_of_known vs) (subst (λ m. slice_get (kinds_in (known_of vs)) m ≡ Some k) same (slice_get-some (λ v. v.kind) (known_of vs) i (record { name = n; kind = k }) h))
-
-types_first : (vs more : List Variable) → take (length vs) (types_of (vs ++ more)) ≡ types_of vs
-types_first vs more =
-    ap (λ ts. take (length vs) ts) (map-append (λ v. v.type) vs more) ∙ ap (λ n. take n (types_of vs ++ types_of more)) (sym (length-map vs (λ v. v.type))) ∙ take-append_seam (types_of vs) (types_of more)
 
 pub decl_dist : {vs : List Variable} {n : List ℕ} {at : ℕ} {y : TypeForm} {d : DistTree} (v : Variable) → JudgesDecl vs (declared (name n at) y d) (Ok v) → JudgesDist (known_of vs) d (Ok (kind_of v.type))
 decl_dist v (rule.decl at t u y few low asks) = asked (kind_of t) (Ok (kind_of t)) asks refl
@@ -69,7 +62,7 @@ module _ (names : List (List ℕ)) (apart : Differ names) where
       let type : v.type ≡ t = (let both : Some v.type ≡ Some t = sym ours ∙ g in cc) in
       let dist : e' ≡ e = cc in
       let none : length vs + 0 ≡ length vs = omega arith in
-      let first : take (length vs + 0) (types_of ws) ≡ types_of vs = ap (λ n. take n (types_of ws)) none ∙ ap (λ us. take (length vs) (types_of us)) whole ∙ types_first vs (v ∷ more) in
+      let first : take (length vs + 0) (types_of ws) ≡ types_of vs = ap (λ n. take n (types_of ws)) none ∙ ap (λ us. take (length vs) (types_of us)) whole ∙ ap (λ ts. take (length vs) ts) (map-append (λ v. v.type) vs (v ∷ more)) ∙ types_first vs (types_of (v ∷ more)) in
       subst (λ ts. DistKinded (map kind_of ts) e (kind_of t)) (sym first) (subst (λ u. DistKinded (map kind_of (types_of vs)) e (kind_of u)) type (subst (λ f. DistKinded (map kind_of (types_of vs)) f (kind_of v.type)) dist (kinded alike)))
 
   decls_kinded : {vs ws : List Variable} {ds : List DeclTree} {es : List DxTree} → JudgesDecls vs ds (Ok ws) → names ≡ names_of ws → AreDeclsBuilt Takes ds → AreDecls names ds es
@@ -177,7 +170,7 @@ module _ (vs : List Variable) (types : List TypeTree) (p : ProgramTree) (as_many
   first_type i v h = ap (λ ts. slice_get ts i) whole ∙ slice_get-left (types_of vs) types i v.type (slice_get-some (λ v. v.type) vs i v h)
 
   all_types : take (length p.decls) p.types ≡ types_of vs
-  all_types = ap (λ n. take n p.types) (as_many ∙ sym types_length) ∙ ap (λ ts. take (length (types_of vs)) ts) whole ∙ take-append_seam (types_of vs) types
+  all_types = ap (λ n. take n p.types) as_many ∙ ap (λ ts. take (length vs) ts) whole ∙ types_first vs types
 
   inside : (i : ℕ) → i < length vs → slice_get p.types i ≡ slice_get (types_of vs) i
   inside i h = ap (λ ts. slice_get ts i) whole ∙ slice_get-inside (types_of vs) types i (subst (λ n. i < n) (sym types_length) h)

@@ -1,13 +1,17 @@
 -- The variables of declarations: their names differ, and earlier ones keep their places.
-use Rattle.std.proofs.Common.{◌≡◌, ℕ, suc, zero, List, [], ◌∷◌, ◌++◌, length, map, slice_get, Some, Ok, append-nil, append_assoc, length-append, ◌+◌, refl, sym, ap, ◌∙◌, subst, arith, ◌⊎◌, inl, inr, ⊎_elim}
+use Rattle.std.proofs.Common.{◌≡◌, ℕ, suc, zero, List, [], ◌∷◌, ◌++◌, length, map, take, slice_get, Some, Ok, append-nil, append_assoc, length-append, ◌+◌, refl, sym, ap, ◌∙◌, subst, arith, ◌⊎◌, inl, inr, ⊎_elim}
+use Rattle.std.proofs.lemmas.List.{length-map, map-append}
 use Rattle.std.proofs.lemmas.List.Elements.{All-head, All-tail}
+use Rattle.std.proofs.Math.Seq.{take-append_seam}
+use Rattle.kf_value.specs.Kinds.{KindTree}
+use Rattle.kf_value.specs.Types.{TypeTree}
 use Rattle.kf_ast.specs.Sources.{DeclTree}
 use Rattle.kf_core.specs.Checked.{kind_of}
-use Rattle.kf_check.specs.Kinds.{IsUnknown}
+use Rattle.kf_check.specs.Kinds.{IsKnown, IsUnknown}
 use Rattle.kf_check.specs.Translation.{IsVariable, names_of}
-use Rattle.kf_check.specs.Sources.{Variable, types_of, known_of, IsFull, IsWideWith, JudgesDecl, JudgesDecls}
+use Rattle.kf_check.specs.Sources.{Variable, types_of, known_of, JudgesDecl, JudgesDecls}
 use Rattle.kf_check.specs.Sources as rule
-use Rattle.kf_check.proofs.Kinding.{names_in, kinds_in, Differ}
+use Rattle.kf_check.proofs.Kinding.{names_in, kinds_in, Differ, slice_get-some}
 
 pub slice_get-push : {A : Type 0} (xs : List A) (x : A) (i : ℕ) (y : A) → slice_get (xs ++ x ∷ []) i ≡ Some y → (slice_get xs i ≡ Some y) ⊎ ((i ≡ length xs) × (x ≡ y))
 slice_get-push [] x zero y h = inr (refl, (cc))
@@ -83,3 +87,15 @@ slice_get-left (z ∷ xs) ys (suc i) x h = slice_get-left xs ys i x h
 pub slice_get-right : {A : Type 0} (xs ys : List A) (i : ℕ) → slice_get (xs ++ ys) (length xs + i) ≡ slice_get ys i
 slice_get-right [] ys i = (let h : 0 + i ≡ i = omega arith in ap (slice_get ys) h)
 slice_get-right (x ∷ xs) ys i = (let h : length (x ∷ xs) + i ≡ suc (length xs + i) = omega arith in ap (slice_get (x ∷ xs ++ ys)) h) ∙ slice_get-right xs ys i
+
+-- the variable of a known name has that name
+pub named_at : (vs : List Variable) (n : List ℕ) (i : ℕ) (k : KindTree) → IsKnown (known_of vs) n i k → IsVariable (names_of vs) n i
+named_at vs n i k h = subst (λ ns. slice_get ns i ≡ Some n) (names_of_known vs) (slice_get-some (λ v. v.name) (known_of vs) i (record { name = n; kind = k }) h)
+
+-- so it has among more variables, of which these are the first
+pub named_first : (vs more : List Variable) (n : List ℕ) (i : ℕ) (k : KindTree) → IsKnown (known_of vs) n i k → IsVariable (names_of (vs ++ more)) n i
+named_first vs more n i k h = ap (λ ns. slice_get ns i) (map-append (λ v. v.name) vs more) ∙ slice_get-left (names_of vs) (names_of more) i n (named_at vs n i k h)
+
+-- the first types are those of the variables
+pub types_first : (vs : List Variable) (types : List TypeTree) → take (length vs) (types_of vs ++ types) ≡ types_of vs
+types_first vs types = ap (λ n. take n (types_of vs ++ types)) (sym (length-map vs (λ v. v.type))) ∙ take-append_seam (types_of vs) types

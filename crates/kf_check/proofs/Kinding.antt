@@ -135,10 +135,6 @@ module _ (known : List Known) (names : List (List ℕ)) (ks : List KindTree) (al
     all_sound_where (rule_of.more j js) none b (becomes.more i is) = has.more (sound_where j refl b.0 i) (all_sound_where js none b.1 is)
     all_sound_where (rule_of.at_first j) none b i = absurd (cc)
 
-  -- a statement that breaks no rule
-  pub sound : {x : StmtTree} {y : StTree} → JudgesStmt known x None → IsStmtBuilt Takes x → IsSt names x y → IsSound ks y
-  sound j b i = sound_where j refl b i
-
   -- statements that break no rule
   pub all_sound : {xs : StmtTrees} {ys : StTrees} → JudgesStmts known xs None → AreStmtsBuilt Takes xs → AreSts names xs ys → AreSound ks (sts_list ys)
   all_sound js b is = all_sound_where js refl b is

@@ -1,7 +1,5 @@
 -- A well-built source has a program, or a first broken rule.
-use Rattle.std.proofs.Common.{◌≡◌, ℕ, pos, true, false, ◌+◌, List, [], ◌∷◌, ◌++◌, length, map, take, slice_get, Option, Some, None, Ok, refl, sym, ap, ◌∙◌, subst, ◌⊎◌, inl, inr, append_assoc}
-use Rattle.std.proofs.lemmas.List.{length-map, map-append}
-use Rattle.std.proofs.Math.Seq.{take-append_seam}
+use Rattle.std.proofs.Common.{◌≡◌, ℕ, pos, true, false, ◌+◌, List, [], ◌∷◌, ◌++◌, length, map, slice_get, Option, Some, None, Ok, refl, sym, ap, ◌∙◌, subst, ◌⊎◌, inl, inr, append_assoc}
 use Rattle.std.specs.List.{range_with_len}
 use Rattle.kf_value.specs.Values as value
 use Rattle.kf_value.specs.Kinds.{KindTree, TruthKind}
@@ -30,7 +28,7 @@ use Rattle.kf_check.specs.Translation.{IsVariable, IsEx, AreExs, AreCases, IsDx,
 use Rattle.kf_check.specs.Translation as becomes
 use Rattle.kf_check.specs.Laws.{IsWellBuilt, TypedOrBroken}
 use Rattle.kf_check.proofs.Kinding.{asked, unbroken, case_kinds, slice_get-some, sts-sts_list}
-use Rattle.kf_check.proofs.Declared.{grown, names_of_known, slice_get-left}
+use Rattle.kf_check.proofs.Declared.{grown, named_at, named_first, types_first}
 use Rattle.kf_check.proofs.Checking.{AreCopied, decl_dist, checked}
 use Rattle.kf_check.proofs.LawsItems.{in_at, declared_at}
 use Rattle.kf_check.proofs.LawsSources.{judge_source, source_judged}
@@ -93,20 +91,12 @@ module _ (known : List Known) (names : List (List ℕ)) (placed : Placed known n
 
 -- ---- declarations
 
-placed_first : (vs more : List Variable) → Placed (known_of vs) (names_of (vs ++ more))
-placed_first vs more n i k h =
-    let named : slice_get (names_of vs) i ≡ Some n = subst (λ ns. slice_get ns i ≡ Some n) (names_of_known vs) (slice_get-some (λ v. v.name) (known_of vs) i (record { name = n; kind = k }) h) in
-    ap (λ ns. slice_get ns i) (map-append (λ v. v.name) vs more) ∙ slice_get-left (names_of vs) (names_of more) i n named
-
-placed_all : (vs : List Variable) → Placed (known_of vs) (names_of vs)
-placed_all vs n i k h = subst (λ ns. slice_get ns i ≡ Some n) (names_of_known vs) (slice_get-some (λ v. v.name) (known_of vs) i (record { name = n; kind = k }) h)
-
 decls_of : (names : List (List ℕ)) {vs ws : List Variable} {ds : List DeclTree} → JudgesDecls vs ds (Ok ws) → names ≡ names_of ws → (es : List DxTree) × AreDecls names ds es
 decls_of names source_rule.none same = ([], becomes.none)
 decls_of names {vs} {ws} (source_rule.more {d = declared (name n at) y d} v j js) same =
     let later = grown js in
     let whole : ws ≡ vs ++ v ∷ later.0 = later.1 ∙ append_assoc vs (v ∷ []) later.0 in
-    let placed : Placed (known_of vs) names = subst (λ ns. Placed (known_of vs) ns) (sym (same ∙ ap names_of whole)) (placed_first vs (v ∷ later.0)) in
+    let placed : Placed (known_of vs) names = subst (λ ns. Placed (known_of vs) ns) (sym (same ∙ ap names_of whole)) (named_first vs (v ∷ later.0)) in
     let first = dx_of (known_of vs) names placed (decl_dist v j) in
     let rest = decls_of names js same in
     (first.0 ∷ rest.0, becomes.more n at first.1 rest.1)
@@ -162,9 +152,6 @@ target_of vs (i ∷ items) c = record { places = c.places; types = c.types; aims
 
 -- ---- programs
 
-types_first : (vs : List Variable) (types : List TypeTree) → take (length vs) (types_of vs ++ types) ≡ types_of vs
-types_first vs types = ap (λ n. take n (types_of vs ++ types)) (sym (length-map vs (λ v. v.type))) ∙ take-append_seam (types_of vs) types
-
 module _ (ds : List DeclTree) (items : List ItemTree) (xs : List StmtTree) (built : IsWellBuilt (source ds items xs)) (judged : JudgesSource (source ds items xs) None) (vs : List Variable)
     (js : JudgesDecls [] ds (Ok vs)) (ls : JudgesItems vs [] (types_of vs) items None) (ss : JudgesStmts (known_of vs) (stmts xs) None) where
   program_of : (es : List DxTree) (aim : Aimed vs items) (ys : StTrees) → AreDecls (names_of vs) ds es → AreSts (names_of vs) (stmts xs) ys → (p : ProgramTree) × Typed (source ds items xs) p
@@ -191,7 +178,7 @@ module _ (ds : List DeclTree) (items : List ItemTree) (xs : List StmtTree) (buil
   program : (p : ProgramTree) × Typed (source ds items xs) p
   program =
       let decls = decls_of (names_of vs) js refl in
-      let body = sts_of (known_of vs) (names_of vs) (placed_all vs) ss refl in
+      let body = sts_of (known_of vs) (names_of vs) (named_at vs) ss refl in
       program_of decls.0 (target_of vs items (items_of 0 ls refl)) body.0 decls.1 body.1
 
 typed_where : {s : SourceTree} {o : Option TypeError} → JudgesSource s o → o ≡ None → JudgesSource s None → IsWellBuilt s → (p : ProgramTree) × Typed s p

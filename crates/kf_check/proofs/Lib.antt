@@ -1,4 +1,7 @@
 pub mod Kinding
+mod Naming
+mod Left
+mod StmtTurns
 pub mod Declared
 pub mod Checking
 mod LawsChoices
@@ -12,3 +15,26 @@ mod LawsItems
 mod LawsSources
 mod LawsTyped
 mod LawsPrograms
+mod DistRules
+mod RowRules
+mod Each
+mod ExprNodes
+mod ExprRules
+mod Judging
+mod KindLists
+mod Nodes
+mod PickRules
+mod TypeRules
+mod Behind
+mod Sized
+mod DeclTurns
+mod DeclFacts
+mod Standing
+mod ItemTurns
+mod CopyTurns
+mod TargetSizes
+mod TargetFacts
+mod TargetTurns
+mod Programs
+mod Copied
+mod SourceTurns

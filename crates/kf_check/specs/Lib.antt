@@ -4,3 +4,8 @@ pub mod Statements
 pub mod Sources
 pub mod Translation
 pub mod Laws
+pub mod Answers
+pub mod Views
+pub mod Picks
+pub mod Variables
+pub mod SourceAnswers

@@ -1,3 +1,5 @@
+use kf_value::Mem;
+use std::alloc::{AllocError, AllocFailed};
 use thiserror::Error;
 
 /// The first broken type rule of a source. Each place is a byte offset.
@@ -33,4 +35,37 @@ pub enum TypeError {
     /// Want of memory.
     #[error("want of memory")]
     Mem,
+}
+
+impl From<Mem> for TypeError {
+    ghost use Rattle.std.specs.Prelude.{◌≡◌};
+    ghost use Rattle.kf_check.specs.declared.errors.TypeError.TheVariants as broken;
+
+    ghost from_gives = { λ _ e. e ≡ broken.Mem };
+
+    fn from(_: Mem) -> Self {
+        TypeError::Mem
+    }
+}
+
+impl From<AllocError> for TypeError {
+    ghost use Rattle.std.specs.Prelude.{◌≡◌};
+    ghost use Rattle.kf_check.specs.declared.errors.TypeError.TheVariants as broken;
+
+    ghost from_gives = { λ _ e. e ≡ broken.Mem };
+
+    fn from(_: AllocError) -> Self {
+        TypeError::Mem
+    }
+}
+
+impl<T: Drop> From<AllocFailed<T>> for TypeError {
+    ghost use Rattle.std.specs.Prelude.{◌≡◌};
+    ghost use Rattle.kf_check.specs.declared.errors.TypeError.TheVariants as broken;
+
+    ghost from_gives = { λ _ e. e ≡ broken.Mem };
+
+    fn from(_: AllocFailed<T>) -> Self {
+        TypeError::Mem
+    }
 }

@@ -1,0 +1,58 @@
+-- Kinds of lists, and when they are the same.
+use Rattle.std.specs.Prelude.{IsTrue, ◌↔◌}
+use Rattle.std.proofs.Common.{◌≡◌, ℤ, Box, Global, Bool, List, [], ◌∷◌, map, refl, sym, ap, ◌∙◌}
+use Rattle.kf_value.specs.Kinds.{KindTree, KindTrees, TupleKind, SetKind, no_kind, more_kinds, kind_parts}
+use Rattle.kf_value.specs.Types.{TypeTree, type_parts}
+use Rattle.kf_value.specs.declared.ty.Ty.{Ty}
+use Rattle.kf_value.specs.declared.ty.Ty.TheVariants as ty
+use Rattle.kf_value.specs.declared.ty.TyList.{TyList}
+use Rattle.kf_value.specs.declared.kind.Kind.{Kind}
+use Rattle.kf_value.specs.declared.kind.Kind.TheVariants as kind
+use Rattle.kf_value.specs.declared.kind.KindList.{KindList}
+use Rattle.kf_value.specs.Types.{type_tree}
+use Rattle.kf_value.specs.Views.{kind_tree, kind_trees, type_items, type_trees}
+use Rattle.kf_value.proofs.Trees.{type_tree-Bool, type_tree-Int, type_tree-Tuple, type_tree-Set}
+use Rattle.kf_core.specs.Checked.{kind_of, kinds_of}
+use Rattle.kf_check.proofs.Nodes.{kind_tree-Bool, kind_tree-Int, kind_tree-Tuple, kind_tree-Set}
+
+pub kinds_of-type_parts : (ts : List TypeTree) → kinds_of (type_parts ts) ≡ kind_parts (map kind_of ts)
+kinds_of-type_parts [] = refl
+kinds_of-type_parts (t ∷ ts) = ap (λ ks. more_kinds (kind_of t) ks) (kinds_of-type_parts ts)
+
+-- the parts of a tuple's kind
+abbrev pub kind_list : KindTrees → List KindTree
+kind_list no_kind = []
+kind_list (more_kinds k ks) = k ∷ kind_list ks
+
+pub kind_list-kind_parts : (ks : List KindTree) → kind_list (kind_parts ks) ≡ ks
+kind_list-kind_parts [] = refl
+kind_list-kind_parts (k ∷ ks) = ap (λ js. k ∷ js) (kind_list-kind_parts ks)
+
+pub same_parts : (ks js : List KindTree) → TupleKind (kind_parts ks) ≡ TupleKind (kind_parts js) → ks ≡ js
+same_parts ks js h =
+    let inner : kind_parts ks ≡ kind_parts js = cc in
+    sym (kind_list-kind_parts ks) ∙ (ap kind_list inner ∙ kind_list-kind_parts js)
+
+pub tuples_same : (r : Bool) (a b : KindTree) (ks js : List KindTree) → a ≡ TupleKind (kind_parts ks) → b ≡ TupleKind (kind_parts js) → (IsTrue r ↔ (ks ≡ js)) → (IsTrue r ↔ (a ≡ b))
+tuples_same r a b ks js left right h =
+    (λ yes. left ∙ (ap (λ is. TupleKind (kind_parts is)) (h.0 yes) ∙ sym right), λ same. h.1 (same_parts ks js (sym left ∙ (same ∙ right))))
+
+pub kind_of-Bool : (t : Ty) → t ≡ ty.Bool → kind_tree kind.Bool ≡ kind_of (type_tree t)
+kind_of-Bool t is = kind_tree-Bool ∙ sym (ap (λ s. kind_of (type_tree s)) is ∙ ap kind_of type_tree-Bool)
+
+pub kind_of-Int : (t : Ty) (lo hi : ℤ) → t ≡ ty.Int lo hi → kind_tree kind.Int ≡ kind_of (type_tree t)
+kind_of-Int t lo hi is = kind_tree-Int ∙ sym (ap (λ s. kind_of (type_tree s)) is ∙ ap kind_of (type_tree-Int lo hi))
+
+pub kind_of-Tuple : (t : Ty) (ps : TyList) (items : List Ty) (ks : KindList) → t ≡ ty.Tuple ps → items ≡ type_items ps → kind_trees ks ≡ map kind_of (map type_tree items)
+    → kind_tree (kind.Tuple ks) ≡ kind_of (type_tree t)
+kind_of-Tuple t ps items ks is same h =
+    kind_tree-Tuple ks
+    ∙ (ap (λ js. TupleKind (kind_parts js)) (h ∙ ap (λ ts. map kind_of (map type_tree ts)) same)
+    ∙ sym (ap (λ s. kind_of (type_tree s)) is ∙ (ap kind_of (type_tree-Tuple ps) ∙ ap TupleKind (kinds_of-type_parts (type_trees ps)))))
+
+pub kind_of-Set : (t : Ty) (base : Box Ty Global) (read : Ty) (inner : Kind) (boxed : Box Kind Global) → t ≡ ty.Set base → read ≡ base.value → kind_tree inner ≡ kind_of (type_tree read)
+    → boxed.value ≡ inner → kind_tree (kind.Set boxed) ≡ kind_of (type_tree t)
+kind_of-Set t base read inner boxed is same h held =
+    kind_tree-Set boxed
+    ∙ (ap (λ k. SetKind (kind_tree k)) held
+    ∙ (ap SetKind (h ∙ ap (λ s. kind_of (type_tree s)) same) ∙ sym (ap (λ s. kind_of (type_tree s)) is ∙ ap kind_of (type_tree-Set base))))

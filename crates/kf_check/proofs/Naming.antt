@@ -1,0 +1,57 @@
+-- The entries of a map from names to kinds as known variables.
+use Rattle.std.proofs.Common.{◌≡◌, ℕ, Bool, true, false, cond, List, [], ◌∷◌, ◌++◌, map, position, slice_get, get_or, None, Some, String, string_bytes, refl, sym, ap, ◌∙◌, true≢false}
+use Rattle.std.specs.Map.{keys_of, lookup}
+use Rattle.std.specs.Option.{option_map}
+use Rattle.std.specs.Str.{bytes_eq}
+use Rattle.std.specs.String.{string_eq}
+use Rattle.std.proofs.lemmas.List.Elements.{All-nil, All-cons, All-head, All-tail}
+use Rattle.std.proofs.lemmas.List.Quantifiers.{position-Some}
+use Rattle.std.proofs.lemmas.Option.{slice_get-map, get_or_from_slice_get}
+use Rattle.std.proofs.lemmas.Slice.Eq.{bytes_eq-Decides}
+use Rattle.std.proofs.lemmas.Bool.{false_from_ne_true}
+use Rattle.indexmap.specs.IndexMap.{insert_entry}
+use Rattle.kf_value.specs.declared.kind.Kind.{Kind}
+use Rattle.kf_value.specs.Views.{kind_tree}
+use Rattle.kf_check.specs.Kinds.{Known, IsKnown, IsUnknown}
+
+module _ {Z : Type 0} where
+  abbrev pub known_by : String Z × Kind → Known
+  known_by e = record { name = string_bytes e.0; kind = kind_tree e.1 }
+
+  abbrev pub known_as : List (String Z × Kind) → List Known
+  known_as es = map known_by es
+
+  pub unknown_from_lookup : (n : List ℕ) (es : List (String Z × Kind)) → lookup (λ k. bytes_eq n (string_bytes k)) es ≡ None → IsUnknown (known_as es) n
+  unknown_from_lookup n [] h = All-nil (λ v. v.name ≡ n → ⊥)
+  unknown_from_lookup n (e ∷ es) h = by (bytes_eq n (string_bytes e.0)) refl h (unknown_from_lookup n es)
+    where
+      by : (b : Bool) → bytes_eq n (string_bytes e.0) ≡ b → cond b (Some e.1) (lookup (λ k. bytes_eq n (string_bytes k)) es) ≡ None
+          → (lookup (λ k. bytes_eq n (string_bytes k)) es ≡ None → IsUnknown (known_as es) n) → IsUnknown (known_as (e ∷ es)) n
+      by true is none rest = (cc)
+      by false is none rest =
+          All-cons (λ v. v.name ≡ n → ⊥) (known_by e) (known_as es)
+          (λ same. true≢false (sym ((bytes_eq-Decides n (string_bytes e.0)).1 (sym same)) ∙ is)) (rest none)
+
+  pub known_from_entry : (n : List ℕ) (es : List (String Z × Kind)) (i : ℕ) (key : String Z) (kind : Kind) → slice_get es i ≡ Some (key, kind)
+      → Some i ≡ position (λ k. bytes_eq n (string_bytes k)) (keys_of es) → IsKnown (known_as es) n i (kind_tree kind)
+  known_from_entry n es i key kind at found =
+      let passes = (position-Some (λ k. bytes_eq n (string_bytes k)) (keys_of es) i key (sym found)).1 in
+      let here : get_or (keys_of es) i key ≡ key = get_or_from_slice_get (keys_of es) i key key (slice_get-map (λ e. e.0) es i ∙ ap (λ o. option_map (λ e. e.0) o) at) in
+      let same : n ≡ string_bytes key = (bytes_eq-Decides n (string_bytes key)).0 (ap (λ k. bytes_eq n (string_bytes k)) (sym here) ∙ passes) in
+      slice_get-map known_by es i ∙ (ap (λ o. option_map known_by o) at ∙ ap (λ m. Some (record { name = m; kind = kind_tree kind })) (sym same))
+
+  pub known_behind : (key : String Z) (kind : Kind) (es : List (String Z × Kind)) → IsUnknown (known_as es) (string_bytes key)
+      → known_as (insert_entry string_eq es key kind) ≡ known_as es ++ known_by (key, kind) ∷ []
+  known_behind key kind [] h = refl
+  known_behind key kind (e ∷ es) h =
+      let other = All-head (λ v. v.name ≡ string_bytes key → ⊥) (known_by e) (known_as es) h in
+      let new : string_eq key e.0 ≡ false = false_from_ne_true (string_eq key e.0) (λ same. other (sym ((bytes_eq-Decides (string_bytes key) (string_bytes e.0)).0 same))) in
+      ap (λ b. known_as (cond b ((e.0, kind) ∷ es) (e ∷ insert_entry string_eq es key kind))) new
+      ∙ ap (λ vs. known_by e ∷ vs) (known_behind key kind es (All-tail (λ v. v.name ≡ string_bytes key → ⊥) (known_by e) (known_as es) h))
+
+  -- the same where the key reads so
+  pub known_behind_as : (n : List ℕ) (key : String Z) (kind : Kind) (es after : List (String Z × Kind)) → string_bytes key ≡ n → IsUnknown (known_as es) n
+      → after ≡ insert_entry string_eq es key kind → known_as after ≡ known_as es ++ record { name = n; kind = kind_tree kind } ∷ []
+  known_behind_as n key kind es after reads h e =
+      let fresh : IsUnknown (known_as es) (string_bytes key) = rw reads h in
+      ap known_as e ∙ (known_behind key kind es fresh ∙ ap (λ m. known_as es ++ record { name = m; kind = kind_tree kind } ∷ []) reads)

@@ -1,0 +1,72 @@
+-- What the checker may answer of statements, declarations and targets: that no rule is broken, with what stands for them in the program; the first broken rule; or want of memory, which says nothing.
+use Rattle.std.specs.Prelude.{◌≡◌, ◌≢◌, ◌⊎◌, ℕ, ◌*◌, ◌^◌, ◌<◌, ◌≤◌, ◌↔◌, Bool, false, Contains, List, [], ◌∷◌, ◌++◌, map, Option, Some, None, option_to_list, Result, Ok, Err}
+use Rattle.kf_value.specs.Types.{TypeTree}
+use Rattle.kf_value.specs.Targets.{Item, item_of}
+use Rattle.kf_value.specs.Views.{items_of}
+use Rattle.kf_ast.specs.Stmts.{StmtTree, stmts}
+use Rattle.kf_ast.specs.Sources.{DeclTree, ItemTree, item}
+use Rattle.kf_ast.specs.Names.{name}
+use Rattle.kf_core.specs.Dxs.{dx_tree}
+use Rattle.kf_core.specs.Sts.{st_tree, st_items, sts}
+use Rattle.kf_core.specs.declared.st.St.{St}
+use Rattle.kf_core.specs.declared.st.StList.{StList}
+use Rattle.kf_check.specs.declared.errors.TypeError.{TypeError}
+use Rattle.kf_check.specs.declared.errors.TypeError.TheVariants as broken
+use Rattle.kf_check.specs.declared.variables.Declaration.{Declaration}
+use Rattle.kf_check.specs.declared.variables.Declared.{Declared}
+use Rattle.kf_check.specs.declared.items.ReadItem.{ReadItem}
+use Rattle.kf_check.specs.declared.targets.Targeted.{Targeted}
+use Rattle.kf_check.specs.Kinds.{Known}
+use Rattle.kf_check.specs.Statements.{JudgesStmt, JudgesStmts}
+use Rattle.kf_check.specs.Sources.{Variable, types_of, JudgesDecl, JudgesDecls, JudgesItems}
+use Rattle.kf_check.specs.Translation.{IsSt, AreSts, AreDecls, AreItems, IsTarget, names_of}
+use Rattle.kf_check.specs.Answers.{names_in}
+use Rattle.kf_check.specs.Variables.{variable_of, variables_in}
+
+-- a statement
+abbrev pub AnswersSt : List Known → StmtTree → Result St TypeError → Type 0
+AnswersSt known x (Ok s) = JudgesStmt known x None × IsSt (names_in known) x (st_tree s)
+AnswersSt known x (Err e) = e ≢ broken.Mem → JudgesStmt known x (Some e)
+
+-- statements one after the other
+abbrev pub AnswersSts : List Known → List StmtTree → Result StList TypeError → Type 0
+AnswersSts known xs (Ok l) = JudgesStmts known (stmts xs) None × AreSts (names_in known) (stmts xs) (sts (map st_tree (st_items l)))
+AnswersSts known xs (Err e) = e ≢ broken.Mem → JudgesStmts known (stmts xs) (Some e)
+
+-- how many stores there are with one variable more, which has so many values
+abbrev pub AnswersGrowth : ℕ → ℕ → ℕ → ℕ → Result ℕ TypeError → Type 0
+AnswersGrowth variables stores size at (Ok n) = (variables < 32) × (stores * size ≤ 2 ^ 63) × (n ≡ stores * size)
+AnswersGrowth variables stores size at (Err e) = ((32 ≤ variables) × (e ≡ broken.TooManyVariables at)) ⊎ ((variables < 32) × (2 ^ 63 < stores * size) × (e ≡ broken.StoreTooWide at))
+
+-- a declaration behind those of these variables
+abbrev pub AnswersDecl : List Variable → DeclTree → Result Declaration TypeError → Type 0
+AnswersDecl vs d (Ok x) = JudgesDecl vs d (Ok (variable_of x.variable)) × AreDecls (names_of vs) (d ∷ []) (dx_tree x.dist ∷ [])
+AnswersDecl vs d (Err e) = e ≢ broken.Mem → JudgesDecl vs d (Err e)
+
+-- all declarations of a source
+abbrev pub AnswersDecls : List DeclTree → Result Declared TypeError → Type 0
+AnswersDecls ds (Ok x) = JudgesDecls [] ds (Ok (variables_in x)) × AreDecls (names_of (variables_in x)) ds (map dx_tree x.dists.items)
+AnswersDecls ds (Err e) = e ≢ broken.Mem → JudgesDecls [] ds (Err e)
+
+-- the item stands here, at some place
+abbrev pub Stands : List ItemTree → Bool → List ℕ → Type 0
+Stands stood old n = (at : ℕ) × Contains stood (item old (name n at))
+
+-- the same items, in whatever order
+abbrev pub HasSame : List ItemTree → List ItemTree → Type 0
+HasSame xs ys = (i : ItemTree) → Contains xs i ↔ Contains ys i
+
+-- the variables as they are behind the last statement
+abbrev pub as_items : List Variable → List Item
+as_items vs = map (λ v. record { initial = false; name = v.name; ty = v.type }) vs
+
+-- an item behind those that stood, where there are so many carried copies and variables of these types
+abbrev pub AnswersItem : List Variable → List ItemTree → ℕ → List TypeTree → ItemTree → Result ReadItem TypeError → Type 0
+AnswersItem vs stood copies ts i (Ok x) = ((others : List ItemTree) (r : Option TypeError) → JudgesItems vs (i ∷ stood) (ts ++ map (λ c. (item_of x.item).ty) (option_to_list x.copied)) others r → JudgesItems vs stood ts (i ∷ others) r)
+    × AreItems vs copies (i ∷ []) (option_to_list x.copied) (item_of x.item ∷ []) (x.slot ∷ [])
+AnswersItem vs stood copies ts i (Err e) = e ≢ broken.Mem → (others : List ItemTree) → JudgesItems vs stood ts (i ∷ others) (Some e)
+
+-- the target of a source
+abbrev pub AnswersTarget : List Variable → List ItemTree → Result Targeted TypeError → Type 0
+AnswersTarget vs is (Ok x) = JudgesItems vs [] (types_of vs) is None × IsTarget vs is x.copies (items_of x.target) x.slots
+AnswersTarget vs is (Err e) = e ≢ broken.Mem → JudgesItems vs [] (types_of vs) is (Some e)

@@ -1,0 +1,86 @@
+ghost use Rattle.std.specs.Prelude.{◌≡◌, ◌*◌, ◌^◌, ◌≤◌, map, IfOk};
+ghost use Rattle.kf_value.specs.Types.{count, product};
+ghost use Rattle.kf_value.specs.Views.{kind_tree};
+ghost use Rattle.kf_ast.specs.Sources.{decl_tree};
+ghost use Rattle.kf_ast.specs.Built.{IsTypeBuilt, IsDistBuilt, AreDeclsBuilt};
+ghost use Rattle.kf_ast.specs.TypeForms.{type_form};
+ghost use Rattle.kf_ast.specs.Dists.{dist_tree};
+ghost use Rattle.kf_ops.specs.Fitting.{Takes};
+ghost use Rattle.kf_core.specs.Checked.{kind_of as kind_of_type};
+ghost use Rattle.kf_check.specs.Sources.{known_of, types_of};
+ghost use Rattle.kf_check.specs.Views.{known_in};
+ghost use Rattle.kf_check.specs.Variables.{variable_of, variables_in};
+ghost use Rattle.kf_check.specs.SourceAnswers.{AnswersDecl, AnswersDecls};
+
+use crate::TypeError;
+use crate::dists::asks_dist;
+use crate::kinds::kind_of;
+use crate::limits::grow;
+use crate::names::Names;
+use crate::types::ty;
+use crate::variables::{Declaration, Declared, Variable};
+use kf_ast::Decl;
+use std::alloc::Global;
+
+/// A declaration behind those of the variables, which have so many stores, or its first broken rule.
+fn check_decl(
+    alloc: Global,
+    names: &Names,
+    variables: &[Variable],
+    stores: u64,
+    decl: &Decl,
+) -> Result<Declaration, TypeError>
+    requires built { IsDistBuilt Takes (dist_tree decl.now.dist) }
+    requires known { known_in names.now ≡ known_of (map variable_of variables.now) }
+    requires counted { stores ≡ product (map count (types_of (map variable_of variables.now))) }
+    ensures answer { AnswersDecl (map variable_of variables.now) (decl_tree decl.now) result }
+    ensures kind { IfOk result (λ x. kind_tree x.kind ≡ kind_of_type (variable_of x.variable).type) }
+    ensures counted { IfOk result (λ x. x.stores ≡ stores * count (variable_of x.variable).type) }
+{
+    let at = decl.name.at;
+    if let Some(_) = names.find(decl.name.text.as_str()) {
+        return Err(TypeError::Twice { at });
+    }
+    let ty = ty(alloc, &decl.ty)?;
+    let stores = grow(variables.len(), stores, &ty, at)?;
+    let kind = kind_of(alloc, &ty)?;
+    let dist = asks_dist(alloc, names, &kind, &decl.dist)?;
+    let name = decl.name.text.copy()?;
+    Ok(Declaration {
+        variable: Variable { name, ty },
+        kind,
+        dist,
+        stores,
+    })
+}
+
+/// All declarations of a source, or their first broken rule.
+pub fn check_decls(alloc: Global, decls: &[Decl]) -> Result<Declared, TypeError>
+    requires { AreDeclsBuilt Takes (map decl_tree decls.now) }
+    ensures answer { AnswersDecls (map decl_tree decls.now) result }
+    ensures known { IfOk result (λ x. known_in x.names ≡ known_of (variables_in x)) }
+    ensures counted { IfOk result (λ x. x.stores ≡ product (map count (types_of (variables_in x)))) }
+{
+    let mut names = Names::new(alloc);
+    let mut variables = Vec::new(alloc);
+    let mut dists = Vec::new(alloc);
+    let mut stores: u64 = 1;
+    for decl in decls {
+        let Declaration {
+            variable,
+            kind,
+            dist,
+            stores: grown,
+        } = check_decl(alloc, &names, &variables, stores, decl)?;
+        names.push(alloc, &variable.name, kind)?;
+        variables.push(variable)?;
+        dists.push(dist)?;
+        stores = grown;
+    }
+    Ok(Declared {
+        names,
+        variables,
+        dists,
+        stores,
+    })
+}

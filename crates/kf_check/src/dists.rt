@@ -1,0 +1,119 @@
+ghost use Rattle.std.specs.Prelude.{◌≤◌, length, map};
+ghost use Rattle.kf_value.specs.Views.{kind_tree};
+ghost use Rattle.kf_ast.specs.Exprs.{expr_tree};
+ghost use Rattle.kf_ast.specs.Dists.{case_tree, dist_at, dist_tree, Choose, UniformRange};
+ghost use Rattle.kf_ast.specs.Built.{IsBuilt, IsDistBuilt, AreCasesBuilt};
+ghost use Rattle.kf_ops.specs.Fitting.{Takes};
+ghost use Rattle.kf_check.specs.Views.{known_in};
+ghost use Rattle.kf_check.specs.Answers.{AnswersDx, AnswersAskedDx, AnswersCase};
+
+use crate::TypeError;
+use crate::exprs::expr;
+use crate::kinds::same_kind;
+use crate::names::Names;
+use crate::picks::element_kind;
+use crate::typed::TypedDx;
+use kf_ast::{Case, Dist, DistNode, Expr};
+use kf_core::{Dx, DxCase, DxCaseList, DxNode};
+use kf_value::Kind;
+use std::alloc::Global;
+
+/// A distribution with the kind of its values, or its first broken rule.
+pub fn dist(alloc: Global, known: &Names, d: &Dist) -> Result<TypedDx, TypeError>
+    requires { IsDistBuilt Takes (dist_tree d.now) }
+    ensures { AnswersDx (known_in known.now) (dist_tree d.now) result }
+{
+    match &d.node {
+        DistNode::Sure(x) => {
+            let typed = expr(alloc, known, x)?;
+            Ok(TypedDx::new(d.at, DxNode::Sure(typed.ex), typed.kind))
+        }
+        DistNode::UniformSet(x) => {
+            let typed = expr(alloc, known, x)?;
+            let kind = element_kind(alloc, &typed.kind, x.at)?;
+            Ok(TypedDx::new(d.at, DxNode::UniformSet(typed.ex), kind))
+        }
+        DistNode::UniformRange(low, high) => uniform_range(alloc, known, low, high, d.at),
+        DistNode::Choose(cases) => choose(alloc, known, cases.as_slice(), d.at),
+        DistNode::Flip { num, den } => {
+            if *den == 0 || *num > *den {
+                return Err(TypeError::BadFlip { at: d.at });
+            }
+            let node = DxNode::Flip {
+                num: *num,
+                den: *den,
+            };
+            Ok(TypedDx::new(d.at, node, Kind::Bool))
+        }
+    }
+}
+
+/// The whole numbers from `low` to `high` alike, at `at`.
+fn uniform_range(
+    alloc: Global,
+    known: &Names,
+    low: &Expr,
+    high: &Expr,
+    at: u32,
+) -> Result<TypedDx, TypeError>
+    requires low { IsBuilt Takes (expr_tree low.now) }
+    requires high { IsBuilt Takes (expr_tree high.now) }
+    ensures { AnswersDx (known_in known.now) (dist_at at (UniformRange (expr_tree low.now) (expr_tree high.now))) result }
+{
+    let lower = expr(alloc, known, low)?;
+    let upper = expr(alloc, known, high)?;
+    if !same_kind(&lower.kind, &Kind::Int) {
+        return Err(TypeError::Clash { at: low.at });
+    }
+    if !same_kind(&upper.kind, &Kind::Int) {
+        return Err(TypeError::Clash { at: high.at });
+    }
+    Ok(TypedDx::new(at, DxNode::UniformRange(lower.ex, upper.ex), Kind::Int))
+}
+
+/// The cases' values with their weights, at `at`: all are of the first value's kind.
+fn choose(alloc: Global, known: &Names, cases: &[Case], at: u32) -> Result<TypedDx, TypeError>
+    requires some { 1 ≤ length cases.now }
+    requires built { AreCasesBuilt Takes (map case_tree cases.now) }
+    ensures { AnswersDx (known_in known.now) (dist_at at (Choose (map case_tree cases.now))) result }
+{
+    let kind = expr(alloc, known, &cases[0].value)?.kind;
+    let mut typed = Vec::new(alloc);
+    for case in cases {
+        typed.push(choice(alloc, known, &kind, case)?)?;
+    }
+    Ok(TypedDx::new(at, DxNode::Choose(DxCaseList::new(typed)), kind))
+}
+
+/// A case whose value is to be of this kind.
+fn choice(alloc: Global, known: &Names, kind: &Kind, case: &Case) -> Result<DxCase, TypeError>
+    requires value { IsBuilt Takes (expr_tree case.now.value) }
+    requires weight { IsBuilt Takes (expr_tree case.now.weight) }
+    ensures { AnswersCase (known_in known.now) (kind_tree kind.now) (case_tree case.now) result }
+{
+    let value = expr(alloc, known, &case.value)?;
+    let weight = expr(alloc, known, &case.weight)?;
+    if !same_kind(&value.kind, kind) {
+        return Err(TypeError::Clash { at: case.value.at });
+    }
+    if !same_kind(&weight.kind, &Kind::Int) {
+        return Err(TypeError::Clash { at: case.weight.at });
+    }
+    Ok(DxCase {
+        value: value.ex,
+        weight: weight.ex,
+    })
+}
+
+/// A distribution whose values are to be of this kind, or its first broken rule.
+pub fn asks_dist(alloc: Global, known: &Names, kind: &Kind, d: &Dist) -> Result<Dx, TypeError>
+    requires { IsDistBuilt Takes (dist_tree d.now) }
+    ensures { AnswersAskedDx (known_in known.now) (kind_tree kind.now) (dist_tree d.now) result }
+{
+    let typed = dist(alloc, known, d)?;
+    if same_kind(&typed.kind, kind) {
+        Ok(typed.dx)
+    } else {
+        Err(TypeError::Clash { at: d.at })
+    }
+}

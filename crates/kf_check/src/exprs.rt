@@ -1,0 +1,116 @@
+ghost use Rattle.std.specs.Prelude.{◌≡◌, ◌≢◌, ℕ, map, IfOk, IfErr};
+ghost use Rattle.kf_value.specs.Views.{kind_trees};
+ghost use Rattle.kf_ast.specs.Names.{name_tree};
+ghost use Rattle.kf_ast.specs.Exprs.{expr_at, expr_tree, exprs, Name};
+ghost use Rattle.kf_ast.specs.Built.{IsBuilt, AreBuilt};
+ghost use Rattle.kf_core.specs.Exs.{ex_tree, ex_items, exs};
+ghost use Rattle.kf_ops.specs.Fitting.{Takes};
+ghost use Rattle.kf_check.specs.Kinds.{JudgesAll};
+ghost use Rattle.kf_check.specs.Translation.{AreExs};
+ghost use Rattle.kf_check.specs.Views.{known_in};
+ghost use Rattle.kf_check.specs.Answers.{AnswersEx, names_in};
+
+use crate::TypeError;
+use crate::names::Names;
+use crate::picks::{common_kind, part_kind};
+use crate::rows::result_kind;
+use crate::typed::TypedEx;
+use kf_ast::{Expr, ExprNode, Ident};
+use kf_core::{Ex, ExList};
+use kf_value::{Kind, KindList, Value};
+use std::alloc::Global;
+
+/// Expressions whose names are known, and the kinds of their values.
+#[derive(Drop)]
+struct TypedExs {
+    exs: ExList,
+    kinds: KindList,
+}
+
+/// An expression with its kind, or its first broken rule.
+#[cycle(expr)]
+pub fn expr(alloc: Global, known: &Names, x: &Expr) -> Result<TypedEx, TypeError>
+    requires { IsBuilt Takes (expr_tree x.now) }
+    ensures { AnswersEx (known_in known.now) (expr_tree x.now) result }
+{
+    match &x.node {
+        ExprNode::Number(number) => Ok(TypedEx {
+            ex: Ex::Const(Value::Int(i64::from(*number))),
+            kind: Kind::Int,
+        }),
+        ExprNode::Truth(truth) => Ok(TypedEx {
+            ex: Ex::Const(Value::Bool(*truth)),
+            kind: Kind::Bool,
+        }),
+        ExprNode::Name(name) => variable(alloc, known, name),
+        ExprNode::Apply { row, args } => {
+            let args = typed_exprs(alloc, known, args.as_slice())?;
+            let kind = result_kind(alloc, *row, args.kinds.as_slice(), x.at)?;
+            Ok(TypedEx {
+                ex: Ex::Apply {
+                    row: *row,
+                    args: args.exs,
+                },
+                kind,
+            })
+        }
+        ExprNode::Tuple(parts) => {
+            let parts = typed_exprs(alloc, known, parts.as_slice())?;
+            Ok(TypedEx {
+                ex: Ex::Tuple(parts.exs),
+                kind: Kind::Tuple(parts.kinds),
+            })
+        }
+        ExprNode::SetOf(members) => {
+            let members = typed_exprs(alloc, known, members.as_slice())?;
+            let kind = common_kind(alloc, members.kinds.as_slice(), x.at)?;
+            Ok(TypedEx {
+                ex: Ex::SetOf(members.exs),
+                kind: Kind::Set(Box::new(alloc, kind)?),
+            })
+        }
+        ExprNode::Part { of, k } => {
+            let tuple = expr(alloc, known, of)?;
+            let kind = part_kind(alloc, &tuple.kind, *k, x.at)?;
+            let of = Box::new(alloc, tuple.ex)?;
+            Ok(TypedEx {
+                ex: Ex::Part { of, k: *k },
+                kind,
+            })
+        }
+    }
+}
+
+/// The variable of a name, wherever the expression itself stands.
+fn variable(alloc: Global, known: &Names, name: &Ident) -> Result<TypedEx, TypeError>
+    ensures { (at : ℕ) → AnswersEx (known_in known.now) (expr_at at (Name (name_tree name.now))) result }
+{
+    match known.find(name.text.as_str()) {
+        Some((place, kind)) => Ok(TypedEx {
+            ex: Ex::Slot(place),
+            kind: kind.copy(alloc)?,
+        }),
+        None => Err(TypeError::Unknown { at: name.at }),
+    }
+}
+
+/// Expressions with their kinds, or the first broken rule.
+#[cycle(expr)]
+fn typed_exprs(alloc: Global, known: &Names, xs: &[Expr]) -> Result<TypedExs, TypeError>
+    requires { AreBuilt Takes (exprs (map expr_tree xs.now)) }
+    ensures judged { IfOk result (λ t. JudgesAll (known_in known.now) (exprs (map expr_tree xs.now)) (Ok (kind_trees t.kinds))) }
+    ensures translated { IfOk result (λ t. AreExs (names_in (known_in known.now)) (exprs (map expr_tree xs.now)) (exs (map ex_tree (ex_items t.exs)))) }
+    ensures err { IfErr result (λ e. e ≢ TypeError.Mem → JudgesAll (known_in known.now) (exprs (map expr_tree xs.now)) (Err e)) }
+{
+    let mut exs = Vec::new(alloc);
+    let mut kinds = Vec::new(alloc);
+    for x in xs {
+        let typed = expr(alloc, known, x)?;
+        exs.push(typed.ex)?;
+        kinds.push(typed.kind)?;
+    }
+    Ok(TypedExs {
+        exs: ExList::new(exs),
+        kinds: KindList::new(kinds),
+    })
+}

@@ -5,6 +5,8 @@ mod answers;
 mod causes;
 mod refusals;
 mod slow;
+mod types;
+mod values;
 
 use kf_io::{ByteList, CallList, FileEntry, FileList, FileName, Files, MemFiles, MemSink};
 use kf_top::run;

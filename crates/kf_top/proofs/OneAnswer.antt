@@ -8,6 +8,10 @@ use Rattle.std.specs.List.Sorted.{IsStrictlySortedBy}
 use Rattle.kf_lex.specs.declared.token.Token.{Token}
 use Rattle.kf_lex.specs.Readings.{IsFault, IsOneReading}
 use Rattle.kf_parse.specs.Answers.{IsRefused, OneProgram, NotBoth, OneRefusal}
+use Rattle.kf_ast.specs.Sources.{SourceTree}
+use Rattle.kf_check.specs.declared.errors.TypeError.{TypeError}
+use Rattle.kf_check.specs.Sources.{JudgesSource, IsBroken}
+use Rattle.kf_check.specs.Laws.{OneJudgement, OneTyped}
 use Rattle.kf_core.specs.Joint.{Cell}
 use Rattle.kf_core.proofs.Forms.{same_form}
 use Rattle.kf_hyper.specs.declared.column.Column.{Column}
@@ -18,7 +22,7 @@ use Rattle.kf_top.specs.Columns.{IsColumnOf, AreColumnsOf, IsHyperOf}
 use Rattle.kf_top.specs.Texts.{hyper_text}
 use Rattle.kf_top.specs.Task.{Task, Hyper, task_of}
 use Rattle.kf_top.specs.Answer.{Shown, Statement, HyperOf, States, Refused, Usage}
-use Rattle.kf_top.specs.Outcome.{Step, After, Gives, Fault, bad_text, token_fault, syntax_fault, IsBad, TokensOf, SourceOf, FormOf, ProgramForm, TextOutcome, TaskOutcome, SomeOutcome, source_of, first_statement}
+use Rattle.kf_top.specs.Outcome.{Step, After, Gives, Fault, bad_text, token_fault, syntax_fault, type_fault, IsBad, TokensOf, SourceOf, ProgramOf, FormOf, ProgramForm, TextOutcome, TaskOutcome, SomeOutcome, source_of, first_statement}
 use Rattle.kf_top.specs.Ends.{Answer, Settled, showing, AtMostOneAnswer}
 use Rattle.kf_top.proofs.Adding.{trace_total}
 use Rattle.kf_top.proofs.Steps.{some_syntax}
@@ -127,8 +131,8 @@ one_bad IsError fault_of name bytes one r s p q =
     let f : p.fault ≡ q.fault = cc in
     p.is ∙ ap (bad_text name bytes) f ∙ sym q.is
 
--- the laws of tokens and of the grammar
-module _ (reading : IsOneReading) (one : OneProgram) (both : NotBoth) (refusal : OneRefusal) where
+-- the laws of tokens, of the grammar and of the type rules
+module _ (reading : IsOneReading) (one : OneProgram) (both : NotBoth) (refusal : OneRefusal) (judgement : OneJudgement) (typed : OneTyped) where
   one_tokens : (name bytes : List ℕ) → HasOne (TokensOf name bytes)
   one_tokens name bytes (Ok ts) (Ok us) p q = ap Ok (reading.tokens bytes ts us p q)
   one_tokens name bytes (Ok ts) (Err s) p q = absurd (reading.not_both bytes ts q.error p q.is_error)
@@ -142,10 +146,23 @@ module _ (reading : IsOneReading) (one : OneProgram) (both : NotBoth) (refusal :
   one_source name bytes tokens (Err r) (Err s) p q =
       ap Err (one_bad (IsRefused bytes tokens) syntax_fault name bytes (λ e f x y has has'. refusal bytes tokens e f (some_syntax e x has) (some_syntax f y has')) r s p q)
 
+  same_rule : (tree : SourceTree) (e f : TypeError) → IsBroken tree e → IsBroken tree f → e ≡ f
+  same_rule tree e f p q = let both : Some e ≡ Some f = judgement tree (Some e) (Some f) p q in cc
+
+  not_broken : (tree : SourceTree) (e : TypeError) → JudgesSource tree None → IsBroken tree e → ⊥
+  not_broken tree e p q = let both : None ≡ Some e = judgement tree None (Some e) p q in absurd (cc)
+
+  one_checked : (name bytes : List ℕ) (tree : SourceTree) → HasOne (ProgramOf name bytes tree)
+  one_checked name bytes tree (Ok p) (Ok q) h k = ap Ok (typed tree p q h k)
+  one_checked name bytes tree (Ok p) (Err s) h k = absurd (not_broken tree k.error h.judged k.is_error)
+  one_checked name bytes tree (Err r) (Ok q) h k = absurd (not_broken tree h.error k.judged h.is_error)
+  one_checked name bytes tree (Err r) (Err s) h k = ap Err (one_bad (IsBroken tree) type_fault name bytes (λ e f x y _ _. same_rule tree e f) r s h k)
+
   one_program_form : (name bytes : List ℕ) → HasOne (ProgramForm name bytes)
   unfolding ProgramForm
-  one_program_form name bytes = one_after (TokensOf name bytes) (λ tokens. After (SourceOf name bytes tokens) (λ tree. FormOf name bytes)) (one_tokens name bytes)
-      (λ tokens. one_after (SourceOf name bytes tokens) (λ tree. FormOf name bytes) (one_source name bytes tokens) (λ tree. one_form name bytes))
+  one_program_form name bytes = one_after (TokensOf name bytes) (λ tokens. After (SourceOf name bytes tokens) (λ tree. After (ProgramOf name bytes tree) (λ p. FormOf name bytes))) (one_tokens name bytes)
+      (λ tokens. one_after (SourceOf name bytes tokens) (λ tree. After (ProgramOf name bytes tree) (λ p. FormOf name bytes)) (one_source name bytes tokens)
+      (λ tree. one_after (ProgramOf name bytes tree) (λ p. FormOf name bytes) (one_checked name bytes tree) (λ p. one_form name bytes)))
 
   one_text : (name bytes : List ℕ) → HasOne (TextOutcome name bytes)
   one_text name bytes = one_after (ProgramForm name bytes) (λ form. Gives (Ok (first_statement form))) (one_program_form name bytes) (λ form. one_given (Ok (first_statement form)))

@@ -1,5 +1,5 @@
 -- One step and then the next, and what a stop's result is.
-use Rattle.std.proofs.Common.{◌≡◌, ◌≢◌, ℕ, List, inl, inr, true, None, Some, Ok, Err, refl, sym, ap, ◌∙◌, subst}
+use Rattle.std.proofs.Common.{◌≡◌, ◌≢◌, ℕ, List, inl, inr, true, None, Some, Result, Ok, Err, refl, sym, ap, ◌∙◌, subst}
 use Rattle.kf_lex.specs.declared.token.Token.{Token}
 use Rattle.kf_lex.specs.declared.token.LexError.{LexError}
 use Rattle.kf_lex.specs.declared.token.LexError.TheVariants as lexing
@@ -7,6 +7,10 @@ use Rattle.kf_lex.specs.Readings.{IsFaultOrMem}
 use Rattle.kf_parse.specs.declared.errors.ParseError.{ParseError}
 use Rattle.kf_parse.specs.declared.errors.ParseError.TheVariants as parsing
 use Rattle.kf_parse.specs.Answers.{IsRefused}
+use Rattle.kf_ast.specs.Sources.{SourceTree}
+use Rattle.kf_check.specs.declared.errors.TypeError.{TypeError}
+use Rattle.kf_check.specs.declared.errors.TypeError.TheVariants as typing
+use Rattle.kf_check.specs.Sources.{IsBroken}
 use Rattle.kf_core.specs.FirstForm.{FirstForm}
 use Rattle.kf_core.specs.Rows.{scale_of}
 use Rattle.kf_core.specs.Joint.{joint_of}
@@ -14,7 +18,7 @@ use Rattle.kf_hyper.specs.Hypers.{Inner}
 use Rattle.kf_top.specs.Answer.{Shown, Statement, States}
 use Rattle.kf_top.specs.Columns.{IsHyperOf}
 use Rattle.kf_top.specs.Texts.{hyper_text}
-use Rattle.kf_top.specs.Outcome.{Step, After, Fault, token_fault, syntax_fault, bad_text, TokensOf, SourceOf, ProgramForm, HyperOutcome, source_of, first_target, first_statement}
+use Rattle.kf_top.specs.Outcome.{Step, After, Fault, token_fault, syntax_fault, type_fault, bad_text, TokensOf, SourceOf, ProgramOf, ProgramForm, HyperOutcome, source_of, first_target, first_statement}
 use Rattle.kf_top.specs.Stops.{Answers, is_form}
 use Rattle.kf_top.specs.declared.stops.Stop.{Stop}
 use Rattle.kf_top.specs.declared.stops.Stop.TheVariants as stop
@@ -31,6 +35,11 @@ next_stops Meets first next Met (stop.Refused r) x done h = inr (x, done, h)
 next_stops Meets first next Met (stop.ReadFailed n) x done h = tt
 next_stops Meets first next Met stop.Mem x done h = tt
 
+-- where the first step is done, the result of the next is that of both
+pub next_answers : {A B X : Type 0} (Meets : X → B → Type 0) (first : Step A) (next : A → Step B) (r : Result X Stop) (x : A) → first (Ok x) → Answers Meets r (next x) → Answers Meets r (After first next)
+next_answers Meets first next (Ok z) x done h = (h.0, h.1, (x, done, h.2))
+next_answers Meets first next (Err s) x done h = next_stops Meets first next Meets s x done h
+
 -- an error with a fault isn't want of memory
 pub some_syntax : (e : ParseError) (f : Fault) → syntax_fault e ≡ Some f → e ≢ parsing.Mem
 some_syntax e f has mem = let none : None ≡ Some f = ap syntax_fault (sym mem) ∙ has in absurd (cc)
@@ -44,6 +53,10 @@ bad_tokens name bytes lexing.Mem f has is = absurd (cc)
 
 pub bad_source : (name bytes : List ℕ) (tokens : List Token) (e : ParseError) (f : Fault) → syntax_fault e ≡ Some f → IsRefused bytes tokens e → SourceOf name bytes tokens (Err (bad_text name bytes f))
 bad_source name bytes tokens e f has is = record { error = e; is_error = is; fault = f; has = has; is = refl }
+
+-- the refusal of a text for its first broken type rule
+pub bad_program : (name bytes : List ℕ) (tree : SourceTree) (e : TypeError) (f : Fault) → type_fault e ≡ Some f → (e ≢ typing.Mem → IsBroken tree e) → ProgramOf name bytes tree (Err (bad_text name bytes f))
+bad_program name bytes tree e f has is = record { error = e; is_error = is (λ mem. let none : None ≡ Some f = ap type_fault (sym mem) ∙ has in absurd (cc)); fault = f; has = has; is = refl }
 
 -- the form of the same bytes
 pub form_at : (bytes read : List ℕ) (name : List ℕ) (s : Stop) → read ≡ bytes → Answers is_form (Err s) (ProgramForm name read) → Answers is_form (Err s) (ProgramForm name bytes)

@@ -12,6 +12,11 @@ use Rattle.kf_ast.specs.Sources.{SourceTree}
 use Rattle.kf_parse.specs.declared.errors.ParseError.{ParseError}
 use Rattle.kf_parse.specs.declared.errors.ParseError.TheVariants as parsing
 use Rattle.kf_parse.specs.Answers.{IsParsed, IsRefused}
+use Rattle.kf_check.specs.declared.errors.TypeError.{TypeError}
+use Rattle.kf_check.specs.declared.errors.TypeError.TheVariants as typing
+use Rattle.kf_check.specs.Sources.{IsBroken}
+use Rattle.kf_check.specs.Translation.{Typed}
+use Rattle.kf_core.specs.Programs.{ProgramTree}
 use Rattle.kf_core.specs.FirstForm.{FirstForm, IsFirst}
 use Rattle.kf_core.specs.Rows.{scale_of}
 use Rattle.kf_core.specs.Joint.{joint_of}
@@ -61,6 +66,19 @@ syntax_fault (parsing.Syntax at) = Some (fault (codes "Syntax") at)
 syntax_fault (parsing.Long at) = Some (fault (codes "Long") at)
 syntax_fault parsing.Mem = None
 
+-- broken type rules
+abbrev pub type_fault : TypeError → Option Fault
+type_fault (typing.NoVariable at) = Some (fault (codes "NoVariable") at)
+type_fault (typing.Twice at) = Some (fault (codes "Twice") at)
+type_fault (typing.Unknown at) = Some (fault (codes "Unknown") at)
+type_fault (typing.Clash at) = Some (fault (codes "Clash") at)
+type_fault (typing.BadRange at) = Some (fault (codes "BadRange") at)
+type_fault (typing.TypeTooLarge at) = Some (fault (codes "TypeTooLarge") at)
+type_fault (typing.TooManyVariables at) = Some (fault (codes "TooManyVariables") at)
+type_fault (typing.StoreTooWide at) = Some (fault (codes "StoreTooWide") at)
+type_fault (typing.BadFlip at) = Some (fault (codes "BadFlip") at)
+type_fault typing.Mem = None
+
 -- the refusal is that of an error with a fault
 pub record IsBad {E : Type 0} (IsError : E → Type 0) (fault_of : E → Option Fault) (name bytes : List ℕ) (r : Refused) : Type 0 where
   pub error : E
@@ -74,10 +92,15 @@ abbrev pub TokensOf : List ℕ → List ℕ → Step (List Token)
 TokensOf name bytes (Ok tokens) = IsTokens bytes tokens
 TokensOf name bytes (Err r) = IsBad (IsFault bytes) token_fault name bytes r
 
--- the program that tokens are, or why they are none
+-- the source that tokens are, or why they are none
 abbrev pub SourceOf : List ℕ → List ℕ → List Token → Step SourceTree
 SourceOf name bytes tokens (Ok tree) = IsParsed bytes tokens tree
 SourceOf name bytes tokens (Err r) = IsBad (IsRefused bytes tokens) syntax_fault name bytes r
+
+-- the checked program that a source is, or its first broken type rule
+abbrev pub ProgramOf : List ℕ → List ℕ → SourceTree → Step ProgramTree
+ProgramOf name bytes tree (Ok p) = Typed tree p
+ProgramOf name bytes tree (Err r) = IsBad (IsBroken tree) type_fault name bytes r
 
 -- the form of a text, or that it has none
 abbrev pub FormOf : List ℕ → List ℕ → Step FirstForm
@@ -86,7 +109,7 @@ FormOf name bytes (Err r) = (r ≡ NotFirst name) × ((form : FirstForm) → IsF
 
 -- the form of a text that is a program
 unfoldable pub ProgramForm : List ℕ → List ℕ → Step FirstForm
-ProgramForm name bytes = After (TokensOf name bytes) (λ tokens. After (SourceOf name bytes tokens) (λ tree. FormOf name bytes))
+ProgramForm name bytes = After (TokensOf name bytes) (λ tokens. After (SourceOf name bytes tokens) (λ tree. After (ProgramOf name bytes tree) (λ p. FormOf name bytes)))
 
 -- the target of a text of the first form: its one variable
 abbrev pub first_target : FirstForm → List Item

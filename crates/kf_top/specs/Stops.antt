@@ -4,6 +4,8 @@ use Rattle.std.specs.declared.alloc.Global.{Global}
 use Rattle.kf_lex.specs.declared.token.Token.{Token}
 use Rattle.kf_ast.specs.declared.decl.Source.{Source}
 use Rattle.kf_ast.specs.Sources.{SourceTree, source_tree}
+use Rattle.kf_core.specs.declared.program.Program.{Program}
+use Rattle.kf_core.specs.Programs.{ProgramTree, program_tree}
 use Rattle.kf_core.specs.declared.first.First.{First}
 use Rattle.kf_core.specs.FirstForm.{FirstForm}
 use Rattle.kf_core.specs.FirstView.{form_of}
@@ -49,3 +51,6 @@ is_tokens tokens ts = tokens ≡ ts
 
 abbrev pub is_source : Source → SourceTree → Type 0
 is_source source tree = source_tree source ≡ tree
+
+abbrev pub is_program : Program → ProgramTree → Type 0
+is_program program p = program_tree program ≡ p

@@ -1,5 +1,6 @@
 ghost use Rattle.kf_top.specs.Ends.{AtMostOneAnswer};
 
+use kf_check::type_laws;
 use kf_lex::one_reading;
 use kf_parse::{grammar, refusals};
 
@@ -10,4 +11,5 @@ pub fn at_most_one_answer()
     one_reading();
     grammar();
     refusals();
+    type_laws();
 }

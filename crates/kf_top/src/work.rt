@@ -3,11 +3,14 @@ ghost use Rattle.std.specs.Option.{ForSome};
 ghost use Rattle.kf_core.specs.FirstForm.{IsFirst};
 ghost use Rattle.kf_core.specs.FirstView.{form_of};
 ghost use Rattle.kf_top.specs.Answer.{States};
+ghost use Rattle.kf_ast.specs.Sources.{source_tree};
+ghost use Rattle.kf_check.specs.Laws.{IsWellBuilt};
 ghost use Rattle.kf_lex.specs.Readings.{IsTokens};
-ghost use Rattle.kf_top.specs.Outcome.{Gives, TokensOf, SourceOf, FormOf, ProgramForm, source_of, HyperOutcome, TaskOutcome};
+ghost use Rattle.kf_parse.specs.Answers.{IsParsed};
+ghost use Rattle.kf_top.specs.Outcome.{Gives, TokensOf, SourceOf, ProgramOf, FormOf, ProgramForm, source_of, HyperOutcome, TaskOutcome};
 ghost use Rattle.kf_top.specs.Place.{line_at, column_at};
 ghost use Rattle.kf_top.specs.Task.{files_of_task};
-ghost use Rattle.kf_top.specs.Stops.{Answers, Causes, is_form, is_bytes, is_tokens, is_source};
+ghost use Rattle.kf_top.specs.Stops.{Answers, Causes, is_form, is_bytes, is_tokens, is_source, is_program};
 ghost use Rattle.kf_top.specs.declared.stops.Refusal.TheVariants as refusal;
 ghost use Rattle.kf_top.specs.declared.stops.Stop.TheVariants as stop;
 ghost use Rattle.kf_top.specs.Views.{shown, task_of_job, ShowsStatement};
@@ -18,10 +21,11 @@ use crate::stops::{Done, Refusal, Stop};
 use crate::texts::hyper_text;
 use crate::words::Job;
 use kf_ast::Source;
-use kf_core::{First, FirstError, read_first};
+use kf_check::{TypeError, check};
+use kf_core::{First, FirstError, Program, read_first};
 use kf_io::{Files, ReadError, read_whole};
 use kf_lex::{LexError, Tokens, lex};
-use kf_parse::{ParseError, parse};
+use kf_parse::{ParseError, grammar, parse};
 use std::alloc::Global;
 
 // The refusal of a text for a fault of this word at this byte.
@@ -64,16 +68,12 @@ fn tokens<'a>(alloc: Global, name: &'a str, bytes: &[u8]) -> Result<Tokens, Stop
     }
 }
 
-// The program that the tokens are.
-fn program<'a>(
-    alloc: Global,
-    name: &'a str,
-    bytes: &[u8],
-    tokens: &Tokens,
-) -> Result<Source, Stop<'a>>
+// The source that the tokens are.
+fn tree<'a>(alloc: Global, name: &'a str, bytes: &[u8], tokens: &Tokens) -> Result<Source, Stop<'a>>
     requires short { length bytes.now ≤ 1048576 }
     requires tokens { IsTokens bytes.now tokens.now }
     ensures answer { Answers is_source result (SourceOf name.now bytes.now tokens.now) }
+    ensures parsed { IfOk result (λ source. IsParsed bytes.now tokens.now (source_tree source)) }
     ensures causes { (before : List ℕ → ℕ) → Causes (name.now ∷ []) before before result }
 {
     match parse(alloc, bytes, tokens) {
@@ -82,6 +82,35 @@ fn program<'a>(
         Err(ParseError::Syntax { at }) => Err(bad_text(name, bytes, at, "Syntax")),
         Err(ParseError::Long { at }) => Err(bad_text(name, bytes, at, "Long")),
         Err(ParseError::Mem) => Err(Stop::Mem),
+    }
+}
+
+// The program that the source is.
+fn program<'a>(
+    alloc: Global,
+    name: &'a str,
+    bytes: &[u8],
+    source: &Source,
+) -> Result<Program, Stop<'a>>
+    requires short { length bytes.now ≤ 1048576 }
+    requires built { IsWellBuilt (source_tree source.now) }
+    ensures answer { Answers is_program result (ProgramOf name.now bytes.now (source_tree source.now)) }
+    ensures causes { (before : List ℕ → ℕ) → Causes (name.now ∷ []) before before result }
+{
+    match check(alloc, source) {
+        Ok(program) => Ok(program),
+        Err(TypeError::NoVariable { at }) => Err(bad_text(name, bytes, at, "NoVariable")),
+        Err(TypeError::Twice { at }) => Err(bad_text(name, bytes, at, "Twice")),
+        Err(TypeError::Unknown { at }) => Err(bad_text(name, bytes, at, "Unknown")),
+        Err(TypeError::Clash { at }) => Err(bad_text(name, bytes, at, "Clash")),
+        Err(TypeError::BadRange { at }) => Err(bad_text(name, bytes, at, "BadRange")),
+        Err(TypeError::TypeTooLarge { at }) => Err(bad_text(name, bytes, at, "TypeTooLarge")),
+        Err(TypeError::TooManyVariables { at }) => {
+            Err(bad_text(name, bytes, at, "TooManyVariables"))
+        }
+        Err(TypeError::StoreTooWide { at }) => Err(bad_text(name, bytes, at, "StoreTooWide")),
+        Err(TypeError::BadFlip { at }) => Err(bad_text(name, bytes, at, "BadFlip")),
+        Err(TypeError::Mem) => Err(Stop::Mem),
     }
 }
 
@@ -105,8 +134,10 @@ fn text<'a>(alloc: Global, name: &'a str, bytes: &[u8]) -> Result<First, Stop<'a
     ensures first { IfOk result (λ first. IsFirst bytes.now (form_of first)) }
     ensures causes { (before : List ℕ → ℕ) → Causes (name.now ∷ []) before before result }
 {
+    grammar();
     let tokens = tokens(alloc, name, bytes)?;
-    let _program = program(alloc, name, bytes, &tokens)?;
+    let source = tree(alloc, name, bytes, &tokens)?;
+    let _program = program(alloc, name, bytes, &source)?;
     form(alloc, name, bytes)
 }
 

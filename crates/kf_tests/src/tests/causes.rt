@@ -66,7 +66,12 @@ fn a_file_at_the_limit(rt: HostRuntime) -> Result<(), Fail> {
         out: "",
         err: "kuifje: p.kf: longer than 1048576 bytes\n",
     };
-    for (size, want) in [(1_048_576, NOT_FIRST), (1_048_577, too_long)] {
+    let blank = End {
+        status: 5,
+        out: "",
+        err: "kuifje: p.kf:1:1: NoVariable\n",
+    };
+    for (size, want) in [(1_048_576, blank), (1_048_577, too_long)] {
         let bytes = vec![in alloc; b' '; size]?;
         let mut files = SureFiles::new(one_file(alloc, bytes)?, 65536);
         ends(&rt, HYPER, &mut files, want)?;
@@ -96,11 +101,8 @@ fn words_that_ask_for_nothing(rt: HostRuntime) -> Result<(), Fail> {
 #[test]
 fn texts_not_of_the_first_form(rt: HostRuntime) -> Result<(), Fail> {
     for text in [
-        "",
-        "\n",
         "var x : 0..3 := uniform 0..2;\n",
         "var x : 0..03 := uniform 0..03;\n",
-        "var x : 0..65536 := uniform 0..65536;\n",
         "var y : 0..3 := uniform 0..3;\n",
         "var x  : 0..3 := uniform 0..3;\n",
         "var x : 0..3 := uniform 0..3;",
@@ -111,7 +113,6 @@ fn texts_not_of_the_first_form(rt: HostRuntime) -> Result<(), Fail> {
         "var x : 0..3 := uniform 0..3;\nobserve x mod 02;\n",
         "var x : 0..3 := uniform 0..3;\nobserve x  mod 2;\n",
         "var x : 0..3 := uniform 0..3;\nobserve x mod 1000000000;\n",
-        "observe x mod 2;\n",
     ] {
         let mut files = text_files(rt.alloc(), text, 65536, &[])?;
         ends(&rt, HYPER, &mut files, NOT_FIRST)?;

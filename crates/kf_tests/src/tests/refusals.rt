@@ -3,7 +3,11 @@ use crate::tests::*;
 use kf_io::SureFiles;
 
 // A text of these bytes ends with status 5 and this line.
-fn refused(rt: &(impl Abort + AllocGlobal), bytes: Vec<u8>, err: &str) -> Result<(), Fail> {
+pub(super) fn refused(
+    rt: &(impl Abort + AllocGlobal),
+    bytes: Vec<u8>,
+    err: &str,
+) -> Result<(), Fail> {
     let mut files = SureFiles::new(one_file(rt.alloc(), bytes)?, 65536);
     let want = End {
         status: 5,
@@ -76,11 +80,11 @@ fn refuses(rt: &(impl Abort + AllocGlobal), pieces: &[(&str, u32)], err: &str) -
 
 #[test]
 fn brackets_up_to_the_limit(rt: HostRuntime) -> Result<(), Fail> {
-    let form = "kuifje: p.kf: not of the first form\n";
+    let parsed = "kuifje: p.kf:1:1: NoVariable\n";
     refuses(
         &rt,
         &[("observe ", 1), ("(", 64), ("1", 1), (")", 64), (";", 1)],
-        form,
+        parsed,
     )?;
     refuses(
         &rt,
@@ -108,8 +112,8 @@ fn brackets_up_to_the_limit(rt: HostRuntime) -> Result<(), Fail> {
 
 #[test]
 fn expressions_up_to_the_limit(rt: HostRuntime) -> Result<(), Fail> {
-    let form = "kuifje: p.kf: not of the first form\n";
-    refuses(&rt, &[("observe -1", 1), (" + 1", 499), (";", 1)], form)?;
+    let parsed = "kuifje: p.kf:1:1: NoVariable\n";
+    refuses(&rt, &[("observe -1", 1), (" + 1", 499), (";", 1)], parsed)?;
     refuses(
         &rt,
         &[("var x : 0..3 := 1", 1), (" + 1", 500), (";", 1)],
@@ -139,8 +143,8 @@ fn expressions_up_to_the_limit(rt: HostRuntime) -> Result<(), Fail> {
 
 #[test]
 fn long_texts(rt: HostRuntime) -> Result<(), Fail> {
-    let form = "kuifje: p.kf: not of the first form\n";
-    refuses(&rt, &[("skip;", 200_000)], form)?;
+    let parsed = "kuifje: p.kf:1:1: NoVariable\n";
+    refuses(&rt, &[("skip;", 200_000)], parsed)?;
     refuses(
         &rt,
         &[("observe ", 1), ("not ", 250_000), ("true;", 1)],

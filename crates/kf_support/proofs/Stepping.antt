@@ -1,0 +1,165 @@
+-- One step from all stores, store by store.
+use Rattle.std.proofs.Common.{◌≡◌, ℕ, zero, suc, ◌*◌, ◌<◌, ◌≤◌, Bool, true, false, List, [], ◌∷◌, Option, Some, Ok, Err, refl, sym, ap, ◌∙◌, subst, arith, if◌then◌else◌}
+use Rattle.kf_core.specs.Choices.{Weighted, total}
+use Rattle.kf_core.specs.Runs.{LoopBound, Tried}
+use Rattle.kf_core.specs.Support.{Passed, then_pass, each_moved, can_be, bounded}
+use Rattle.kf_support.specs.declared.faults.Halt.{Halt}
+use Rattle.kf_support.specs.declared.faults.Halt.TheVariants as halt
+use Rattle.kf_support.specs.Answers.{AreWays, IsHaltOf}
+use Rattle.kf_support.specs.Carried.{Reached, Lead, capped, with_way, with_ways, carry_step, staying, guard_lead, last_lead}
+use Rattle.kf_support.proofs.Adding.{IsWay, IsScale, capped_scale, way_added, first_way}
+
+pub passed_value : {A B : Type 0} (r : Passed A) (f : A → B) (y : B) → then_pass r (λ x. Ok (f x)) ≡ Ok y → (x : A) × (r ≡ Ok x) × (y ≡ f x)
+passed_value (Ok x) f y e = let same : y ≡ f x = (cc) in (x, refl, same)
+passed_value (Err g) f y e = absurd (cc)
+
+-- ---- where the choices in a store lead
+
+-- the moves that are left, beside those that are made
+pub record MovesOn (at scale size : ℕ) (left : List (Option ℕ)) (whole : Passed Reached) (now : Reached) : Type 0 where
+  pub all : then_pass (each_moved at left) (λ ms. Ok (with_ways now ms scale)) ≡ whole
+  pub ways : AreWays size now
+
+way_first : (r : Passed (List ℕ)) (now : Reached) (m scale : ℕ)
+    → then_pass (then_pass r (λ others. Ok (m ∷ others))) (λ ms. Ok (with_ways now ms scale)) ≡ then_pass r (λ ms. Ok (with_ways (with_way now m scale) ms scale))
+way_first (Ok ms) now m scale = refl
+way_first (Err f) now m scale = refl
+
+module _ (at scale size : ℕ) (whole : Passed Reached) (now : Reached) where
+  pub moves_step : (m : ℕ) (ms left : List (Option ℕ)) → left ≡ Some m ∷ ms → m < size → IsScale scale → MovesOn at scale size left whole now
+      → MovesOn at scale size ms whole (with_way now m scale)
+  moves_step m ms left next below is had = record {
+    all = sym (way_first (each_moved at ms) now m scale) ∙ (ap (λ l. then_pass (each_moved at l) (λ ks. Ok (with_ways now ks scale))) (sym next) ∙ had.all);
+    ways = way_added size m scale now below is had.ways;
+  }
+
+-- ---- the stores that are left, beside those that others lead to
+
+pub record CarriesOn (lead : Lead) (size : ℕ) (left : Reached) (whole : Passed Reached) (now : Reached) : Type 0 where
+  pub all : carry_step lead now left ≡ whole
+  pub ways : AreWays size now
+  pub rest : AreWays size left
+
+-- a store's scale, times that of its choices
+pub grown_scale : (scale n : ℕ) → 1 ≤ scale → 1 ≤ n → IsScale (capped (scale * n))
+grown_scale scale n some more = capped_scale (scale * n) (some_product scale n some more)
+  where
+    some_product : (a b : ℕ) → 1 ≤ a → 1 ≤ b → 1 ≤ a * b
+    some_product zero b p q = absurd (omega arith)
+    some_product (suc a) zero p q = absurd (omega arith)
+    some_product (suc a) (suc b) p q = omega arith
+
+module _ (lead : Lead) (size : ℕ) (whole : Passed Reached) (now : Reached) (e : ℕ × ℕ) (es left : Reached) (next : left ≡ e ∷ es) (had : CarriesOn lead size left whole now) where
+  pub here : IsWay size e
+  here = (first_way size e es left next had.rest).0
+
+  opened : carry_step lead now (e ∷ es) ≡ whole
+  opened = ap (carry_step lead now) (sym next) ∙ had.all
+
+  pub carries_step : (to : List ℕ) (n : ℕ) (after : Reached) → lead e.0 ≡ Ok (to, n) → after ≡ with_ways now to (capped (e.1 * n)) → AreWays size after
+      → CarriesOn lead size es whole after
+  carries_step to n after leads is ways = record {
+    all = ap (λ l. carry_step lead l es) is ∙ (ap (λ (r : Passed (List ℕ × ℕ)). then_pass r (λ k. carry_step lead (with_ways now k.0 (capped (e.1 * k.1))) es)) (sym leads) ∙ opened);
+    ways = ways;
+    rest = (first_way size e es left next had.rest).1;
+  }
+
+  -- the first fault
+  pub carries_fault : (h : Halt) → IsHaltOf (lead e.0) h → IsHaltOf whole h
+  carries_fault (halt.Fault kind at) is = sym opened ∙ ap (λ (r : Passed (List ℕ × ℕ)). then_pass r (λ k. carry_step lead (with_ways now k.0 (capped (e.1 * k.1))) es)) is
+  carries_fault halt.Scale is = is
+  carries_fault halt.Mem is = tt
+
+-- ---- a fault of what comes first
+
+pub then_fault : {A B : Type 0} (r : Passed A) (next : A → Passed B) (h : Halt) → IsHaltOf r h → IsHaltOf (then_pass r next) h
+then_fault r next (halt.Fault kind at) is = ap (λ r. then_pass r next) is
+then_fault r next halt.Scale is = is
+then_fault r next halt.Mem is = tt
+
+pub then_value : {A B : Type 0} (r : Passed A) (next : A → Passed B) (x : A) → r ≡ Ok x → then_pass r next ≡ next x
+then_value r next x is = ap (λ r. then_pass r next) is
+
+pub fault_same : {A : Type 0} (r s : Passed A) (h : Halt) → r ≡ s → IsHaltOf s h → IsHaltOf r h
+fault_same r s h same is = subst (λ t. IsHaltOf t h) (sym same) is
+
+-- ---- a store that leads to itself
+
+-- to these stores, by this scale
+abbrev pub led : List ℕ → ℕ → Passed (List ℕ × ℕ)
+led to n = Ok (to, n)
+
+pub same_value : (r : Passed (List Weighted)) (ws : List Weighted) (to : List Weighted → List ℕ) (n : ℕ) → r ≡ Ok ws → n ≡ total ws
+    → then_pass {B = List ℕ × ℕ} r (λ ws. Ok (to ws, total ws)) ≡ led (to ws) n
+same_value r ws to n is sum = then_value {B = List ℕ × ℕ} r (λ ws. Ok (to ws, total ws)) ws is ∙ ap (led (to ws)) (sym sum)
+
+-- where something is chosen, a store stays
+pub stays : (n : ℕ) (ws : List Weighted) → 1 ≤ total ws → staying n ws ≡ n ∷ []
+stays n [] some = absurd (omega (arith, some))
+stays n (w ∷ ws) some = refl
+
+-- ---- a store that leads to those behind its choices
+
+module _ (r : Passed (List Weighted)) (moves : List Weighted → Passed (List ℕ)) (ws : List Weighted) (is : r ≡ Ok ws) where
+  abbrev lead_of : Passed (List Weighted) → Passed (List ℕ × ℕ)
+  lead_of r = then_pass {B = List ℕ × ℕ} r (λ ws. then_pass {B = List ℕ × ℕ} (moves ws) (λ ms. Ok (ms, total ws)))
+
+  pub moved_value : (ms : List ℕ) (n : ℕ) → moves ws ≡ Ok ms → n ≡ total ws → lead_of r ≡ led ms n
+  moved_value ms n all sum =
+      ap lead_of is ∙ (ap (λ q. then_pass {B = List ℕ × ℕ} q (λ ms. Ok (ms, total ws))) all ∙ ap (led ms) (sym sum))
+
+  pub moved_fault : (h : Halt) → IsHaltOf (moves ws) h → IsHaltOf (lead_of r) h
+  moved_fault h fault = fault_same (lead_of r) (lead_of (Ok ws)) h (ap lead_of is) (then_fault (moves ws) (λ ms. led ms (total ws)) h fault)
+
+pub self_added : (size n scale : ℕ) (b : Bool) (now after : Reached) → n < size → IsScale scale → after ≡ with_ways now (if b then n ∷ [] else []) scale → AreWays size now → AreWays size after
+self_added size n scale true now after below is same ways = subst (AreWays size) (sym same) (way_added size n scale now below is ways)
+self_added size n scale false now after below is same ways = subst (AreWays size) (sym same) ways
+
+module _ (b : Bool) (guard : ℕ → Tried) (size : ℕ) (whole : Passed Reached) (now : Reached) (e : ℕ × ℕ) (es left : Reached) (next : left ≡ e ∷ es)
+    (had : CarriesOn (guard_lead b guard) size left whole now) (ws : List Weighted) (n : ℕ) (is : guard e.0 ≡ Ok ws) (sum : n ≡ total ws) (some : 1 ≤ n) where
+  pub guard_step : (there : Bool) (after : Reached) → there ≡ can_be b (Ok ws) → after ≡ with_ways now (if there then e.0 ∷ [] else []) (capped (e.1 * n))
+      → CarriesOn (guard_lead b guard) size es whole after
+  guard_step there after test same =
+      let way = (first_way size e es left next had.rest).0 in
+      let to : List Weighted → List ℕ = λ ws. if can_be b (Ok ws) then e.0 ∷ [] else [] in
+      let known : after ≡ with_ways now (to ws) (capped (e.1 * n)) = same ∙ ap (λ (t : Bool). with_ways now (if t then e.0 ∷ [] else []) (capped (e.1 * n))) test in
+      carries_step (guard_lead b guard) size whole now e es left next had (to ws) n after (same_value (guard e.0) ws to n is sum) known
+      (self_added size e.0 (capped (e.1 * n)) there now after way.0 (grown_scale e.1 n way.1.0 some) same had.ways)
+
+-- ---- a guard that must be false
+
+abbrev stop : ℕ → ℕ → Bool → Passed (List ℕ)
+stop at n true = Err (record { cause = LoopBound; at = at })
+stop at n false = Ok (n ∷ [])
+
+bounded_is : (at n : ℕ) (ws : List Weighted) (t : Bool) → can_be true (Ok ws) ≡ t → bounded at n (Ok ws) ≡ stop at n t
+bounded_is at n ws t test = ap (stop at n) test
+
+module _ (at : ℕ) (guard : ℕ → Tried) (n : ℕ) where
+  last_leaves : (ws : List Weighted) → guard n ≡ Ok ws → can_be true (Ok ws) ≡ false → last_lead at guard n ≡ guard_lead false guard n
+  last_leaves ws is test = ap (λ r. then_pass r (λ _. guard_lead false guard n)) (ap (bounded at n) is ∙ bounded_is at n ws false test)
+
+module _ (at : ℕ) (guard : ℕ → Tried) (size : ℕ) (whole : Passed Reached) (now : Reached) (e : ℕ × ℕ) (es left : Reached) (next : left ≡ e ∷ es)
+    (had : CarriesOn (last_lead at guard) size left whole now) (ws : List Weighted) (n : ℕ) (is : guard e.0 ≡ Ok ws) (sum : n ≡ total ws) (some : 1 ≤ n)
+    (never : can_be true (Ok ws) ≡ false) where
+  pub last_step : (there : Bool) (after : Reached) → there ≡ can_be false (Ok ws) → after ≡ with_ways now (if there then e.0 ∷ [] else []) (capped (e.1 * n))
+      → CarriesOn (last_lead at guard) size es whole after
+  last_step there after test same =
+      let way = (first_way size e es left next had.rest).0 in
+      let to : List Weighted → List ℕ = λ ws. if can_be false (Ok ws) then e.0 ∷ [] else [] in
+      let known : after ≡ with_ways now (to ws) (capped (e.1 * n)) = same ∙ ap (λ (t : Bool). with_ways now (if t then e.0 ∷ [] else []) (capped (e.1 * n))) test in
+      carries_step (last_lead at guard) size whole now e es left next had (to ws) n after (last_leaves at guard e.0 ws is never ∙ same_value (guard e.0) ws to n is sum) known
+      (self_added size e.0 (capped (e.1 * n)) there now after way.0 (grown_scale e.1 n way.1.0 some) same had.ways)
+
+-- ---- a store that leads to one other
+
+pub same_scale : (s : ℕ) → IsScale s → s ≡ capped (s * 1)
+same_scale s is = omega (arith, is.0, is.1)
+
+module _ (lead : Lead) (size : ℕ) (whole : Passed Reached) (now : Reached) (e : ℕ × ℕ) (es left : Reached) (next : left ≡ e ∷ es) (had : CarriesOn lead size left whole now)
+    (to : ℕ) (leads : lead e.0 ≡ led (to ∷ []) 1) (below : to < size) where
+  pub single_step : (after : Reached) → after ≡ with_way now to e.1 → CarriesOn lead size es whole after
+  single_step after same =
+      let way = (first_way size e es left next had.rest).0 in
+      carries_step lead size whole now e es left next had (to ∷ []) 1 after leads (same ∙ ap (with_way now to) (same_scale e.1 way.1))
+      (subst (AreWays size) (sym same) (way_added size to e.1 now below way.1 had.ways))

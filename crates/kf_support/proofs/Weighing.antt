@@ -1,0 +1,72 @@
+-- What choices are where a pass is defined.
+use Rattle.std.proofs.Common.{Bool, true, false, not, ◌||◌, ◌≡◌, ℕ, ◌+◌, ◌<◌, ◌≤◌, List, [], ◌∷◌, length, map, drop, get_or, All, Ok, Err, refl, sym, ap, ◌∙◌, arith}
+use Rattle.std.proofs.lemmas.List.Elements.{All-head, recursion_from_All}
+use Rattle.std.proofs.lemmas.List.Sums.{sum_by-cons}
+use Rattle.kf_value.specs.Values.{ValueTree}
+use Rattle.kf_value.proofs.ListLemmas.{each_at, mapped_read, left_step}
+use Rattle.kf_core.specs.Dxs.{DxShape}
+use Rattle.kf_core.specs.Choices.{Weighted, Chosen, with_listed, listed, lowest, gathered, choices, total}
+use Rattle.kf_core.specs.ChoiceLaws.{ChoicesAreShares}
+use Rattle.std.specs.Bool.{beq}
+use Rattle.std.specs.List.{list_any}
+use Rattle.kf_value.specs.Views.{value_tree}
+use Rattle.kf_ops.specs.Values.{truth}
+use Rattle.kf_core.specs.Support.{can_be}
+use Rattle.kf_core.specs.Runs.{placed_at}
+use Rattle.kf_eval.specs.Choices.{IsChoiceFaultOf, weighted_tree}
+use Rattle.kf_eval.specs.declared.choice.Weighted as coded
+use Rattle.kf_eval.specs.declared.choice.ChoiceError.{ChoiceError}
+use Rattle.kf_eval.specs.declared.choice.ChoiceError.TheVariants as error
+use Rattle.kf_support.specs.Answers.{IsHaltOf, halt_of}
+
+pub fault_placed : (defined : Chosen) (e : ChoiceError) (at : ℕ) → IsChoiceFaultOf defined e → IsHaltOf (placed_at at defined) (halt_of e at)
+fault_placed defined error.DivZero at is = ap (placed_at at) is
+fault_placed defined error.ArithWide at is = ap (placed_at at) is
+fault_placed defined error.NoWeight at is = ap (placed_at at) is
+fault_placed defined error.NegativeWeight at is = ap (placed_at at) is
+fault_placed defined error.RangeLong at is = ap (placed_at at) is
+fault_placed defined error.Mem at is = tt
+
+listed_some : (r : Chosen) (ws : List Weighted) → with_listed r (λ ls. Ok (lowest (gathered ls))) ≡ Ok ws → (ls : List Weighted) × (r ≡ Ok ls)
+listed_some (Ok ls) ws h = (ls, refl)
+listed_some (Err f) ws h = absurd (cc)
+
+positive_total : (ws : List Weighted) → All (λ w. 0 < w.weight) ws → 1 ≤ length ws → 1 ≤ total ws
+positive_total [] all some = absurd (omega arith)
+positive_total (w ∷ ws) all some =
+    let first : 0 < w.weight = All-head (λ w. 0 < w.weight) w ws all in
+    omega (arith, first, sum_by-cons (λ (w : Weighted). w.weight) w ws)
+
+pub some_total : ChoicesAreShares → (s : List ValueTree) (d : DxShape) (ws : List Weighted) → choices s d ≡ Ok ws → 1 ≤ length ws → 1 ≤ total ws
+some_total shares s d ws chosen some =
+    let ls = listed_some (listed s d) ws chosen in
+    positive_total ws (shares s d ls.0 ws ls.1 chosen).positive some
+
+-- what holds of all choices holds of the one that is read
+pub choice_holds : (P : Weighted → Type 0) (cs : List coded.Weighted) (i : ℕ) (c : coded.Weighted) → i < length cs → c ≡ get_or cs i c → All P (map weighted_tree cs) → P (weighted_tree c)
+choice_holds P cs i c within read all =
+    each_at P (map weighted_tree cs) i (weighted_tree c) (recursion_from_All P (map weighted_tree cs) all) (mapped_read weighted_tree cs i c within read)
+
+-- what the choice that is read gives is first of what those give that are left
+pub choice_next : {X : Type 0} (f : Weighted → X) (cs : List coded.Weighted) (i : ℕ) (c : coded.Weighted) (x : X) → i < length cs → c ≡ get_or cs i c → x ≡ f (weighted_tree c)
+    → map f (map weighted_tree (drop i cs)) ≡ x ∷ map f (map weighted_tree (drop (i + 1) cs))
+choice_next f cs i c x within read is = ap (map f) (left_step weighted_tree cs i c within read) ∙ ap (λ y. y ∷ map f (map weighted_tree (drop (i + 1) cs))) (sym is)
+
+-- ---- what a guard can be
+
+abbrev pub is_alike : Bool → coded.Weighted → Bool
+is_alike b c = beq (truth (value_tree c.value)) b
+
+pub can_be_any : (b : Bool) (cs : List coded.Weighted) → list_any (is_alike b) cs ≡ can_be b (Ok (map weighted_tree cs))
+can_be_any true [] = refl
+can_be_any false [] = refl
+can_be_any true (c ∷ cs) = alike_true (truth (value_tree c.value)) (can_be_any true cs)
+  where
+    alike_true : (t : Bool) {s u : Bool} → s ≡ u → (beq t true || s) ≡ (t || u)
+    alike_true true h = refl
+    alike_true false h = h
+can_be_any false (c ∷ cs) = alike_false (truth (value_tree c.value)) (can_be_any false cs)
+  where
+    alike_false : (t : Bool) {s u : Bool} → s ≡ u → (beq t false || s) ≡ (not t || u)
+    alike_false true h = h
+    alike_false false h = refl

@@ -1,0 +1,14 @@
+//! The support pass: a checked program that meets no fault is cleared, with its scale.
+#![tactic(auto)]
+
+mod cleared;
+mod clearing;
+mod faults;
+mod laws;
+mod passes;
+mod steps;
+mod ways;
+
+pub use cleared::Cleared;
+pub use clearing::clear;
+pub use faults::{Halt, RunFault};

@@ -1,0 +1,308 @@
+//! One step from all stores that are reached.
+
+ghost use Rattle.std.specs.Prelude.{◌≡◌, ℕ, ◌<◌, ◌≤◌, ◌^◌, [], ◌∷◌, if◌then◌else◌, true, false, Ok, length, map, get_or, slice_get, slice_set, Some, IfOk, IfErr, IfSome, OnOk};
+ghost use Rattle.std.specs.List.{All};
+ghost use Rattle.kf_value.specs.Values.{IsWellFormed, Truth};
+ghost use Rattle.kf_value.specs.Views.{value_tree};
+ghost use Rattle.kf_value.specs.Kinds.{KindTree, TruthKind};
+ghost use Rattle.kf_value.specs.Shapes.{shape_types, shape_sizes};
+ghost use Rattle.kf_value.specs.Types.{product};
+ghost use Rattle.kf_ops.specs.Values.{truth as truth_of};
+ghost use Rattle.kf_core.specs.Checked.{DistKinded, IsChecked};
+ghost use Rattle.kf_core.specs.Dxs.{dx_tree};
+ghost use Rattle.kf_core.specs.Programs.{program_tree};
+ghost use Rattle.kf_core.specs.Choices.{total};
+ghost use Rattle.kf_core.specs.Runs.{copied, replaced, store_at, tried};
+ghost use Rattle.kf_core.specs.Support.{can_be as can_be_of, each_moved, then_pass};
+ghost use Rattle.kf_eval.specs.Choices.{weighted_tree, weighted_trees};
+ghost use Rattle.kf_eval.specs.Kinds.{shape_kinds};
+ghost use Rattle.kf_support.specs.Answers.{AnswersPass, AreWays, IsHaltOf};
+ghost use Rattle.kf_support.specs.Carried.{carry_step, with_ways, assign_lead, observe_lead, guard_lead, last_lead, copy_lead};
+
+use crate::faults::{Halt, RunFault, fault_of};
+use crate::ways::{add_way, scaled};
+use kf_core::{Dx, Program, choice_laws};
+use kf_eval::{Choice, Weighted, choices};
+use kf_value::{Mem, Shape, Value, value_at};
+use std::alloc::Global;
+use std::collections::BTreeMap;
+
+/// The stores of a guard that can be true, and those of one that can be false.
+#[derive(Drop)]
+pub struct Branches {
+    pub taken: BTreeMap<u64, u128>,
+    pub left: BTreeMap<u64, u128>,
+}
+
+/// The store with the variable at `slot` changed; none where the value isn't of its type.
+fn moved(shape: &Shape, slot: usize, store: u64, value: &Value) -> Option<u64>
+    requires variable { slot < length (shape_types shape.now) }
+    requires store { store < product (shape_sizes shape.now) }
+    requires formed { IsWellFormed (value_tree value.now) }
+    ensures moved { result ≡ replaced (shape_types shape.now) slot (value_tree value.now) store }
+    ensures below { IfSome result (λ after. after < product (shape_sizes shape.now)) }
+{
+    match shape.with_slot(store, slot, value) {
+        Ok(after) => Some(after),
+        Err(_) => None,
+    }
+}
+
+/// What the distribution chooses in a store, or its fault as one of the pass.
+fn choices_in(alloc: Global, shape: &Shape, dist: &Dx, store: u64) -> Result<Choice, Halt>
+    requires store { store < product (shape_sizes shape.now) }
+    requires kinded { (k : KindTree) × DistKinded (shape_kinds shape.now) (dx_tree dist.now) k }
+    ensures choice { IfOk result (λ c. tried (shape_types shape.now) (dx_tree dist.now) store ≡ Ok (weighted_trees c)) }
+    ensures total { IfOk result (λ c. c.total ≡ total (weighted_trees c)) }
+    ensures some { IfOk result (λ c. 1 ≤ c.total) }
+    ensures formed { IfOk result (λ c. All (λ w. IsWellFormed w.value) (weighted_trees c)) }
+    ensures fault { IfErr result (λ e. IsHaltOf (tried (shape_types shape.now) (dx_tree dist.now) store) e) }
+{
+    choice_laws();
+    match choices(alloc, dist, shape, store) {
+        Ok(choice) => Ok(choice),
+        Err(error) => Err(fault_of(error, dist.at)),
+    }
+}
+
+/// Adds a way to the store behind each choice.
+fn add_moved(
+    shape: &Shape,
+    slot: usize,
+    at: u32,
+    store: u64,
+    choices: &[Weighted],
+    scale: u128,
+    next: &mut BTreeMap<u64, u128>,
+) -> Result<(), Halt>
+    requires variable { slot < length (shape_types shape.now) }
+    requires store { store < product (shape_sizes shape.now) }
+    requires formed { All (λ w. IsWellFormed w.value) (map weighted_tree choices.now) }
+    requires some { 1 ≤ scale }
+    requires told { scale ≤ 2 ^ 127 }
+    requires ways { AreWays (product (shape_sizes shape.now)) next.old.entries }
+    ensures moved { OnOk result (then_pass (each_moved at (map (λ w. replaced (shape_types shape.now) slot w.value store) (map weighted_tree choices.now)))
+        (λ ms. Ok (with_ways next.old.entries ms scale)) ≡ Ok next.new.entries) }
+    ensures ways { OnOk result (AreWays (product (shape_sizes shape.now)) next.new.entries) }
+    ensures fault { IfErr result (λ e. IsHaltOf (each_moved at (map (λ w. replaced (shape_types shape.now) slot w.value store) (map weighted_tree choices.now))) e) }
+{
+    for choice in choices {
+        let Some(after) = moved(shape, slot, store, &choice.value) else {
+            return Err(Halt::Fault {
+                kind: RunFault::OutOfRange,
+                at,
+            });
+        };
+        add_way(next, after, scale)?;
+    }
+    Ok(())
+}
+
+/// Where an assignment to the variable at `slot` leads.
+pub fn assign(
+    alloc: Global,
+    shape: &Shape,
+    slot: usize,
+    dist: &Dx,
+    from: &BTreeMap<u64, u128>,
+) -> Result<BTreeMap<u64, u128>, Halt>
+    requires variable { slot < length (shape_types shape.now) }
+    requires kinded { (k : KindTree) × DistKinded (shape_kinds shape.now) (dx_tree dist.now) k }
+    requires ways { AreWays (product (shape_sizes shape.now)) from.now.entries }
+    ensures answer { AnswersPass result (carry_step (assign_lead (shape_types shape.now) slot (dx_tree dist.now)) [] from.now.entries) }
+    ensures ways { IfOk result (λ m. AreWays (product (shape_sizes shape.now)) m.entries) }
+{
+    let mut next = BTreeMap::new(alloc);
+    for (store, scale) in from {
+        let choice = choices_in(alloc, shape, dist, *store)?;
+        let grown = scaled(*scale, choice.total);
+        add_moved(
+            shape,
+            slot,
+            dist.at,
+            *store,
+            choice.items.as_slice(),
+            grown,
+            &mut next,
+        )?;
+    }
+    Ok(next)
+}
+
+/// The same stores behind an observation.
+pub fn observe(
+    alloc: Global,
+    shape: &Shape,
+    dist: &Dx,
+    from: &BTreeMap<u64, u128>,
+) -> Result<BTreeMap<u64, u128>, Halt>
+    requires kinded { (k : KindTree) × DistKinded (shape_kinds shape.now) (dx_tree dist.now) k }
+    requires ways { AreWays (product (shape_sizes shape.now)) from.now.entries }
+    ensures answer { AnswersPass result (carry_step (observe_lead (shape_types shape.now) (dx_tree dist.now)) [] from.now.entries) }
+    ensures ways { IfOk result (λ m. AreWays (product (shape_sizes shape.now)) m.entries) }
+{
+    let mut next = BTreeMap::new(alloc);
+    for (store, scale) in from {
+        let choice = choices_in(alloc, shape, dist, *store)?;
+        add_way(&mut next, *store, scaled(*scale, choice.total))?;
+    }
+    Ok(next)
+}
+
+/// Whether some choice is true, or false.
+fn can_be(choices: &[Weighted], truth: bool) -> bool
+    ensures { result ≡ can_be_of truth (Ok (map weighted_tree choices.now)) }
+{
+    choices.iter().any(|choice| is_true(&choice.value) == truth)
+}
+
+fn is_true(value: &Value) -> bool
+    ensures { result ≡ truth_of (value_tree value.now) }
+{
+    match value {
+        Value::Bool(truth) => *truth,
+        _ => false,
+    }
+}
+
+/// Adds a way to a store where `there` says so.
+fn add_if(
+    reached: &mut BTreeMap<u64, u128>,
+    there: bool,
+    store: u64,
+    scale: u128,
+) -> Result<(), Mem>
+    requires ways { (size : ℕ) × AreWays size reached.old.entries }
+    requires some { 1 ≤ scale }
+    ensures { OnOk result (reached.new.entries ≡ with_ways reached.old.entries (if there then store ∷ [] else []) scale) }
+{
+    if there {
+        add_way(reached, store, scale)?;
+    }
+    Ok(())
+}
+
+/// The stores in which a guard can be true, and beside `left` those in which it can be false.
+pub fn guard(
+    alloc: Global,
+    shape: &Shape,
+    dist: &Dx,
+    from: &BTreeMap<u64, u128>,
+    left: BTreeMap<u64, u128>,
+) -> Result<Branches, Halt>
+    requires kinded { DistKinded (shape_kinds shape.now) (dx_tree dist.now) TruthKind }
+    requires ways { AreWays (product (shape_sizes shape.now)) from.now.entries }
+    requires left_ways { AreWays (product (shape_sizes shape.now)) left.entries }
+    ensures taken { IfOk result (λ b. carry_step (guard_lead true (tried (shape_types shape.now) (dx_tree dist.now))) [] from.now.entries ≡ Ok b.taken.entries) }
+    ensures left { IfOk result (λ b. carry_step (guard_lead false (tried (shape_types shape.now) (dx_tree dist.now))) left.entries from.now.entries ≡ Ok b.left.entries) }
+    ensures fault { IfErr result (λ e. IsHaltOf (carry_step (guard_lead true (tried (shape_types shape.now) (dx_tree dist.now))) [] from.now.entries) e) }
+    ensures ways { IfOk result (λ b. AreWays (product (shape_sizes shape.now)) b.taken.entries × AreWays (product (shape_sizes shape.now)) b.left.entries) }
+{
+    let mut taken = BTreeMap::new(alloc);
+    let mut left = left;
+    for (store, scale) in from {
+        let choice = choices_in(alloc, shape, dist, *store)?;
+        let grown = scaled(*scale, choice.total);
+        let choices = choice.items.as_slice();
+        add_if(&mut taken, can_be(choices, true), *store, grown)?;
+        add_if(&mut left, can_be(choices, false), *store, grown)?;
+    }
+    Ok(Branches { taken, left })
+}
+
+/// Beside `left` the stores in which a guard is false, which it must be in all of them.
+pub fn last_guard(
+    alloc: Global,
+    shape: &Shape,
+    dist: &Dx,
+    from: &BTreeMap<u64, u128>,
+    left: BTreeMap<u64, u128>,
+) -> Result<BTreeMap<u64, u128>, Halt>
+    requires kinded { DistKinded (shape_kinds shape.now) (dx_tree dist.now) TruthKind }
+    requires ways { AreWays (product (shape_sizes shape.now)) from.now.entries }
+    requires left_ways { AreWays (product (shape_sizes shape.now)) left.entries }
+    ensures answer { AnswersPass result (carry_step (last_lead dist.now.at (tried (shape_types shape.now) (dx_tree dist.now))) left.entries from.now.entries) }
+    ensures ways { IfOk result (λ m. AreWays (product (shape_sizes shape.now)) m.entries) }
+{
+    let mut left = left;
+    for (store, scale) in from {
+        let choice = choices_in(alloc, shape, dist, *store)?;
+        let choices = choice.items.as_slice();
+        if can_be(choices, true) {
+            return Err(Halt::Fault {
+                kind: RunFault::LoopBound,
+                at: dist.at,
+            });
+        }
+        add_if(
+            &mut left,
+            can_be(choices, false),
+            *store,
+            scaled(*scale, choice.total),
+        )?;
+    }
+    Ok(left)
+}
+
+/// The value of a variable in a store.
+fn value_in(alloc: Global, shape: &Shape, store: u64, i: usize) -> Result<Value, Mem>
+    requires store { store < product (shape_sizes shape.now) }
+    requires within { i < length (shape_types shape.now) }
+    ensures value { IfOk result (λ v. slice_get (store_at (shape_types shape.now) store) i ≡ Some (value_tree v)) }
+    ensures formed { IfOk result (λ v. IsWellFormed (value_tree v)) }
+{
+    let ty = &shape.types().as_slice()[i];
+    value_at(alloc, ty, shape.slot(store, i))
+}
+
+/// The store where the variable `to` has the value of `from`, which is of its type.
+fn copied_to(alloc: Global, shape: &Shape, store: u64, from: usize, to: usize) -> Result<u64, Mem>
+    requires store { store < product (shape_sizes shape.now) }
+    requires from { from < length (shape_types shape.now) }
+    requires to { to < length (shape_types shape.now) }
+    requires alike { slice_get (shape_types shape.now) to ≡ slice_get (shape_types shape.now) from }
+    ensures copied { IfOk result (λ after. store_at (shape_types shape.now) after
+        ≡ slice_set (store_at (shape_types shape.now) store) to (get_or (store_at (shape_types shape.now) store) from (Truth false))) }
+    ensures below { IfOk result (λ after. after < product (shape_sizes shape.now)) }
+{
+    let value = value_in(alloc, shape, store, from)?;
+    match shape.with_slot(store, to, &value) {
+        Ok(after) => Ok(after),
+        Err(_) => unreachable!(),
+    }
+}
+
+/// The store with the carried copies set.
+fn copied_store(alloc: Global, program: &Program, store: u64) -> Result<u64, Mem>
+    requires checked { IsChecked (program_tree program.now) }
+    requires store { store < product (shape_sizes program.now.shape) }
+    ensures copied { IfOk result (λ after. after ≡ copied (program_tree program.now) store) }
+    ensures below { IfOk result (λ after. after < product (shape_sizes program.now.shape)) }
+{
+    let mut place = program.decls.as_slice().len();
+    let mut after = store;
+    for slot in program.copies.as_slice() {
+        after = copied_to(alloc, &program.shape, after, usize::from(*slot), place)?;
+        place += 1;
+    }
+    Ok(after)
+}
+
+/// The stores with the carried copies set.
+pub fn copy(
+    alloc: Global,
+    program: &Program,
+    from: &BTreeMap<u64, u128>,
+) -> Result<BTreeMap<u64, u128>, Halt>
+    requires checked { IsChecked (program_tree program.now) }
+    requires ways { AreWays (product (shape_sizes program.now.shape)) from.now.entries }
+    ensures answer { AnswersPass result (carry_step (copy_lead (program_tree program.now)) [] from.now.entries) }
+    ensures ways { IfOk result (λ m. AreWays (product (shape_sizes program.now.shape)) m.entries) }
+{
+    let mut next = BTreeMap::new(alloc);
+    for (store, scale) in from {
+        let after = copied_store(alloc, program, *store)?;
+        add_way(&mut next, after, *scale)?;
+    }
+    Ok(next)
+}

@@ -3,6 +3,7 @@ ghost use Rattle.std.specs.Prelude.{◌<◌};
 
 mod answers;
 mod causes;
+mod faults;
 mod refusals;
 mod slow;
 mod types;

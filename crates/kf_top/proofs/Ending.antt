@@ -1,9 +1,10 @@
 -- How each end of a run meets what is promised of its status.
-use Rattle.std.proofs.Common.{◌≡◌, ◌≢◌, ℕ, ◌<◌, ◌≤◌, List, [], length, Bool, true, false, codes, None, Some, Option, Result, Ok, Err, refl, sym, ◌∙◌, ap, subst, arith, if◌then◌else◌, append-nil, ⊎_elim}
+use Rattle.std.proofs.Common.{◌≡◌, ◌≢◌, ℕ, ◌<◌, ◌≤◌, List, [], length, Bool, true, false, codes, None, Some, Option, Result, Ok, Err, refl, sym, ◌∙◌, ap, subst, arith, if◌then◌else◌, append-nil, ⊎_elim, Contains}
 use Rattle.std.proofs.lemmas.Bool.{cases_lt}
 use Rattle.std.specs.Option.{ForSome}
 use Rattle.std.specs.Io.KnownBytes.{Appends, Keeps}
-use Rattle.kf_top.specs.Task.{Task, task_of}
+use Rattle.kf_io.specs.Faults.{Rose}
+use Rattle.kf_top.specs.Task.{Task, task_of, files_of_task, files_of_some}
 use Rattle.kf_top.specs.Answer.{Statement, Shown, States, Refused, Usage, said, line_of, status_of}
 use Rattle.kf_top.specs.Outcome.{Outcome, SomeOutcome, TaskOutcome}
 use Rattle.kf_top.specs.Stops.{refused}
@@ -27,11 +28,15 @@ line_none s k = record { front = (0, omega arith, took_none s.bytes_before s.byt
 pub refused_high : (r : Refusal) → 5 ≤ status_of (refused r)
 refused_high (refusal.TooLong name) = omega arith
 refused_high (refusal.BadText name line column word) = omega arith
+refused_high (refusal.BadRun name line column word) = omega arith
+refused_high (refusal.WideScale name) = omega arith
 refused_high (refusal.NotFirst name) = omega arith
 
 pub refused_other : (r : Refusal) → status_of (refused r) ≢ 12
 refused_other (refusal.TooLong name) = λ e. omega arith
 refused_other (refusal.BadText name line column word) = λ e. omega arith
+refused_other (refusal.BadRun name line column word) = λ e. omega arith
+refused_other (refusal.WideScale name) = λ e. omega arith
 refused_other (refusal.NotFirst name) = λ e. omega arith
 
 answered_refused : (words : List (List ℕ)) (contents : List ℕ → List ℕ) (r : Refused) (out err : Sunk) (status : ℕ) → Outcome words contents (Err r) → status ≡ status_of r → TookNothing out → TookLine err (line_of r)
@@ -98,6 +103,20 @@ module _ (words : List (List ℕ)) (told : Option (List ℕ → List ℕ)) (befo
       part = λ contents e is4. absurd (omega arith);
       refused = λ above memory. (r, is, line);
       memory = λ is12. absurd (other (sym is ∙ is12));
+    }
+
+    pub ends_unread : (name : List ℕ) → Contains (files_of_task task) name → Rose (before name) (now name) → out.faults ≡ out.faults_before → TookNothing out → TookLine err (said name (codes ": read failed")) → HasCauses words told before now out err 3
+    ends_unread name named rose unfailed quiet line = record {
+      decided = λ contents e no3 no4 no12. absurd (no3 refl);
+      usage = λ is2. absurd (omega arith);
+      usage_shown = λ none memory. absurd (some_task none);
+      read = λ is3. (name, subst (λ (t : Option Task). Contains (files_of_some t) name) (sym asked) named, rose, line);
+      read_shown = λ other in' higher memory. refl;
+      write = λ is4. absurd (omega arith);
+      write_shown = λ higher. absurd (omega arith);
+      part = λ contents e is4. absurd (omega arith);
+      refused = λ above memory. absurd (omega arith);
+      memory = λ is12. absurd (omega arith);
     }
 
     module _ (shown : Shown) (states : ForSome told (λ contents. (statement : Statement) × States shown statement × TaskOutcome contents task (Ok statement))) where

@@ -9,3 +9,4 @@ pub mod Placing
 pub mod Printing
 pub mod Steps
 pub mod Whole
+mod Turns

@@ -12,6 +12,8 @@ use Rattle.kf_ast.specs.Sources.{SourceTree}
 use Rattle.kf_check.specs.declared.errors.TypeError.{TypeError}
 use Rattle.kf_check.specs.Sources.{JudgesSource, IsBroken}
 use Rattle.kf_check.specs.Laws.{OneJudgement, OneTyped}
+use Rattle.kf_core.specs.Programs.{ProgramTree}
+use Rattle.kf_core.specs.FirstForm.{FirstForm}
 use Rattle.kf_core.specs.Joint.{Cell}
 use Rattle.kf_core.proofs.Forms.{same_form}
 use Rattle.kf_hyper.specs.declared.column.Column.{Column}
@@ -22,7 +24,7 @@ use Rattle.kf_top.specs.Columns.{IsColumnOf, AreColumnsOf, IsHyperOf}
 use Rattle.kf_top.specs.Texts.{hyper_text}
 use Rattle.kf_top.specs.Task.{Task, Hyper, task_of}
 use Rattle.kf_top.specs.Answer.{Shown, Statement, HyperOf, States, Refused, Usage}
-use Rattle.kf_top.specs.Outcome.{Step, After, Gives, Fault, bad_text, token_fault, syntax_fault, type_fault, IsBad, TokensOf, SourceOf, ProgramOf, FormOf, ProgramForm, TextOutcome, TaskOutcome, SomeOutcome, source_of, first_statement}
+use Rattle.kf_top.specs.Outcome.{Step, After, Gives, Fault, bad_text, token_fault, syntax_fault, type_fault, IsBad, TokensOf, SourceOf, ProgramOf, cleared, FormOf, ProgramForm, TextOutcome, TaskOutcome, SomeOutcome, source_of, first_statement}
 use Rattle.kf_top.specs.Ends.{Answer, Settled, showing, AtMostOneAnswer}
 use Rattle.kf_top.proofs.Adding.{trace_total}
 use Rattle.kf_top.proofs.Steps.{some_syntax}
@@ -131,6 +133,9 @@ one_bad IsError fault_of name bytes one r s p q =
     let f : p.fault ≡ q.fault = cc in
     p.is ∙ ap (bad_text name bytes) f ∙ sym q.is
 
+abbrev Then : List ℕ → List ℕ → ℕ → ProgramTree → Step FirstForm
+Then name bytes turns p = After (Gives (cleared name bytes turns p)) (λ _. FormOf name bytes)
+
 -- the laws of tokens, of the grammar and of the type rules
 module _ (reading : IsOneReading) (one : OneProgram) (both : NotBoth) (refusal : OneRefusal) (judgement : OneJudgement) (typed : OneTyped) where
   one_tokens : (name bytes : List ℕ) → HasOne (TokensOf name bytes)
@@ -158,17 +163,17 @@ module _ (reading : IsOneReading) (one : OneProgram) (both : NotBoth) (refusal :
   one_checked name bytes tree (Err r) (Ok q) h k = absurd (not_broken tree h.error k.judged h.is_error)
   one_checked name bytes tree (Err r) (Err s) h k = ap Err (one_bad (IsBroken tree) type_fault name bytes (λ e f x y _ _. same_rule tree e f) r s h k)
 
-  one_program_form : (name bytes : List ℕ) → HasOne (ProgramForm name bytes)
+  one_program_form : (name bytes : List ℕ) (turns : ℕ) → HasOne (ProgramForm name bytes turns)
   unfolding ProgramForm
-  one_program_form name bytes = one_after (TokensOf name bytes) (λ tokens. After (SourceOf name bytes tokens) (λ tree. After (ProgramOf name bytes tree) (λ p. FormOf name bytes))) (one_tokens name bytes)
-      (λ tokens. one_after (SourceOf name bytes tokens) (λ tree. After (ProgramOf name bytes tree) (λ p. FormOf name bytes)) (one_source name bytes tokens)
-      (λ tree. one_after (ProgramOf name bytes tree) (λ p. FormOf name bytes) (one_checked name bytes tree) (λ p. one_form name bytes)))
+  one_program_form name bytes turns = one_after (TokensOf name bytes) (λ tokens. After (SourceOf name bytes tokens) (λ tree. After (ProgramOf name bytes tree) (λ p. Then name bytes turns p))) (one_tokens name bytes)
+      (λ tokens. one_after (SourceOf name bytes tokens) (λ tree. After (ProgramOf name bytes tree) (λ p. Then name bytes turns p)) (one_source name bytes tokens)
+      (λ tree. one_after (ProgramOf name bytes tree) (λ p. Then name bytes turns p) (one_checked name bytes tree) (λ p. one_after (Gives (cleared name bytes turns p)) (λ _. FormOf name bytes) (one_given (cleared name bytes turns p)) (λ _. one_form name bytes))))
 
-  one_text : (name bytes : List ℕ) → HasOne (TextOutcome name bytes)
-  one_text name bytes = one_after (ProgramForm name bytes) (λ form. Gives (Ok (first_statement form))) (one_program_form name bytes) (λ form. one_given (Ok (first_statement form)))
+  one_text : (name : List ℕ) (turns : ℕ) (bytes : List ℕ) → HasOne (TextOutcome name turns bytes)
+  one_text name turns bytes = one_after (ProgramForm name bytes turns) (λ form. Gives (Ok (first_statement form))) (one_program_form name bytes turns) (λ form. one_given (Ok (first_statement form)))
 
   one_task : (contents : List ℕ → List ℕ) (task : Task) → HasOne (TaskOutcome contents task)
-  one_task contents (Hyper file turns) = one_after (Gives (source_of contents file)) (TextOutcome file) (one_given (source_of contents file)) (one_text file)
+  one_task contents (Hyper file turns) = one_after (Gives (source_of contents file)) (TextOutcome file turns) (one_given (source_of contents file)) (one_text file turns)
 
   one_outcome : (contents : List ℕ → List ℕ) (task : Option Task) → HasOne (SomeOutcome contents task)
   one_outcome contents None = one_given (Err Usage)

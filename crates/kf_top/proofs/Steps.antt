@@ -1,5 +1,7 @@
 -- One step and then the next, and what a stop's result is.
-use Rattle.std.proofs.Common.{◌≡◌, ◌≢◌, ℕ, List, inl, inr, true, None, Some, Result, Ok, Err, refl, sym, ap, ◌∙◌, subst}
+use Rattle.std.proofs.Common.{◌≡◌, ◌≢◌, ◌<◌, ◌≤◌, le-leb, if◌then◌else◌, IsOk, ℕ, List, inl, inr, true, true≢false, None, Some, Result, Ok, Err, refl, sym, ap, ◌∙◌, subst}
+use Rattle.std.proofs.lemmas.Bool.{lt-leb}
+use Rattle.kf_frac.specs.Fractions.{limit}
 use Rattle.kf_lex.specs.declared.token.Token.{Token}
 use Rattle.kf_lex.specs.declared.token.LexError.{LexError}
 use Rattle.kf_lex.specs.declared.token.LexError.TheVariants as lexing
@@ -11,14 +13,18 @@ use Rattle.kf_ast.specs.Sources.{SourceTree}
 use Rattle.kf_check.specs.declared.errors.TypeError.{TypeError}
 use Rattle.kf_check.specs.declared.errors.TypeError.TheVariants as typing
 use Rattle.kf_check.specs.Sources.{IsBroken}
+use Rattle.kf_core.specs.Programs.{ProgramTree}
+use Rattle.kf_core.specs.Runs.{Halted}
+use Rattle.kf_core.specs.Support.{StoreSet, program_pass}
+use Rattle.kf_core.specs.Scale.{scale_of as run_scale}
 use Rattle.kf_core.specs.FirstForm.{FirstForm}
 use Rattle.kf_core.specs.Rows.{scale_of}
 use Rattle.kf_core.specs.Joint.{joint_of}
 use Rattle.kf_hyper.specs.Hypers.{Inner}
-use Rattle.kf_top.specs.Answer.{Shown, Statement, States}
+use Rattle.kf_top.specs.Answer.{Shown, Statement, States, WideScale}
 use Rattle.kf_top.specs.Columns.{IsHyperOf}
 use Rattle.kf_top.specs.Texts.{hyper_text}
-use Rattle.kf_top.specs.Outcome.{Step, After, Fault, token_fault, syntax_fault, type_fault, bad_text, TokensOf, SourceOf, ProgramOf, ProgramForm, HyperOutcome, source_of, first_target, first_statement}
+use Rattle.kf_top.specs.Outcome.{Step, After, Fault, token_fault, syntax_fault, type_fault, bad_text, TokensOf, SourceOf, ProgramOf, bad_run, scaled, cleared, ProgramForm, HyperOutcome, source_of, first_target, first_statement}
 use Rattle.kf_top.specs.Stops.{Answers, is_form}
 use Rattle.kf_top.specs.declared.stops.Stop.{Stop}
 use Rattle.kf_top.specs.declared.stops.Stop.TheVariants as stop
@@ -58,13 +64,29 @@ bad_source name bytes tokens e f has is = record { error = e; is_error = is; fau
 pub bad_program : (name bytes : List ℕ) (tree : SourceTree) (e : TypeError) (f : Fault) → type_fault e ≡ Some f → (e ≢ typing.Mem → IsBroken tree e) → ProgramOf name bytes tree (Err (bad_text name bytes f))
 bad_program name bytes tree e f has is = record { error = e; is_error = is (λ mem. let none : None ≡ Some f = ap type_fault (sym mem) ∙ has in absurd (cc)); fault = f; has = has; is = refl }
 
+-- what a program is refused for once it is checked
+pub halts : (name bytes : List ℕ) (turns : ℕ) (p : ProgramTree) (f : Halted) → program_pass turns p ≡ Err f → Err (bad_run name bytes f) ≡ cleared name bytes turns p
+unfolding cleared
+halts name bytes turns p f is = sym (ap (λ r. elim r [ Ok ns ↦ scaled name (run_scale turns p) | Err g ↦ Err (bad_run name bytes g) ]) is)
+
+passed : (name bytes : List ℕ) (turns : ℕ) (p : ProgramTree) (r : Result StoreSet Halted) → r ≡ program_pass turns p → IsOk r → scaled name (run_scale turns p) ≡ cleared name bytes turns p
+unfolding cleared
+passed name bytes turns p (Ok ns) is ok = ap (λ r. elim r [ Ok ns ↦ scaled name (run_scale turns p) | Err g ↦ Err (bad_run name bytes g) ]) is
+passed name bytes turns p (Err f) is ok = absurd (true≢false (sym ok))
+
+pub fits : (name bytes : List ℕ) (turns : ℕ) (p : ProgramTree) → IsOk (program_pass turns p) → run_scale turns p ≤ limit → Ok tt ≡ cleared name bytes turns p
+fits name bytes turns p ok few = ap (λ b. if b then Ok tt else Err (WideScale name)) (sym (le-leb (run_scale turns p) limit few)) ∙ passed name bytes turns p (program_pass turns p) refl ok
+
+pub too_wide : (name bytes : List ℕ) (turns : ℕ) (p : ProgramTree) → IsOk (program_pass turns p) → limit < run_scale turns p → Err (WideScale name) ≡ cleared name bytes turns p
+too_wide name bytes turns p ok wide = ap (λ b. if b then Ok tt else Err (WideScale name)) (sym (lt-leb (run_scale turns p) limit wide)) ∙ passed name bytes turns p (program_pass turns p) refl ok
+
 -- the form of the same bytes
-pub form_at : (bytes read : List ℕ) (name : List ℕ) (s : Stop) → read ≡ bytes → Answers is_form (Err s) (ProgramForm name read) → Answers is_form (Err s) (ProgramForm name bytes)
-form_at bytes read name s same h = subst (λ (l : List ℕ). Answers is_form (Err s) (ProgramForm name l)) same h
+pub form_at : (bytes read : List ℕ) (name : List ℕ) (turns : ℕ) (s : Stop) → read ≡ bytes → Answers is_form (Err s) (ProgramForm name read turns) → Answers is_form (Err s) (ProgramForm name bytes turns)
+form_at bytes read name turns s same h = subst (λ (l : List ℕ). Answers is_form (Err s) (ProgramForm name l turns)) same h
 
 -- the shown text states the hyper of the form
-pub stated : (contents : List ℕ → List ℕ) (file bytes : List ℕ) (form : FirstForm) (shown : Shown) (inners : List Inner) → Ok bytes ≡ source_of contents file → ProgramForm file bytes (Ok form) → IsHyperOf (joint_of form) inners
+pub stated : (contents : List ℕ → List ℕ) (file bytes : List ℕ) (turns : ℕ) (form : FirstForm) (shown : Shown) (inners : List Inner) → Ok bytes ≡ source_of contents file → ProgramForm file bytes turns (Ok form) → IsHyperOf (joint_of form) inners
     → shown.bytes ≡ hyper_text (first_target form) (scale_of form) inners → shown.yes ≡ true
-    → (statement : Statement) × States shown statement × HyperOutcome contents file (Ok statement)
-stated contents file bytes form shown inners source first hyper text yes' =
+    → (statement : Statement) × States shown statement × HyperOutcome contents file turns (Ok statement)
+stated contents file bytes turns form shown inners source first hyper text yes' =
     (first_statement form, record { inners = inners; is_hyper = hyper; text = text; yes = yes' }, (bytes, source, (form, first, refl)))

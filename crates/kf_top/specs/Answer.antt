@@ -33,20 +33,31 @@ pub data Refused : Type 0 where
   TooLong : List ℕ → Refused
   -- a file's name, the line and the column, and the fault's word
   BadText : List ℕ → ℕ → ℕ → List ℕ → Refused
+  -- the same of a fault at which a run stops
+  BadRun : List ℕ → ℕ → ℕ → List ℕ → Refused
+  WideScale : List ℕ → Refused
   NotFirst : List ℕ → Refused
 
 -- a line on standard error; `name` is the file's, or empty
 abbrev pub said : List ℕ → List ℕ → List ℕ
 said name what = codes "kuifje: " ++ (name ++ (what ++ 10 ∷ []))
 
+-- where a fault stands in a file, and its word
+abbrev pub placed : List ℕ → ℕ → ℕ → List ℕ → List ℕ
+placed name line column word = said name (58 ∷ decimal line ++ 58 ∷ decimal column ++ codes ": " ++ word)
+
 abbrev pub status_of : Refused → ℕ
 status_of Usage = 2
 status_of (TooLong name) = 11
 status_of (BadText name line column word) = 5
+status_of (BadRun name line column word) = 6
+status_of (WideScale name) = 7
 status_of (NotFirst name) = 5
 
 abbrev pub line_of : Refused → List ℕ
 line_of Usage = said [] (codes "usage: kuifje COMMAND [FILES] [--gain G] [--turns N] [--json]")
 line_of (TooLong name) = said name (codes ": longer than 1048576 bytes")
-line_of (BadText name line column word) = said name (58 ∷ decimal line ++ 58 ∷ decimal column ++ codes ": " ++ word)
+line_of (BadText name line column word) = placed name line column word
+line_of (BadRun name line column word) = placed name line column word
+line_of (WideScale name) = said name (codes ": scale passes 2^127 - 1")
 line_of (NotFirst name) = said name (codes ": not of the first form")

@@ -16,11 +16,17 @@ use Rattle.kf_check.specs.declared.errors.TypeError.{TypeError}
 use Rattle.kf_check.specs.declared.errors.TypeError.TheVariants as typing
 use Rattle.kf_check.specs.Sources.{IsBroken}
 use Rattle.kf_check.specs.Translation.{Typed}
+use Rattle.kf_frac.specs.Fractions.{limit}
+use Rattle.kf_ops.specs.Values.{DivZero, ArithWide}
+use Rattle.kf_core.specs.Choices.{Arithmetic, NoWeight, NegativeWeight, RangeLong}
+use Rattle.kf_core.specs.Runs.{Cause, Choosing, OutOfRange, LoopBound, Halted}
+use Rattle.kf_core.specs.Support.{program_pass}
+use Rattle.kf_core.specs.Scale.{scale_of as run_scale}
 use Rattle.kf_core.specs.Programs.{ProgramTree}
 use Rattle.kf_core.specs.FirstForm.{FirstForm, IsFirst}
 use Rattle.kf_core.specs.Rows.{scale_of}
 use Rattle.kf_core.specs.Joint.{joint_of}
-use Rattle.kf_top.specs.Answer.{Statement, HyperOf, Refused, Usage, TooLong, BadText, NotFirst}
+use Rattle.kf_top.specs.Answer.{Statement, HyperOf, Refused, Usage, TooLong, BadText, BadRun, WideScale, NotFirst}
 use Rattle.kf_top.specs.Place.{line_at, column_at}
 use Rattle.kf_top.specs.Task.{Task, Hyper, task_of}
 
@@ -102,14 +108,34 @@ abbrev pub ProgramOf : List ℕ → List ℕ → SourceTree → Step ProgramTree
 ProgramOf name bytes tree (Ok p) = Typed tree p
 ProgramOf name bytes tree (Err r) = IsBad (IsBroken tree) type_fault name bytes r
 
+-- the word of a run fault
+abbrev pub cause_word : Cause → List ℕ
+cause_word (Choosing (Arithmetic DivZero)) = codes "DivZero"
+cause_word (Choosing (Arithmetic ArithWide)) = codes "ArithWide"
+cause_word (Choosing NoWeight) = codes "NoWeight"
+cause_word (Choosing NegativeWeight) = codes "NegativeWeight"
+cause_word (Choosing RangeLong) = codes "RangeLong"
+cause_word OutOfRange = codes "OutOfRange"
+cause_word LoopBound = codes "LoopBound"
+
+abbrev pub bad_run : List ℕ → List ℕ → Halted → Refused
+bad_run name bytes f = BadRun name (line_at bytes f.at) (column_at bytes f.at) (cause_word f.cause)
+
+abbrev pub scaled : List ℕ → ℕ → Result (Unit {0}) Refused
+scaled name scale = if nat_le scale limit then Ok tt else Err (WideScale name)
+
+-- that a program meets no fault and its scale is at most 2^127 - 1, or its first fault, or that its scale isn't
+unfoldable pub cleared : List ℕ → List ℕ → ℕ → ProgramTree → Result (Unit {0}) Refused
+cleared name bytes turns p = elim (program_pass turns p) [ Ok ns ↦ scaled name (run_scale turns p) | Err f ↦ Err (bad_run name bytes f) ]
+
 -- the form of a text, or that it has none
 abbrev pub FormOf : List ℕ → List ℕ → Step FirstForm
 FormOf name bytes (Ok form) = IsFirst bytes form
 FormOf name bytes (Err r) = (r ≡ NotFirst name) × ((form : FirstForm) → IsFirst bytes form → ⊥)
 
 -- the form of a text that is a program
-unfoldable pub ProgramForm : List ℕ → List ℕ → Step FirstForm
-ProgramForm name bytes = After (TokensOf name bytes) (λ tokens. After (SourceOf name bytes tokens) (λ tree. After (ProgramOf name bytes tree) (λ p. FormOf name bytes)))
+unfoldable pub ProgramForm : List ℕ → List ℕ → ℕ → Step FirstForm
+ProgramForm name bytes turns = After (TokensOf name bytes) (λ tokens. After (SourceOf name bytes tokens) (λ tree. After (ProgramOf name bytes tree) (λ p. After (Gives (cleared name bytes turns p)) (λ _. FormOf name bytes))))
 
 -- the target of a text of the first form: its one variable
 abbrev pub first_target : FirstForm → List Item
@@ -120,15 +146,15 @@ abbrev pub first_statement : FirstForm → Statement
 first_statement form = HyperOf (first_target form) (scale_of form) (joint_of form)
 
 -- what the bytes of a file come to
-abbrev pub TextOutcome : List ℕ → List ℕ → Step Statement
-TextOutcome file bytes = After (ProgramForm file bytes) (λ form. Gives (Ok (first_statement form)))
+abbrev pub TextOutcome : List ℕ → ℕ → List ℕ → Step Statement
+TextOutcome file turns bytes = After (ProgramForm file bytes turns) (λ form. Gives (Ok (first_statement form)))
 
 -- `hyper`: the file is read, then its text
-abbrev pub HyperOutcome : (List ℕ → List ℕ) → List ℕ → Step Statement
-HyperOutcome contents file = After (Gives (source_of contents file)) (TextOutcome file)
+abbrev pub HyperOutcome : (List ℕ → List ℕ) → List ℕ → ℕ → Step Statement
+HyperOutcome contents file turns = After (Gives (source_of contents file)) (TextOutcome file turns)
 
 abbrev pub TaskOutcome : (List ℕ → List ℕ) → Task → Step Statement
-TaskOutcome contents (Hyper file turns) = HyperOutcome contents file
+TaskOutcome contents (Hyper file turns) = HyperOutcome contents file turns
 
 abbrev pub SomeOutcome : (List ℕ → List ℕ) → Option Task → Step Statement
 SomeOutcome contents None = Gives (Err Usage)

@@ -7,6 +7,7 @@ use Rattle.kf_ast.specs.Sources.{SourceTree, source_tree}
 use Rattle.kf_core.specs.declared.program.Program.{Program}
 use Rattle.kf_core.specs.Programs.{ProgramTree, program_tree}
 use Rattle.kf_core.specs.declared.first.First.{First}
+use Rattle.kf_support.specs.declared.cleared.Cleared.{Cleared}
 use Rattle.kf_core.specs.FirstForm.{FirstForm}
 use Rattle.kf_core.specs.FirstView.{form_of}
 use Rattle.std.specs.declared.result.Result.{Result}
@@ -21,6 +22,8 @@ use Rattle.kf_top.specs.declared.stops.Stop.TheVariants as stop
 abbrev pub refused : Refusal → answer.Refused
 refused (refusal.TooLong name) = answer.TooLong name.now
 refused (refusal.BadText name line column word) = answer.BadText name.now line column word.now
+refused (refusal.BadRun name line column word) = answer.BadRun name.now line column word.now
+refused (refusal.WideScale name) = answer.WideScale name.now
 refused (refusal.NotFirst name) = answer.NotFirst name.now
 
 -- the result is one that the step may have, or its cause isn't in the words and the files' bytes
@@ -54,3 +57,7 @@ is_source source tree = source_tree source ≡ tree
 
 abbrev pub is_program : Program → ProgramTree → Type 0
 is_program program p = program_tree program ≡ p
+
+-- that a program is cleared is all that is told of it
+abbrev pub is_cleared : Cleared → Unit {0} → Type 0
+is_cleared cleared u = Unit {0}

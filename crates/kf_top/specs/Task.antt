@@ -1,6 +1,8 @@
 -- What a list of words asks for.
-use Rattle.std.specs.Prelude.{ℕ, List, [], ◌∷◌, Bool, not, None, Some, codes, nat_eq, if◌then◌else◌}
-use Rattle.std.specs.List.{starts_with}
+use Rattle.std.specs.Prelude.{ℕ, List, [], ◌∷◌, Bool, not, ◌&&◌, None, Some, codes, length, nat_eq, nat_le, ◌≤◌, if◌then◌else◌}
+use Rattle.std.specs.Char.{is_ascii_digit}
+use Rattle.std.specs.List.{list_all, starts_with}
+use Rattle.std.specs.Str.Parse.{digits_value}
 use Rattle.std.specs.Str.{bytes_eq}
 use Rattle.std.specs.Option.{option_map}
 use Rattle.std.specs.declared.option.Option.{Option}
@@ -17,18 +19,36 @@ default_turns = 1024
 abbrev pub is_file : List ℕ → Bool
 is_file word = not (starts_with nat_eq word (codes "-"))
 
--- the one file that these words name
-abbrev pub one_file : List (List ℕ) → Option (List ℕ)
-one_file (file ∷ []) = if is_file file then Some file else None
-one_file _ = None
+-- a word of one to five decimal digits
+abbrev pub is_numeral : List ℕ → Bool
+is_numeral word = nat_le 1 (length word) && (nat_le (length word) 5 && list_all is_ascii_digit word)
+
+-- a number of turns lies from 1 to 65,535
+abbrev pub some_turns : ℕ → Option ℕ
+some_turns n = if nat_le 1 n && nat_le n 65535 then Some n else None
+
+-- how often a loop may turn, as a word says it
+abbrev pub turns_said : List ℕ → Option ℕ
+turns_said word = if is_numeral word then some_turns (digits_value 10 word) else None
+
+-- how often a loop may turn, as the words behind a file say it
+abbrev pub turns_after : List (List ℕ) → Option ℕ
+turns_after [] = Some default_turns
+turns_after (option ∷ word ∷ []) = if bytes_eq option (codes "--turns") then turns_said word else None
+turns_after _ = None
+
+-- the one file that these words name, and how often a loop may turn
+abbrev pub hyper_task : List (List ℕ) → Option Task
+hyper_task [] = None
+hyper_task (file ∷ others) = if is_file file then option_map (Hyper file) (turns_after others) else None
 
 -- the task of a command's word and the words after it
 abbrev pub command_task : List ℕ → List (List ℕ) → Option Task
-command_task word files = if bytes_eq word (codes "hyper") then option_map (λ file. Hyper file default_turns) (one_file files) else None
+command_task word others = if bytes_eq word (codes "hyper") then hyper_task others else None
 
 -- the task of a list of words, the first of which is the program's name
 abbrev pub task_of : List (List ℕ) → Option Task
-task_of (_ ∷ word ∷ files) = command_task word files
+task_of (_ ∷ word ∷ others) = command_task word others
 task_of _ = None
 
 abbrev pub files_of_task : Task → List (List ℕ)
@@ -41,3 +61,7 @@ files_of_some (Some task) = files_of_task task
 -- the files that the words name
 abbrev pub files_of : List (List ℕ) → List (List ℕ)
 files_of words = files_of_some (task_of words)
+
+-- a task's loops may turn so often
+abbrev pub HasTurns : Task → Type 0
+HasTurns (Hyper file turns) = (1 ≤ turns) × (turns ≤ 65535)

@@ -8,6 +8,10 @@ pub enum Refusal<'a> {
     TooLong(&'a str),
     /// The file's text is no program: the line, the column and the word of the fault.
     BadText(&'a str, u32, u32, &'static str),
+    /// The file's program stops at a fault: the line, the column and its word.
+    BadRun(&'a str, u32, u32, &'static str),
+    /// The scale of the file's program passes 2^127 - 1.
+    WideScale(&'a str),
     /// The file's text is not of the first form.
     NotFirst(&'a str),
 }

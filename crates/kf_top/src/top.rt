@@ -1,6 +1,6 @@
 ghost use Rattle.std.specs.Prelude.{◌≡◌, List, ℕ, map, string_bytes, codes};
 ghost use Rattle.std.specs.List.{flat_map};
-ghost use Rattle.kf_top.specs.Answer.{BadText, said, line_of, status_of};
+ghost use Rattle.kf_top.specs.Answer.{placed, said, line_of, status_of};
 ghost use Rattle.kf_top.specs.Stops.{refused};
 ghost use Rattle.kf_top.specs.Ends.{sunk, TookLine, Completes, HasCauses, IsQuiet};
 
@@ -25,9 +25,9 @@ fn tell<E: Sink>(err: &mut E, name: &str, what: &str)
     tell_pieces(err, &["kuifje: ", name, what, "\n"]);
 }
 
-// Tells what is wrong with a file's text, and where.
+// Tells what is wrong with a file's text or program, and where.
 fn tell_place<E: Sink>(err: &mut E, name: &str, line: u32, column: u32, word: &str)
-    ensures { TookLine (sunk E.taken E.faults E.room err.old err.new) (line_of (BadText name.now line column word.now)) }
+    ensures { TookLine (sunk E.taken E.faults E.room err.old err.new) (placed name.now line column word.now) }
 {
     let mut line_digits = Buffer::new();
     let mut column_digits = Buffer::new();
@@ -52,6 +52,14 @@ fn refuse<E: Sink>(err: &mut E, refusal: &Refusal<'_>) -> u8
         Refusal::BadText(name, line, column, word) => {
             tell_place(err, name, *line, *column, word);
             5
+        }
+        Refusal::BadRun(name, line, column, word) => {
+            tell_place(err, name, *line, *column, word);
+            6
+        }
+        Refusal::WideScale(name) => {
+            tell(err, name, ": scale passes 2^127 - 1");
+            7
         }
         Refusal::NotFirst(name) => {
             tell(err, name, ": not of the first form");

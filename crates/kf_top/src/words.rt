@@ -1,5 +1,7 @@
-ghost use Rattle.std.specs.Prelude.{◌≡◌, IfOk, IsErrOf, IsTrue, None, Some, map, string_bytes};
-ghost use Rattle.kf_top.specs.Task.{task_of, is_file, one_file as one_file_of};
+ghost use Rattle.std.specs.Prelude.{◌≡◌, IfOk, IsErrOf, None, Some, map, string_bytes};
+ghost use Rattle.std.specs.Char.{is_ascii_digit};
+ghost use Rattle.std.specs.List.{list_all};
+ghost use Rattle.kf_top.specs.Task.{task_of, is_file, is_numeral as is_numeral_word, turns_said as turns_of, turns_after as turns_behind, HasTurns};
 ghost use Rattle.kf_top.specs.Views.{task_of_job};
 
 use kf_value::Name;
@@ -40,17 +42,50 @@ fn is_file_word(word: &str) -> bool
     !word.starts_with("-")
 }
 
-// The one file that these words name.
-fn one_file(alloc: Global, files: &[String]) -> Result<Name, WordsError>
-    ensures file { IfOk result (λ file. one_file_of (map string_bytes files.now) ≡ Some file) }
-    ensures usage { IsErrOf result WordsError.Usage → one_file_of (map string_bytes files.now) ≡ None }
+fn are_digits(word: &[u8]) -> bool
+    ensures { result ≡ list_all is_ascii_digit word.now }
 {
-    match files {
-        [file] if is_file_word(file.as_str()) => {
-            let text = file.clone()?;
-            Ok(Name::new(text))
+    for byte in word {
+        if !byte.is_ascii_digit() {
+            return false;
         }
-        _ => Err(WordsError::Usage),
+    }
+    true
+}
+
+fn is_numeral(word: &str) -> bool
+    ensures { result ≡ is_numeral_word word.now }
+{
+    1 <= word.len() && word.len() <= 5 && are_digits(word.as_bytes())
+}
+
+// How often a loop may turn, as the word says it.
+fn turns_said(word: &str) -> Option<u32>
+    ensures { result ≡ turns_of word.now }
+{
+    if !is_numeral(word) {
+        return None;
+    }
+    match word.parse::<u16>() {
+        Ok(turns) => {
+            if turns >= 1 {
+                Some(u32::from(turns))
+            } else {
+                None
+            }
+        }
+        Err(_) => None,
+    }
+}
+
+// How often a loop may turn, as the words behind a file say it.
+fn turns_after(words: &[String]) -> Option<u32>
+    ensures { result ≡ turns_behind (map string_bytes words.now) }
+{
+    match words {
+        [] => Some(DEFAULT_TURNS),
+        [option, word] if option.as_str() == "--turns" => turns_said(word.as_str()),
+        _ => None,
     }
 }
 
@@ -58,18 +93,20 @@ fn one_file(alloc: Global, files: &[String]) -> Result<Name, WordsError>
 pub fn read_words(alloc: Global, words: &[String]) -> Result<Job, WordsError>
     ensures job { IfOk result (λ job. task_of (map string_bytes words.now) ≡ Some (task_of_job job)) }
     ensures usage { IsErrOf result WordsError.Usage → task_of (map string_bytes words.now) ≡ None }
+    ensures turns { IfOk result (λ job. HasTurns (task_of_job job)) }
 {
-    let [_, word, files @ ..] = words else {
+    let [_, word, file, others @ ..] = words else {
         return Err(WordsError::Usage);
     };
-    match word.as_str() {
-        "hyper" => {
-            let file = one_file(alloc, files)?;
-            Ok(Job::Hyper {
-                file,
-                turns: DEFAULT_TURNS,
-            })
-        }
-        _ => Err(WordsError::Usage),
+    if word.as_str() != "hyper" || !is_file_word(file.as_str()) {
+        return Err(WordsError::Usage);
     }
+    let Some(turns) = turns_after(others) else {
+        return Err(WordsError::Usage);
+    };
+    let text = file.clone()?;
+    Ok(Job::Hyper {
+        file: Name::new(text),
+        turns,
+    })
 }

@@ -7,10 +7,13 @@ ghost use Rattle.kf_ast.specs.Sources.{source_tree};
 ghost use Rattle.kf_check.specs.Laws.{IsWellBuilt};
 ghost use Rattle.kf_lex.specs.Readings.{IsTokens};
 ghost use Rattle.kf_parse.specs.Answers.{IsParsed};
-ghost use Rattle.kf_top.specs.Outcome.{Gives, TokensOf, SourceOf, ProgramOf, FormOf, ProgramForm, source_of, HyperOutcome, TaskOutcome};
+ghost use Rattle.kf_core.specs.Checked.{IsChecked};
+ghost use Rattle.kf_core.specs.Programs.{program_tree};
+ghost use Rattle.kf_support.specs.Answers.{cause_of};
+ghost use Rattle.kf_top.specs.Outcome.{Gives, TokensOf, SourceOf, ProgramOf, cause_word, cleared as cleared_of, FormOf, ProgramForm, source_of, HyperOutcome, TaskOutcome};
 ghost use Rattle.kf_top.specs.Place.{line_at, column_at};
-ghost use Rattle.kf_top.specs.Task.{files_of_task};
-ghost use Rattle.kf_top.specs.Stops.{Answers, Causes, is_form, is_bytes, is_tokens, is_source, is_program};
+ghost use Rattle.kf_top.specs.Task.{files_of_task, HasTurns};
+ghost use Rattle.kf_top.specs.Stops.{Answers, Causes, is_form, is_bytes, is_tokens, is_source, is_program, is_cleared};
 ghost use Rattle.kf_top.specs.declared.stops.Refusal.TheVariants as refusal;
 ghost use Rattle.kf_top.specs.declared.stops.Stop.TheVariants as stop;
 ghost use Rattle.kf_top.specs.Views.{shown, task_of_job, ShowsStatement};
@@ -26,6 +29,7 @@ use kf_core::{First, FirstError, Program, read_first};
 use kf_io::{Files, ReadError, read_whole};
 use kf_lex::{LexError, Tokens, lex};
 use kf_parse::{ParseError, grammar, parse};
+use kf_support::{Cleared, Halt, RunFault, clear};
 use std::alloc::Global;
 
 // The refusal of a text for a fault of this word at this byte.
@@ -95,6 +99,7 @@ fn program<'a>(
     requires short { length bytes.now ≤ 1048576 }
     requires built { IsWellBuilt (source_tree source.now) }
     ensures answer { Answers is_program result (ProgramOf name.now bytes.now (source_tree source.now)) }
+    ensures checked { IfOk result (λ program. IsChecked (program_tree program)) }
     ensures causes { (before : List ℕ → ℕ) → Causes (name.now ∷ []) before before result }
 {
     match check(alloc, source) {
@@ -114,6 +119,48 @@ fn program<'a>(
     }
 }
 
+// The word of a run fault.
+fn fault_word(kind: RunFault) -> &'static str
+    ensures { result.now ≡ cause_word (cause_of kind) }
+{
+    match kind {
+        RunFault::DivZero => "DivZero",
+        RunFault::ArithWide => "ArithWide",
+        RunFault::OutOfRange => "OutOfRange",
+        RunFault::NoWeight => "NoWeight",
+        RunFault::NegativeWeight => "NegativeWeight",
+        RunFault::RangeLong => "RangeLong",
+        RunFault::LoopBound => "LoopBound",
+    }
+}
+
+// The program as one that meets no fault and whose scale isn't too wide.
+fn cleared<'a>(
+    alloc: Global,
+    name: &'a str,
+    bytes: &[u8],
+    program: Program,
+    turns: u32,
+) -> Result<Cleared, Stop<'a>>
+    requires short { length bytes.now ≤ 1048576 }
+    requires checked { IsChecked (program_tree program) }
+    requires some_turns { 1 ≤ turns }
+    requires few_turns { turns ≤ 65535 }
+    ensures answer { Answers is_cleared result (Gives (cleared_of name.now bytes.now turns (program_tree program))) }
+    ensures causes { (before : List ℕ → ℕ) → Causes (name.now ∷ []) before before result }
+{
+    match clear(alloc, program, turns) {
+        Ok(cleared) => Ok(cleared),
+        Err(Halt::Fault { kind, at }) => {
+            let (line, column) = place(bytes, at);
+            let word = fault_word(kind);
+            Err(Stop::Refused(Refusal::BadRun(name, line, column, word)))
+        }
+        Err(Halt::Scale) => Err(Stop::Refused(Refusal::WideScale(name))),
+        Err(Halt::Mem) => Err(Stop::Mem),
+    }
+}
+
 // The first form that a file's bytes have.
 fn form<'a>(alloc: Global, name: &'a str, bytes: &[u8]) -> Result<First, Stop<'a>>
     ensures answer { Answers is_form result (FormOf name.now bytes.now) }
@@ -126,28 +173,38 @@ fn form<'a>(alloc: Global, name: &'a str, bytes: &[u8]) -> Result<First, Stop<'a
     }
 }
 
-// The first form of a file's bytes, which are a program.
+// The first form of a file's bytes, which are a program that is cleared.
 #[tactic(auto, unfolding(crate::specs::Outcome::ProgramForm))]
-fn text<'a>(alloc: Global, name: &'a str, bytes: &[u8]) -> Result<First, Stop<'a>>
-    requires { length bytes.now ≤ 1048576 }
-    ensures answer { Answers is_form result (ProgramForm name.now bytes.now) }
+fn text<'a>(alloc: Global, name: &'a str, bytes: &[u8], turns: u32) -> Result<First, Stop<'a>>
+    requires short { length bytes.now ≤ 1048576 }
+    requires some_turns { 1 ≤ turns }
+    requires few_turns { turns ≤ 65535 }
+    ensures answer { Answers is_form result (ProgramForm name.now bytes.now turns) }
     ensures first { IfOk result (λ first. IsFirst bytes.now (form_of first)) }
     ensures causes { (before : List ℕ → ℕ) → Causes (name.now ∷ []) before before result }
 {
     grammar();
     let tokens = tokens(alloc, name, bytes)?;
     let source = tree(alloc, name, bytes, &tokens)?;
-    let _program = program(alloc, name, bytes, &source)?;
+    let program = program(alloc, name, bytes, &source)?;
+    let _cleared = cleared(alloc, name, bytes, program, turns)?;
     form(alloc, name, bytes)
 }
 
 // The command `hyper`.
-fn hyper<'a, F: Files>(alloc: Global, files: &mut F, file: &'a str) -> Result<Done, Stop<'a>>
-    ensures answer { ForSome (F.contents files.old) (λ c. Answers ShowsStatement result (HyperOutcome c file.now)) }
+fn hyper<'a, F: Files>(
+    alloc: Global,
+    files: &mut F,
+    file: &'a str,
+    turns: u32,
+) -> Result<Done, Stop<'a>>
+    requires some_turns { 1 ≤ turns }
+    requires few_turns { turns ≤ 65535 }
+    ensures answer { ForSome (F.contents files.old) (λ c. Answers ShowsStatement result (HyperOutcome c file.now turns)) }
     ensures causes { Causes (file.now ∷ []) (F.faults files.old) (F.faults files.new) result }
 {
     let source = source(alloc, files, file)?;
-    let first = text(alloc, file, &source)?;
+    let first = text(alloc, file, &source, turns)?;
     let hyper = hyper_of(alloc, &first)?;
     let bytes = hyper_text(alloc, &hyper)?;
     Ok(Done { yes: true, bytes })
@@ -155,10 +212,11 @@ fn hyper<'a, F: Files>(alloc: Global, files: &mut F, file: &'a str) -> Result<Do
 
 /// Does the job: what is to be written, or why there is no answer.
 pub fn work<'a, F: Files>(alloc: Global, files: &mut F, job: &'a Job) -> Result<Done, Stop<'a>>
+    requires { HasTurns (task_of_job job.now) }
     ensures answer { ForSome (F.contents files.old) (λ c. Answers ShowsStatement result (TaskOutcome c (task_of_job job.now))) }
     ensures causes { Causes (files_of_task (task_of_job job.now)) (F.faults files.old) (F.faults files.new) result }
 {
     match job {
-        Job::Hyper { file, turns: _ } => hyper(alloc, files, file.as_str()),
+        Job::Hyper { file, turns } => hyper(alloc, files, file.as_str(), *turns),
     }
 }

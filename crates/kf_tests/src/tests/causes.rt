@@ -90,6 +90,15 @@ fn words_that_ask_for_nothing(rt: HostRuntime) -> Result<(), Fail> {
         "kuifje hyper --json",
         "kuifje leak p.kf",
         "kuifje hyperp p.kf",
+        "kuifje hyper p.kf --turns",
+        "kuifje hyper p.kf --turns 0",
+        "kuifje hyper p.kf --turns 65536",
+        "kuifje hyper p.kf --turns 000001",
+        "kuifje hyper p.kf --turns +5",
+        "kuifje hyper p.kf --turns 5x",
+        "kuifje hyper p.kf --turn 5",
+        "kuifje hyper p.kf --turns 5 --turns 5",
+        "kuifje hyper --turns 5 p.kf",
         "hyper p.kf",
     ] {
         let mut files = text_files(rt.alloc(), PARITY_TEXT, 65536, &[])?;
@@ -109,7 +118,6 @@ fn texts_not_of_the_first_form(rt: HostRuntime) -> Result<(), Fail> {
         "var x : 0..3 := uniform 0..3;\r\n",
         "var x : 0..3 := uniform 0..3;\n\n",
         "var x : 0..3 := uniform 0..3;\nobserve x mod 2;",
-        "var x : 0..3 := uniform 0..3;\nobserve x mod 0;\n",
         "var x : 0..3 := uniform 0..3;\nobserve x mod 02;\n",
         "var x : 0..3 := uniform 0..3;\nobserve x  mod 2;\n",
         "var x : 0..3 := uniform 0..3;\nobserve x mod 1000000000;\n",

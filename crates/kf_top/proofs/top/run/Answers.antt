@@ -3,7 +3,7 @@ use Rattle.std.specs.Io.KnownBytes.{Appends}
 use Rattle.kf_io.specs.Writes.{AppendsSome}
 use Rattle.kf_top.specs.Views.{shown, task_of_job}
 use Rattle.kf_top.specs.Stops.{refused}
-use Rattle.kf_top.proofs.Ending.{completes, ends_usage, ends_refused, ends_shown, ends_unwritten, refused_high, refused_other, untouched, not_certain}
+use Rattle.kf_top.proofs.Ending.{completes, ends_usage, ends_refused, ends_unread, ends_shown, ends_unwritten, refused_high, refused_other, untouched, not_certain}
 use Rattle.kf_top.proofs.top.run.Goals as goal
 
 pub returns-in-Err-Usage-clause-causes : goal.returns-in-Err-Usage-clause-causes
@@ -39,3 +39,8 @@ returns-in-Err-Refused-clause-causes g c =
 
 pub returns-in-Err-Refused-clause-complete : goal.returns-in-Err-Refused-clause-complete
 returns-in-Err-Refused-clause-complete g c = completes _ _ _ _ _ _ _ (returns-in-Err-Refused-clause-causes g c)
+
+pub returns-in-Err-ReadFailed-clause-causes : goal.returns-in-Err-ReadFailed-clause-causes
+returns-in-Err-ReadFailed-clause-causes g c =
+    let causes = rw c.in-Err-ReadFailed.field-0-is at c.in-Err-ReadFailed.ensures.causes in
+    ends_unread _ _ _ _ _ _ (task_of_job c.in-Ok.job) c.in-Ok.ensures.job c.in-Err-ReadFailed.name.now causes.0 causes.1 refl (untouched (g.O.Sink.taken c.args.out.now)) c.tell-in-Err-ReadFailed.ensures

@@ -16,14 +16,14 @@ use Rattle.kf_top.proofs.work.hyper.Goals as goal
 pub returns-in_err-source-clause-answer : goal.returns-in_err-source-clause-answer
 returns-in_err-source-clause-answer g c x e =
     let p = err_from_is_err_and c.from_residual.result c.from_residual.ensures.1 in
-    rw (p.1, p.2) (first_stops ShowsStatement (Gives (source_of x c.args.file.now)) (TextOutcome c.args.file.now) is_bytes c.in_err-source.field-0.0 (c.in_err-source.ensures.answer x e))
+    rw (p.1, p.2) (first_stops ShowsStatement (Gives (source_of x c.args.file.now)) (TextOutcome c.args.file.now c.args.turns) is_bytes c.in_err-source.field-0.0 (c.in_err-source.ensures.answer x e))
 
 pub returns-in_err-first-clause-answer : goal.returns-in_err-first-clause-answer
 returns-in_err-first-clause-answer g c x e =
     let p = err_from_is_err_and c.from_residual-in_err-first.result c.from_residual-in_err-first.ensures.1 in
     let source = c.in_ok-source.ensures.answer x e in
-    rw (p.1, p.2) (next_stops ShowsStatement (Gives (source_of x c.args.file.now)) (TextOutcome c.args.file.now) ShowsStatement c.in_err-first.field-0.0 source.0 source.2
-    (first_stops ShowsStatement (ProgramForm c.args.file.now source.0) (λ form. Gives (Ok (first_statement form))) is_form c.in_err-first.field-0.0 (form_at _ _ c.args.file.now c.in_err-first.field-0.0 (c.deref.ensures.value ∙ source.1) c.in_err-first.ensures.answer)))
+    rw (p.1, p.2) (next_stops ShowsStatement (Gives (source_of x c.args.file.now)) (TextOutcome c.args.file.now c.args.turns) ShowsStatement c.in_err-first.field-0.0 source.0 source.2
+    (first_stops ShowsStatement (ProgramForm c.args.file.now source.0 c.args.turns) (λ form. Gives (Ok (first_statement form))) is_form c.in_err-first.field-0.0 (form_at _ _ c.args.file.now c.args.turns c.in_err-first.field-0.0 (c.deref.ensures.value ∙ source.1) c.in_err-first.ensures.answer)))
 
 pub returns-in_err-first-clause-causes : goal.returns-in_err-first-clause-causes
 returns-in_err-first-clause-causes g c =
@@ -35,6 +35,6 @@ returns-clause-answer g c x e =
     let source = c.in_ok-source.ensures.answer x e in
     let first = c.in_ok-first.ensures.answer in
     let form : form_of c.in_ok-first.first ≡ first.0 = first.1 in
-    stated x c.args.file.now source.0 first.0 (record { yes = true; bytes = c.in_ok-bytes.bytes.items }) (inners_of c.in_ok-hyper.hyper) source.2 (subst (λ (bytes : List ℕ). ProgramForm c.args.file.now bytes (Ok first.0)) (c.deref.ensures.value ∙ source.1) first.2)
+    stated x c.args.file.now source.0 c.args.turns first.0 (record { yes = true; bytes = c.in_ok-bytes.bytes.items }) (inners_of c.in_ok-hyper.hyper) source.2 (subst (λ (bytes : List ℕ). ProgramForm c.args.file.now bytes c.args.turns (Ok first.0)) (c.deref.ensures.value ∙ source.1) first.2)
     (subst (λ (f : FirstForm). IsHyperOf (joint_of f) (inners_of c.in_ok-hyper.hyper)) form c.in_ok-hyper.ensures.hyper)
     (c.in_ok-bytes.ensures ∙ (λ i. hyper_text ((c.in_ok-hyper.ensures.target ∙ ap first_target form) i) ((c.in_ok-hyper.ensures.scale ∙ ap scale_of form) i) (inners_of c.in_ok-hyper.hyper))) refl

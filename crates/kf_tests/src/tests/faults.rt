@@ -1,0 +1,263 @@
+// Programs that meet a fault when they are run, and scales that are too wide.
+use crate::tests::*;
+use kf_io::SureFiles;
+
+/// The words of a run whose loops have at most one turn.
+const ONE_TURN: &str = "kuifje hyper p.kf --turns 1";
+
+const WIDE_SCALE: End<'static> = End {
+    status: 7,
+    out: "",
+    err: "kuifje: p.kf: scale passes 2^127 - 1\n",
+};
+
+const CLEARED: End<'static> = End {
+    status: 5,
+    out: "",
+    err: "kuifje: p.kf: not of the first form\n",
+};
+
+// A run of these words over a file with this text ends so.
+fn ends_over_text(
+    rt: &(impl Abort + AllocGlobal),
+    words: &str,
+    text: &str,
+    want: End<'_>,
+) -> Result<(), Fail> {
+    let bytes = text.as_bytes().to_vec(rt.alloc())?;
+    let mut files = SureFiles::new(one_file(rt.alloc(), bytes)?, 65536);
+    ends(rt, words, &mut files, want)
+}
+
+// Each text ends with status 6 at this place.
+fn faults(
+    rt: &(impl Abort + AllocGlobal),
+    words: &str,
+    rows: &[(&'static str, &'static str)],
+) -> Result<(), Fail> {
+    for (text, place) in rows {
+        let mut err = String::from_str(rt.alloc(), "kuifje: p.kf:")?;
+        err.push_str(place)?;
+        err.push_str("\n")?;
+        let want = End {
+            status: 6,
+            out: "",
+            err: err.as_str(),
+        };
+        ends_over_text(rt, words, text, want)?;
+    }
+    Ok(())
+}
+
+// Faults of choices and of what they are assigned to.
+fn choosing() -> [(&'static str, &'static str); 17] {
+    [
+        (
+            "var x : 0..3 := uniform 0..3;\nobserve x mod 0;\n",
+            "2:9: DivZero",
+        ),
+        ("var x : 0..3 := 1 div 0;", "1:17: DivZero"),
+        (
+            "var x : 0..3 := 1000000000 * 1000000000 * 1000000000;",
+            "1:17: ArithWide",
+        ),
+        ("var x : 0..3 := choose { 1 : 0 };", "1:17: NoWeight"),
+        ("var x : 0..3 := choose { 1 : -1 };", "1:17: NegativeWeight"),
+        ("var x : 0..3 := uniform 0..65536;", "1:17: RangeLong"),
+        ("var x : 0..3 := uniform 0..4;", "1:17: OutOfRange"),
+        ("var x : 0..3 := uniform 3..1;", "1:17: NoWeight"),
+        ("var x : 0..3 := uniform ({1} less {1});", "1:17: NoWeight"),
+        ("var x : 0..3 := choose { 1 div 0 : 1 };", "1:17: DivZero"),
+        (
+            "var x : 0..3 := choose { 9 : 1, 1 : -1 };",
+            "1:17: NegativeWeight",
+        ),
+        (
+            "var x : 0..3 := choose { 1 div 0 : 1, 1 : -1 };",
+            "1:17: DivZero",
+        ),
+        (
+            "var x : 0..3 := choose { 1 : -1, 1 div 0 : 1 };",
+            "1:17: NegativeWeight",
+        ),
+        (
+            "var x : 0..3 := choose { 1 div 0 : -1 };",
+            "1:17: NegativeWeight",
+        ),
+        (
+            "var x : 0..3 := uniform 0..3;\nx := x + 1;\n",
+            "2:6: OutOfRange",
+        ),
+        (
+            "var x : 0..3 := uniform 0..3;\nobserve uniform 0..65536;\n",
+            "2:9: RangeLong",
+        ),
+        (
+            "var x : 0..3 := uniform 0..3;\nobserve 1 div x;\n",
+            "2:9: DivZero",
+        ),
+    ]
+}
+
+// Two faults in one program: the first one, in both orders of place, of store and of branch.
+fn order() -> [(&'static str, &'static str); 11] {
+    [
+        (
+            "var x : 0..3 := 0;\nx := 1 div 0;\nx := 5;\n",
+            "2:6: DivZero",
+        ),
+        (
+            "var x : 0..3 := 0;\nx := 5;\nx := 1 div 0;\n",
+            "2:6: OutOfRange",
+        ),
+        (
+            "var x : 0..3 := 0;\nvar y : 0..3 := 4;\nx := 1 div 0;\n",
+            "2:17: OutOfRange",
+        ),
+        (
+            "var x : 0..3 := uniform 0..3;\nx := cond(x = 0, 1 div 0, 7);\n",
+            "2:6: DivZero",
+        ),
+        (
+            "var x : 0..3 := uniform 0..3;\nx := cond(x = 0, 7, 1 div 0);\n",
+            "2:6: OutOfRange",
+        ),
+        (
+            "var x : 0..3 := uniform 0..3;\nif x = 0 { x := 9; } else { x := 1 div 0; }\n",
+            "2:17: OutOfRange",
+        ),
+        (
+            "var x : 0..3 := uniform 0..3;\nif x = 1 { x := 9; } else { x := 1 div 0; }\n",
+            "2:17: OutOfRange",
+        ),
+        (
+            "var x : 0..3 := uniform 0..3;\nif x = 1 { skip; } else { x := 1 div 0; }\n",
+            "2:32: DivZero",
+        ),
+        (
+            "var x : 0..3 := uniform 0..3;\nif x = 1 { x := 9; } else { skip; }\n",
+            "2:17: OutOfRange",
+        ),
+        (
+            "var x : 0..3 := uniform 0..3;\nif 1 div x = 1 { x := 9; } else { skip; }\n",
+            "2:4: DivZero",
+        ),
+        (
+            "var n : 0..200 := 127;\nwhile n > 0 { observe flip 1/2; n := n - 1; }\nn := 201;\n",
+            "3:6: OutOfRange",
+        ),
+    ]
+}
+
+// Loops of at most one turn.
+fn bounded() -> [(&'static str, &'static str); 7] {
+    [
+        (
+            "var n : 0..5 := 1;\nwhile true { skip; }\n",
+            "2:7: LoopBound",
+        ),
+        (
+            "var n : 0..5 := 2;\nwhile n > 0 { n := n - 1; }\n",
+            "2:7: LoopBound",
+        ),
+        (
+            "var n : 0..5 := uniform 0..2;\nwhile n > 0 { n := n - 1; }\n",
+            "2:7: LoopBound",
+        ),
+        (
+            "var n : 0..1 := uniform 0..1;\nvar k : 0..1 := 0;\nwhile cond(k = 0, true, cond(n = 0, true, 1 div 0 = 1)) { k := 1; }\n",
+            "3:7: LoopBound",
+        ),
+        (
+            "var n : 0..1 := uniform 0..1;\nvar k : 0..1 := 0;\nwhile cond(k = 0, true, cond(n = 0, 1 div 0 = 1, true)) { k := 1; }\n",
+            "3:7: DivZero",
+        ),
+        (
+            "var n : 0..1 := 0;\nwhile flip 1/2 { skip; }\n",
+            "2:7: LoopBound",
+        ),
+        (
+            "var n : 0..5 := 1;\nwhile n > 0 { n := 7; }\n",
+            "2:20: OutOfRange",
+        ),
+    ]
+}
+
+#[test]
+fn first_faults(rt: HostRuntime) -> Result<(), Fail> {
+    faults(&rt, HYPER, &choosing())?;
+    faults(&rt, HYPER, &order())
+}
+
+#[test]
+fn loops_at_their_bound(rt: HostRuntime) -> Result<(), Fail> {
+    faults(&rt, ONE_TURN, &bounded())
+}
+
+#[test]
+fn programs_without_faults(rt: HostRuntime) -> Result<(), Fail> {
+    for text in [
+        "var n : 0..5 := 1;\nwhile n > 0 { n := n - 1; }\n",
+        "var n : 0..5 := uniform 0..1;\nwhile n > 0 { n := n - 1; }\n",
+        "var n : 0..5 := 0;\nwhile false { n := 9; }\n",
+        "var x : 0..3 := choose { 1 div 0 : 0, 2 : 1 };\n",
+        "var y : 0..65535 := uniform 0..65535;\n",
+        "var x : 0..3 := uniform 0..3;\nif x > 1 { x := x - 2; } else { skip; }\nx := x + 2;\n",
+        "var x : 0..3 := uniform 0..3;\nabout old x;\nx := 0;\n",
+    ] {
+        ends_over_text(&rt, ONE_TURN, text, CLEARED)?;
+    }
+    Ok(())
+}
+
+#[test]
+fn loops_of_as_many_turns_as_the_words_say(rt: HostRuntime) -> Result<(), Fail> {
+    let down = "var n : 0..5 := 5;\nwhile n > 0 { n := n - 1; }\n";
+    let bound = End {
+        status: 6,
+        out: "",
+        err: "kuifje: p.kf:2:7: LoopBound\n",
+    };
+    ends_over_text(&rt, "kuifje hyper p.kf --turns 5", down, CLEARED)?;
+    ends_over_text(&rt, "kuifje hyper p.kf --turns 00005", down, CLEARED)?;
+    ends_over_text(&rt, "kuifje hyper p.kf --turns 65535", down, CLEARED)?;
+    ends_over_text(&rt, "kuifje hyper p.kf --turns 4", down, bound)?;
+    let always = "var n : 0..5 := 5;\nwhile true { skip; }\n";
+    ends_over_text(&rt, "kuifje hyper p.kf --turns 5", always, bound)?;
+    ends_over_text(&rt, HYPER, always, bound)
+}
+
+// Each turn halves the weight, so the scale of n turns is 2^n. In the second program both branches lead to one store by
+// scale 6, so that of n turns is 6^n: 6^49 is below 2^127, 6^50 above.
+#[test]
+fn scales_up_to_the_limit(rt: HostRuntime) -> Result<(), Fail> {
+    for (text, want) in [
+        (
+            "var n : 0..200 := 126;\nwhile n > 0 { observe flip 1/2; n := n - 1; }\n",
+            CLEARED,
+        ),
+        (
+            "var n : 0..200 := 127;\nwhile n > 0 { observe flip 1/2; n := n - 1; }\n",
+            WIDE_SCALE,
+        ),
+        (
+            "var n : 0..200 := 49;\nwhile n > 0 { if flip 1/2 { observe flip 1/3; } else { observe flip 1/3; } n := n - 1; }\n",
+            CLEARED,
+        ),
+        (
+            "var n : 0..200 := 50;\nwhile n > 0 { if flip 1/2 { observe flip 1/3; } else { observe flip 1/3; } n := n - 1; }\n",
+            WIDE_SCALE,
+        ),
+    ] {
+        ends_over_text(&rt, HYPER, text, want)?;
+    }
+    Ok(())
+}
+
+// 60,000 stores, carried through 100 turns.
+#[test]
+fn many_stores(rt: HostRuntime) -> Result<(), Fail> {
+    let text =
+        "var x : 0..59999 := uniform 0..59999;\nvar n : 0..100 := 100;\nwhile n > 0 { n := n - 1; }\n";
+    ends_over_text(&rt, HYPER, text, CLEARED)
+}

@@ -3,6 +3,7 @@ ghost use Rattle.std.specs.Prelude.{◌<◌};
 
 mod answers;
 mod causes;
+mod choices;
 mod faults;
 mod refusals;
 mod slow;

@@ -6,7 +6,8 @@ ghost use Rattle.kf_core.specs.Exs.{ex_tree};
 ghost use Rattle.kf_core.specs.Dxs.{dx_tree, dx_at, Sure};
 ghost use Rattle.kf_core.specs.Sts.{st_tree, Observe};
 ghost use Rattle.kf_core.specs.Programs.{program_tree};
-ghost use Rattle.kf_core.specs.Checked.{IsChecked};
+ghost use Rattle.kf_core.specs.Checked.{DistKinded, IsChecked};
+ghost use Rattle.kf_value.specs.Kinds.{KindTree};
 ghost use Rattle.kf_eval.specs.Kinds.{shape_kinds, IsKinded};
 
 use crate::tests::*;
@@ -18,7 +19,7 @@ use kf_parse::{grammar, parse};
 use kf_value::{Shape, Value, print_value};
 
 // The program of a text.
-fn program_of(alloc: Global, text: &str) -> Result<Program, Fail>
+pub(super) fn program_of(alloc: Global, text: &str) -> Result<Program, Fail>
     requires { length text.now ≤ 1048576 }
     ensures { IfOk result (λ p. IsChecked (program_tree p)) }
 {
@@ -48,19 +49,27 @@ fn observed_by(statement: &St) -> Option<&Dx>
     }
 }
 
+// The distribution that the first statement observes.
+pub(super) fn first_observed(program: &Program) -> Option<&Dx>
+    requires { IsChecked (program_tree program.now) }
+    ensures { IfSome result (λ d. (k : KindTree) × DistKinded (shape_kinds program.now.shape) (dx_tree d.now) k) }
+{
+    let [first, ..] = program.body.as_slice() else {
+        return None;
+    };
+    observed_by(first)
+}
+
 // The expression that the first statement observes.
 fn observed(program: &Program) -> Option<&Ex>
     requires { IsChecked (program_tree program.now) }
     ensures { IfSome result (λ e. IsKinded (shape_kinds program.now.shape) (ex_tree e.now)) }
 {
-    let [first, ..] = program.body.as_slice() else {
-        return None;
-    };
-    expression_of(observed_by(first)?)
+    expression_of(first_observed(program)?)
 }
 
 // Whether it is the shape of one variable that has a value.
-fn has_a_store(shape: &Shape) -> bool
+pub(super) fn has_a_store(shape: &Shape) -> bool
     ensures { result ≡ true → 0 < product (shape_sizes shape.now) }
 {
     shape.types().as_slice().len() == 1 && shape.size(0) > 0

@@ -1,0 +1,103 @@
+// Distributions, each with what it chooses, or with its fault; all worked out by hand.
+use crate::tests::values::{first_observed, has_a_store, program_of};
+use crate::tests::*;
+use itoa::Buffer;
+use kf_eval::{Choice, ChoiceError, choices};
+use kf_value::print_value;
+
+// What the distribution chooses where `x` is 0, or its fault.
+fn choices_of(alloc: Global, dist: &str) -> Result<Result<Choice, ChoiceError>, Fail> {
+    let mut text = String::from_str(alloc, "var x : 0..0 := 0;\nobserve ")?;
+    text.push_str(dist)?;
+    text.push_str(";\n")?;
+    if text.len() > 1000 {
+        return Err(Fail::new("the text is too long"));
+    }
+    let program = program_of(alloc, text.as_str())?;
+    if !has_a_store(&program.shape) {
+        return Err(Fail::new("there is no store"));
+    }
+    match first_observed(&program) {
+        Some(d) => Ok(choices(alloc, d, &program.shape, 0)),
+        None => Err(Fail::new("nothing is observed")),
+    }
+}
+
+// Each value and its weight, then the sum of the weights.
+fn print_choice(alloc: Global, choice: &Choice) -> Result<Vec<u8>, Fail> {
+    let mut text = Vec::new(alloc);
+    let mut digits = Buffer::new();
+    for item in choice.items.as_slice() {
+        print_value(alloc, &item.value, &mut text)?;
+        text.push(b' ')?;
+        text.extend_from_slice(digits.format(item.weight).as_bytes())?;
+        text.extend_from_slice(b", ")?;
+    }
+    text.extend_from_slice(digits.format(choice.total).as_bytes())?;
+    Ok(text)
+}
+
+fn shown(alloc: Global, choice: Result<Choice, ChoiceError>) -> Result<Vec<u8>, Fail> {
+    match choice {
+        Ok(choice) => print_choice(alloc, &choice),
+        Err(ChoiceError::DivZero) => Ok(b"DivZero".to_vec(alloc)?),
+        Err(ChoiceError::ArithWide) => Ok(b"ArithWide".to_vec(alloc)?),
+        Err(ChoiceError::NoWeight) => Ok(b"NoWeight".to_vec(alloc)?),
+        Err(ChoiceError::NegativeWeight) => Ok(b"NegativeWeight".to_vec(alloc)?),
+        Err(ChoiceError::RangeLong) => Ok(b"RangeLong".to_vec(alloc)?),
+        Err(ChoiceError::Mem) => Err(Fail::new("want of memory")),
+    }
+}
+
+const ROWS: [(&str, &str); 28] = [
+    ("2", "2 1, 1"),
+    ("1 div x", "DivZero"),
+    ("uniform {3, 1, 3}", "1 1, 3 1, 2"),
+    ("uniform ({1} less {1})", "NoWeight"),
+    ("uniform 2..4", "2 1, 3 1, 4 1, 3"),
+    ("uniform -3..-1", "-3 1, -2 1, -1 1, 3"),
+    ("uniform 3..3", "3 1, 1"),
+    ("uniform 3..2", "NoWeight"),
+    ("uniform 0..65536", "RangeLong"),
+    ("uniform 1 div 0..65536", "DivZero"),
+    ("flip 1/2", "false 1, true 1, 2"),
+    ("flip 2/4", "false 1, true 1, 2"),
+    ("flip 6/9", "false 1, true 2, 3"),
+    ("flip 0/5", "false 1, 1"),
+    ("flip 5/5", "true 1, 1"),
+    ("choose { 1 : 2, 2 : 4 }", "1 1, 2 2, 3"),
+    ("choose { 2 : 1, 1 : 1, 2 : 1 }", "1 1, 2 2, 3"),
+    ("choose { 2 : 3, 1 : 0, 2 : 3 }", "2 1, 1"),
+    (
+        "choose { 5 : 6, 3 : 9, 4 : 0, 5 : 6, 3 : 3 }",
+        "3 1, 5 1, 2",
+    ),
+    ("choose { true : 10, false : 4 }", "false 2, true 5, 7"),
+    (
+        "choose { (1, true) : 1, (1, false) : 2, (1, true) : 3 }",
+        "(1, false) 1, (1, true) 2, 3",
+    ),
+    (
+        "choose { {1} : 2, {0, 1} : 2, {2} less {2} : 4 }",
+        "{} 2, {1} 1, {0, 1} 1, 4",
+    ),
+    ("choose { x : 3, 1 - x : 1 }", "0 3, 1 1, 4"),
+    ("choose { 1 : 1000000000, 2 : 500000000 }", "1 2, 2 1, 3"),
+    ("choose { 1 : 0, 2 : 0 }", "NoWeight"),
+    ("choose { 1 div 0 : 0, 2 : 7 }", "2 1, 1"),
+    ("choose { 1 : 1, 2 : -1 }", "NegativeWeight"),
+    (
+        "choose { 1000000000 * 1000000000 * 1000000000 : 1, 2 : -1 }",
+        "ArithWide",
+    ),
+];
+
+#[test]
+fn choices_of_distributions(rt: HostRuntime) -> Result<(), Fail> {
+    for (dist, want) in &ROWS {
+        let choice = choices_of(rt.alloc(), dist)?;
+        let text = shown(rt.alloc(), choice)?;
+        assert_eq!(rt; text.as_slice(), want.as_bytes(), "{dist}");
+    }
+    Ok(())
+}

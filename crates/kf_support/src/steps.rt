@@ -225,7 +225,7 @@ pub fn last_guard(
     ensures ways { IfOk result (λ m. AreWays (product (shape_sizes shape.now)) m.entries) }
 {
     let mut left = left;
-    for (store, scale) in from {
+    for (store, scale) in from.iter() {
         let choice = choices_in(alloc, shape, dist, *store)?;
         let choices = choice.items.as_slice();
         if can_be(choices, true) {

@@ -1,16 +1,23 @@
 // Runs over files and sinks in memory: statuses and whole texts.
-ghost use Rattle.std.specs.Prelude.{◌<◌};
+ghost use Rattle.std.specs.Prelude.{◌<◌, ◌≤◌, length, IfOk};
+ghost use Rattle.kf_core.specs.Programs.{program_tree};
+ghost use Rattle.kf_core.specs.Checked.{IsChecked};
 
 mod answers;
 mod causes;
 mod choices;
 mod faults;
+mod plain;
 mod refusals;
 mod slow;
 mod types;
 mod values;
 
+use kf_check::check;
+use kf_core::Program;
 use kf_io::{ByteList, CallList, FileEntry, FileList, FileName, Files, MemFiles, MemSink};
+use kf_lex::lex;
+use kf_parse::{grammar, parse};
 use kf_top::run;
 use std::alloc::{AllocError, Global};
 use std::process::Abort;
@@ -38,6 +45,17 @@ fn words_of(alloc: Global, line: &str) -> Result<Vec<String>, AllocError> {
 
 fn calls(alloc: Global, numbers: &[u64]) -> Result<CallList, AllocError> {
     Ok(CallList::new(numbers.to_vec(alloc)?))
+}
+
+// The program of a text.
+fn program_of(alloc: Global, text: &str) -> Result<Program, Fail>
+    requires { length text.now ≤ 1048576 }
+    ensures { IfOk result (λ p. IsChecked (program_tree p)) }
+{
+    grammar();
+    let tokens = lex(alloc, text.as_bytes())?;
+    let source = parse(alloc, text.as_bytes(), &tokens)?;
+    Ok(check(alloc, &source)?)
 }
 
 // The one file `p.kf`.

@@ -1,5 +1,5 @@
 // Distributions, each with what it chooses, or with its fault; all worked out by hand.
-use crate::tests::values::{first_observed, has_a_store, program_of};
+use crate::tests::values::{first_observed, has_a_store};
 use crate::tests::*;
 use itoa::Buffer;
 use kf_eval::{Choice, ChoiceError, choices};

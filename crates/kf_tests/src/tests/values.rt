@@ -1,5 +1,5 @@
 // Expressions, each with what its value prints as, or with its fault; all worked out by hand.
-ghost use Rattle.std.specs.Prelude.{◌≡◌, ◌≤◌, ◌<◌, length, true, IfOk, IfSome};
+ghost use Rattle.std.specs.Prelude.{◌≡◌, ◌<◌, true, IfSome};
 ghost use Rattle.kf_value.specs.Types.{product};
 ghost use Rattle.kf_value.specs.Shapes.{shape_sizes};
 ghost use Rattle.kf_core.specs.Exs.{ex_tree};
@@ -11,23 +11,9 @@ ghost use Rattle.kf_value.specs.Kinds.{KindTree};
 ghost use Rattle.kf_eval.specs.Kinds.{shape_kinds, IsKinded};
 
 use crate::tests::*;
-use kf_check::check;
 use kf_core::{Dx, DxNode, Ex, Program, St};
 use kf_eval::{EvalError, eval};
-use kf_lex::lex;
-use kf_parse::{grammar, parse};
 use kf_value::{Shape, Value, print_value};
-
-// The program of a text.
-pub(super) fn program_of(alloc: Global, text: &str) -> Result<Program, Fail>
-    requires { length text.now ≤ 1048576 }
-    ensures { IfOk result (λ p. IsChecked (program_tree p)) }
-{
-    grammar();
-    let tokens = lex(alloc, text.as_bytes())?;
-    let source = parse(alloc, text.as_bytes(), &tokens)?;
-    Ok(check(alloc, &source)?)
-}
 
 // The expression of a distribution on one value.
 fn expression_of(dist: &Dx) -> Option<&Ex>

@@ -1,8 +1,8 @@
 -- What a hyper's shape says of one of its classes.
-use Rattle.std.proofs.Common.{◌≡◌, ℕ, ◌*◌, ◌/◌, ◌<◌, ◌≤◌, pos, List, map, sum_by, sym, ◌∙◌, ap, subst, arith, length, get_or, ⊎_elim}
-use Rattle.std.proofs.Math.Nat.{div-mul_cancel, eq-zero-or-pos, zero-mul}
+use Rattle.std.proofs.Common.{◌≡◌, ℕ, ◌*◌, ◌/◌, ◌<◌, ◌≤◌, ◌==◌, pos, List, Bool, true, false, if◌then◌else◌, map, sum_by, sym, ◌∙◌, ap, subst, arith, length, get_or, ⊎_elim}
+use Rattle.std.proofs.Math.Nat.{div-mul_cancel, eq-zero-or-pos, zero-mul, mul-le-mul_left, mul_comm}
 use Rattle.std.proofs.lemmas.List.{get_or-map, length-map}
-use Rattle.std.proofs.lemmas.List.Sums.{get_or-le-sum_by}
+use Rattle.std.proofs.lemmas.List.Sums.{get_or-le-sum_by, sum_by-le-sum_by}
 use Rattle.std.proofs.lemmas.Nat.Gcd.{le_of_dvd}
 use Rattle.std.specs.Int.{◌∣◌}
 use Rattle.kf_frac.specs.Divisors.{gcd_of}
@@ -30,6 +30,14 @@ reduced_fit n d some num den =
       num = omega (arith, reduced_num_abs (pos n) d, quotient_le n g pg, num);
       den = omega (arith, reduced_den_is (pos n) d, quotient_le d g pg, den);
     }
+
+-- what a value weighs is at most the sum
+pub weight_within : (entries : List Entry) (x : ℕ) → weight_at entries x ≤ total entries
+weight_within entries x = sum_by-le-sum_by (λ (e : Entry). if e.value == x then e.weight else 0) (λ (e : Entry). e.weight) entries (λ e. if_le (e.value == x) e.weight)
+  where
+    if_le : (b : Bool) (n : ℕ) → (if b then n else 0) ≤ n
+    if_le true n = omega arith
+    if_le false n = omega arith
 
 module _ (classes : List Class) (i : ℕ) (c : Class) (size scale : ℕ) (shape : IsShape size scale (map inner_of classes)) (inside : i < length (map inner_of classes)) (is : c ≡ get_or classes i c) where
   within : i < length classes
@@ -75,6 +83,12 @@ module _ (classes : List Class) (i : ℕ) (c : Class) (size scale : ℕ) (shape 
   times_some summed =
       let used : 0 < c.total = subst (λ (j : Inner). 0 < j.total) here (shape.used i (inner_of c) inside) in
       ⊎_elim (λ (h : c.total / c.whole ≡ 0). absurd (omega (arith, used, times_whole summed, ap (λ (n : ℕ). n * total c.inner) h, zero-mul (total c.inner)))) (λ (h : 0 < c.total / c.whole). h) (eq-zero-or-pos (c.total / c.whole))
+
+  -- a value's share of the total of its class
+  pub weighs_within : c.whole ≡ total c.inner → (x : ℕ) → weight_at c.inner x * (c.total / c.whole) ≤ c.total
+  weighs_within summed x =
+      let part : (c.total / c.whole) * weight_at c.inner x ≤ (c.total / c.whole) * total c.inner = mul-le-mul_left (c.total / c.whole) (weight_within c.inner x) in
+      omega (arith, part, times_whole summed, mul_comm (weight_at c.inner x) (c.total / c.whole))
 
 -- an entry's weight is at most the sum
 pub entry_within : (entries : List Entry) (k : ℕ) (d : Entry) → k < length entries → (get_or entries k d).weight ≤ total entries

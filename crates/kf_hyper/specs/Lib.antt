@@ -5,4 +5,5 @@ pub mod Joint
 pub mod Projection
 pub mod Shapes
 pub mod Sums
+pub mod Traces
 pub mod Views

@@ -1,10 +1,12 @@
--- What a hyper shows of itself.
+-- What hypers and trace tables show of themselves.
 use Rattle.std.specs.Prelude.{ℕ, List, [], map, slice_index_or}
 use Rattle.kf_value.specs.Targets.{Item}
 use Rattle.kf_value.specs.Views.{items_of}
 use Rattle.kf_hyper.specs.declared.hyper.Hyper.{Hyper}
+use Rattle.kf_hyper.specs.declared.traces.TraceTable.{TraceTable}
 use Rattle.kf_hyper.specs.Hypers.{Inner}
 use Rattle.kf_hyper.specs.Shapes.{inner_of}
+use Rattle.kf_hyper.specs.Traces.{Row, row_of}
 
 -- its inners with their totals, in their order
 abbrev pub inners_of : Hyper → List Inner
@@ -21,3 +23,7 @@ scale_of h = h.scale
 -- what it is about
 abbrev pub target_of : Hyper → List Item
 target_of h = items_of h.target
+
+-- the rows of a trace table
+abbrev pub rows_of : TraceTable → List Row
+rows_of t = map row_of t.rows

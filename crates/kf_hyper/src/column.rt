@@ -1,7 +1,9 @@
-ghost use Rattle.std.specs.Prelude.{◌≡◌};
-ghost use Rattle.kf_hyper.specs.Columns.{IsColumn};
+ghost use Rattle.std.specs.Prelude.{◌≡◌, IfOk};
+ghost use Rattle.kf_hyper.specs.Columns.{IsColumn, weight_at};
 
 use crate::EntryList;
+use kf_value::Mem;
+use std::alloc::Global;
 use std::marker::Model;
 
 /// A column of a joint matrix: at least one value, each once, ascending, with weights of at least 1.
@@ -37,6 +39,25 @@ impl Column {
         ensures column { IsColumn result.now }
     {
         &self.entries
+    }
+
+    /// The weight of a value: 0 where the column doesn't name it.
+    pub fn weight(&self, x: u64) -> u128
+        ensures { result ≡ weight_at self.now x }
+    {
+        let entries = self.entries.as_slice();
+        match entries.binary_search_by_key(&x, |entry| entry.value) {
+            Ok(place) => entries[place].weight,
+            Err(_) => 0,
+        }
+    }
+
+    /// An equal column.
+    pub fn copy(&self, alloc: Global) -> Result<Column, Mem>
+        ensures { IfOk result (λ copied. copied ≡ self.now) }
+    {
+        let entries = self.entries.as_slice().to_vec(alloc)?;
+        Ok(Column::new(EntryList::new(entries)))
     }
 }
 

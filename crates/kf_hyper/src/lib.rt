@@ -1,4 +1,4 @@
-//! Columns of whole weights, and the hyper-distribution of a list of columns.
+//! Columns of whole weights, the hyper-distribution of a list of columns, and tables of traces.
 #![tactic(auto)]
 
 mod class;
@@ -9,7 +9,9 @@ mod entry;
 mod hyper;
 mod law;
 mod projection;
+mod shares;
 mod sums;
+mod traces;
 
 pub use column::{Column, ColumnList};
 pub use columns::{Columns, join};
@@ -17,6 +19,8 @@ pub use entry::{Entry, EntryList};
 pub use hyper::{Hyper, abstract_columns};
 pub use law::{at_most_one_hyper, proportional_means};
 pub use projection::project;
+pub use shares::share;
+pub use traces::{TraceRow, TraceRowList, TraceTable};
 
 #[cfg(test)]
 mod tests;

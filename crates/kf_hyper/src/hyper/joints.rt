@@ -18,11 +18,8 @@ impl Hyper {
         ensures { result ≡ joint_weight x (inner_at self.now i) }
     {
         let class = &self.classes[i];
-        let entries = class.inner.entries().as_slice();
-        match entries.binary_search_by_key(&x, |entry| entry.value) {
-            Ok(place) => entries[place].weight * (class.total / class.whole),
-            Err(_) => 0,
-        }
+        let multiple = class.total / class.whole;
+        class.inner.weight(x) * multiple
     }
 
     /// The sum of all joint columns: the weights that the values have before anything is known, over the scale.

@@ -1,5 +1,5 @@
-ghost use Rattle.std.specs.Prelude.{◌≡◌, ◌<◌, ◌≤◌, length, pos, List};
-ghost use Rattle.kf_frac.specs.Fractions.{limit, reduced_num, reduced_den};
+ghost use Rattle.std.specs.Prelude.{◌≡◌, ◌<◌, length, pos, List};
+ghost use Rattle.kf_frac.specs.Fractions.{reduced_num, reduced_den};
 ghost use Rattle.kf_frac.specs.Views.{num_of, den_of};
 ghost use Rattle.kf_value.specs.Targets.{target_size};
 ghost use Rattle.kf_value.specs.Views.{items_of};
@@ -7,8 +7,8 @@ ghost use Rattle.kf_hyper.specs.Columns.{IsBelow, total, entry_at};
 ghost use Rattle.kf_hyper.specs.Views.{inners_of, inner_at, scale_of, target_of};
 
 use super::Hyper;
-use crate::Column;
-use kf_frac::{Frac, make};
+use crate::{Column, share};
+use kf_frac::Frac;
 use kf_value::Target;
 
 impl Hyper {
@@ -70,15 +70,4 @@ impl Hyper {
         let entry = &class.inner.entries().as_slice()[k];
         share(entry.weight, class.whole)
     }
-}
-
-// A part of a whole that is at most 2^127 - 1.
-fn share(part: u128, whole: u128) -> Frac
-    requires within { part ≤ whole }
-    requires some { 0 < whole }
-    requires narrow { whole ≤ limit }
-    ensures num { num_of result ≡ reduced_num (pos part) whole }
-    ensures den { den_of result ≡ reduced_den (pos part) whole }
-{
-    make(part as i128, whole).unwrap()
 }

@@ -25,7 +25,7 @@ add_all-requires c =
     let is : c.class-item.result ≡ get_or c.args.self.now.classes.items c.loop-class.class-index c.class-item.result =
     subst (λ (cs : List Class). c.class-item.result ≡ get_or cs c.loop-class.class-index c.class-item.result) all c.class-item.is in
     let column : c.as_slice.result.now ≡ c.class-item.result.inner = c.as_slice.ensures ∙ c.entries.ensures.kept in
-    let part = one_more_le (λ (j : Inner). j.total) c.args.self.now.classes.items c.loop-class.class-index c.class-item.result inside is in
+    let part = one_more_le inner_of (λ (j : Inner). j.total) c.args.self.now.classes.items c.loop-class.class-index c.class-item.result inside is in
     let times = times_whole c.args.self.now.classes.items c.loop-class.class-index c.class-item.result _ _ c.args.self.now.shape (rw length-map inside) is c.class-item.result.summed in
     record {
       some = times_some c.args.self.now.classes.items c.loop-class.class-index c.class-item.result _ _ c.args.self.now.shape (rw length-map inside) is c.class-item.result.summed;
@@ -62,14 +62,14 @@ loop-class-preserved c =
           mul_comm (c.class-item.result.total / c.class-item.result.whole) (weight_at c.as_slice.result.now x)
           ∙ ap (λ (es : List Entry). weight_at es x * (c.class-item.result.total / c.class-item.result.whole)) column
           ∙ ap (λ (n : ℕ). weight_at c.class-item.result.inner x * (c.class-item.result.total / n)) c.class-item.result.summed in
-          omega (arith, c.in_ok-add_all.ensures.gains.weights x, c.loop-class.invariant.weights x, gained, one_more (joint_weight x) c.args.self.now.classes.items c.loop-class.class-index c.class-item.result inside is);
+          omega (arith, c.in_ok-add_all.ensures.gains.weights x, c.loop-class.invariant.weights x, gained, one_more inner_of (joint_weight x) c.args.self.now.classes.items c.loop-class.class-index c.class-item.result inside is);
       totals = omega (
         arith,
         c.in_ok-add_all.ensures.gains.total,
         c.loop-class.invariant.totals,
         times,
         ap (λ (es : List Entry). (c.class-item.result.total / c.class-item.result.whole) * total es) column,
-        one_more (λ (j : Inner). j.total) c.args.self.now.classes.items c.loop-class.class-index c.class-item.result inside is,
+        one_more inner_of (λ (j : Inner). j.total) c.args.self.now.classes.items c.loop-class.class-index c.class-item.result inside is,
       );
       positive = c.in_ok-add_all.ensures.positive c.loop-class.invariant.positive;
     }
@@ -82,7 +82,7 @@ column_of-requires c =
       some = omega (
         arith,
         c.loop-class.invariant.totals,
-        all_seen (λ (j : Inner). j.total) c.args.self.now.classes.items c.loop-class.class-index past,
+        all_seen inner_of (λ (j : Inner). j.total) c.args.self.now.classes.items c.loop-class.class-index past,
         c.args.self.now.shape.whole,
         c.args.self.now.shape.some,
       );
@@ -92,5 +92,5 @@ pub returns : goal.returns
 returns c =
     let past = rw c.deref-class-items.ensures.value at c.loop-class-test.false in
     IfOk-weaker c.column_of.result (λ column. column ≡ summed c.loop-class.sums.entries) (λ column. (x : ℕ) → weight_at column x ≡ average_weight (map inner_of c.args.self.now.classes.items) x)
-    (λ column is x. ap (λ (es : List Entry). weight_at es x) is ∙ c.loop-class.invariant.weights x ∙ all_seen (joint_weight x) c.args.self.now.classes.items c.loop-class.class-index past)
+    (λ column is x. ap (λ (es : List Entry). weight_at es x) is ∙ c.loop-class.invariant.weights x ∙ all_seen inner_of (joint_weight x) c.args.self.now.classes.items c.loop-class.class-index past)
     c.column_of.ensures

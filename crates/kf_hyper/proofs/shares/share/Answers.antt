@@ -3,7 +3,7 @@ use Rattle.std.specs.Int.{w128}
 use Rattle.std.proofs.lemmas.Int.{ints}
 use Rattle.kf_frac.specs.Fractions.{PartsFit, reduced_num, reduced_den}
 use Rattle.kf_hyper.proofs.Reading.{reduced_fit}
-use Rattle.kf_hyper.proofs.hyper.readers.share.Goals as goal
+use Rattle.kf_hyper.proofs.shares.share.Goals as goal
 
 pub unwrap-requires : goal.unwrap-requires
 unwrap-requires c =

@@ -1,0 +1,4 @@
+mod Cells
+mod Noisy
+mod Parts
+mod Secrets

@@ -1,0 +1,13 @@
+//! Channel matrices: with which probability each secret shows each trace.
+#![tactic(auto)]
+
+mod channel;
+mod error;
+mod law;
+
+pub use channel::{Channel, channel_of};
+pub use error::ChannelError;
+pub use law::rows_sum_to_one;
+
+#[cfg(test)]
+mod tests;

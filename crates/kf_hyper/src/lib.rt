@@ -20,6 +20,7 @@ pub use hyper::{Hyper, abstract_columns};
 pub use law::{at_most_one_hyper, proportional_means};
 pub use projection::project;
 pub use shares::share;
+pub use sums::column_of;
 pub use traces::{TraceRow, TraceRowList, TraceTable};
 
 #[cfg(test)]

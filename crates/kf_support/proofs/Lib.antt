@@ -10,11 +10,11 @@ mod Carrying
 mod Nothing
 mod Telling
 mod Adding
-mod Stores
+pub mod Stores
 mod Weighing
 mod Stepping
 mod Copying
-mod Passing
-mod FirstStore
-mod Declaring
+pub mod Passing
+pub mod FirstStore
+pub mod Declaring
 mod Deciding

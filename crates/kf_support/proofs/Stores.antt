@@ -30,12 +30,14 @@ is_eq_Equal Greater h = absurd (cc)
 values_decide : (v w : ValueTree) → (is_equal v w ≡ true → v ≡ w) × (v ≡ w → is_equal v w ≡ true)
 values_decide v w = (λ h. same v w (is_eq_Equal (order v w) h), λ e. subst (λ x. is_equal v x ≡ true) e (ap is_eq (order-itself v)))
 
+-- equal lists of values are the same
 pub lists_decide : (s t : List ValueTree) → (pointwise is_equal s t ≡ true → s ≡ t) × (s ≡ t → pointwise is_equal s t ≡ true)
 lists_decide s t = pointwise_decides values_decide s t
 
 -- ---- the places of stores
 
-lists_order-itself : (s : List ValueTree) → lists_order s s ≡ Equal
+-- a list of values is not below itself
+pub lists_order-itself : (s : List ValueTree) → lists_order s s ≡ Equal
 lists_order-itself [] = refl
 lists_order-itself (v ∷ s) = ap (λ o. ordering_then o (lists_order s s)) (order-itself v) ∙ lists_order-itself s
 
@@ -84,7 +86,8 @@ no_number ts s none =
 
 -- ---- the store with a number
 
-counts : (ts : List TypeTree) → map length (map values ts) ≡ map count ts
+-- as many values are listed as are counted
+pub counts : (ts : List TypeTree) → map length (map values ts) ≡ map count ts
 counts [] = refl
 counts (t ∷ ts) = ap (λ n. n ∷ map length (map values ts)) (length-values t) ∙ ap (λ ns. count t ∷ ns) (counts ts)
 

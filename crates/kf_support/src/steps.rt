@@ -1,18 +1,16 @@
 //! One step from all stores that are reached.
 
-ghost use Rattle.std.specs.Prelude.{◌≡◌, ℕ, ◌<◌, ◌≤◌, ◌^◌, [], ◌∷◌, if◌then◌else◌, true, false, Ok, length, map, get_or, slice_get, slice_set, Some, IfOk, IfErr, IfSome, OnOk};
+ghost use Rattle.std.specs.Prelude.{◌≡◌, ℕ, ◌<◌, ◌≤◌, ◌^◌, [], ◌∷◌, if◌then◌else◌, true, false, Ok, length, map, Some, IfOk, IfErr, OnOk};
 ghost use Rattle.std.specs.List.{All};
-ghost use Rattle.kf_value.specs.Values.{IsWellFormed, Truth};
-ghost use Rattle.kf_value.specs.Views.{value_tree};
+ghost use Rattle.kf_value.specs.Values.{IsWellFormed};
 ghost use Rattle.kf_value.specs.Kinds.{KindTree, TruthKind};
 ghost use Rattle.kf_value.specs.Shapes.{shape_types, shape_sizes};
 ghost use Rattle.kf_value.specs.Types.{product};
-ghost use Rattle.kf_ops.specs.Values.{truth as truth_of};
 ghost use Rattle.kf_core.specs.Checked.{DistKinded, IsChecked};
 ghost use Rattle.kf_core.specs.Dxs.{dx_tree};
 ghost use Rattle.kf_core.specs.Programs.{program_tree};
 ghost use Rattle.kf_core.specs.Choices.{total};
-ghost use Rattle.kf_core.specs.Runs.{copied, replaced, store_at, tried};
+ghost use Rattle.kf_core.specs.Runs.{replaced, tried};
 ghost use Rattle.kf_core.specs.Support.{can_be as can_be_of, each_moved, then_pass};
 ghost use Rattle.kf_eval.specs.Choices.{weighted_tree, weighted_trees};
 ghost use Rattle.kf_eval.specs.Kinds.{shape_kinds};
@@ -20,10 +18,11 @@ ghost use Rattle.kf_support.specs.Answers.{AnswersPass, AreWays, IsHaltOf};
 ghost use Rattle.kf_support.specs.Carried.{carry_step, with_ways, assign_lead, observe_lead, guard_lead, last_lead, copy_lead};
 
 use crate::faults::{Halt, RunFault, fault_of};
+use crate::moves::{copied_store, moved};
 use crate::ways::{add_way, scaled};
 use kf_core::{Dx, Program, choice_laws};
-use kf_eval::{Choice, Weighted, choices};
-use kf_value::{Mem, Shape, Value, value_at};
+use kf_eval::{Choice, Weighted, choices, is_true};
+use kf_value::{Mem, Shape};
 use std::alloc::Global;
 use std::collections::BTreeMap;
 
@@ -32,20 +31,6 @@ use std::collections::BTreeMap;
 pub struct Branches {
     pub taken: BTreeMap<u64, u128>,
     pub left: BTreeMap<u64, u128>,
-}
-
-/// The store with the variable at `slot` changed; none where the value isn't of its type.
-fn moved(shape: &Shape, slot: usize, store: u64, value: &Value) -> Option<u64>
-    requires variable { slot < length (shape_types shape.now) }
-    requires store { store < product (shape_sizes shape.now) }
-    requires formed { IsWellFormed (value_tree value.now) }
-    ensures moved { result ≡ replaced (shape_types shape.now) slot (value_tree value.now) store }
-    ensures below { IfSome result (λ after. after < product (shape_sizes shape.now)) }
-{
-    match shape.with_slot(store, slot, value) {
-        Ok(after) => Some(after),
-        Err(_) => None,
-    }
 }
 
 /// What the distribution chooses in a store, or its fault as one of the pass.
@@ -156,15 +141,6 @@ fn can_be(choices: &[Weighted], truth: bool) -> bool
     choices.iter().any(|choice| is_true(&choice.value) == truth)
 }
 
-fn is_true(value: &Value) -> bool
-    ensures { result ≡ truth_of (value_tree value.now) }
-{
-    match value {
-        Value::Bool(truth) => *truth,
-        _ => false,
-    }
-}
-
 /// Adds a way to a store where `there` says so.
 fn add_if(
     reached: &mut BTreeMap<u64, u128>,
@@ -242,50 +218,6 @@ pub fn last_guard(
         )?;
     }
     Ok(left)
-}
-
-/// The value of a variable in a store.
-fn value_in(alloc: Global, shape: &Shape, store: u64, i: usize) -> Result<Value, Mem>
-    requires store { store < product (shape_sizes shape.now) }
-    requires within { i < length (shape_types shape.now) }
-    ensures value { IfOk result (λ v. slice_get (store_at (shape_types shape.now) store) i ≡ Some (value_tree v)) }
-    ensures formed { IfOk result (λ v. IsWellFormed (value_tree v)) }
-{
-    let ty = &shape.types().as_slice()[i];
-    value_at(alloc, ty, shape.slot(store, i))
-}
-
-/// The store where the variable `to` has the value of `from`, which is of its type.
-fn copied_to(alloc: Global, shape: &Shape, store: u64, from: usize, to: usize) -> Result<u64, Mem>
-    requires store { store < product (shape_sizes shape.now) }
-    requires from { from < length (shape_types shape.now) }
-    requires to { to < length (shape_types shape.now) }
-    requires alike { slice_get (shape_types shape.now) to ≡ slice_get (shape_types shape.now) from }
-    ensures copied { IfOk result (λ after. store_at (shape_types shape.now) after
-        ≡ slice_set (store_at (shape_types shape.now) store) to (get_or (store_at (shape_types shape.now) store) from (Truth false))) }
-    ensures below { IfOk result (λ after. after < product (shape_sizes shape.now)) }
-{
-    let value = value_in(alloc, shape, store, from)?;
-    match shape.with_slot(store, to, &value) {
-        Ok(after) => Ok(after),
-        Err(_) => unreachable!(),
-    }
-}
-
-/// The store with the carried copies set.
-fn copied_store(alloc: Global, program: &Program, store: u64) -> Result<u64, Mem>
-    requires checked { IsChecked (program_tree program.now) }
-    requires store { store < product (shape_sizes program.now.shape) }
-    ensures copied { IfOk result (λ after. after ≡ copied (program_tree program.now) store) }
-    ensures below { IfOk result (λ after. after < product (shape_sizes program.now.shape)) }
-{
-    let mut place = program.decls.as_slice().len();
-    let mut after = store;
-    for slot in program.copies.as_slice() {
-        after = copied_to(alloc, &program.shape, after, usize::from(*slot), place)?;
-        place += 1;
-    }
-    Ok(after)
 }
 
 /// The stores with the carried copies set.

@@ -1,7 +1,7 @@
 use Rattle.kf_value.specs.Shapes.{shape_types}
 use Rattle.kf_value.specs.Views.{value_tree}
 use Rattle.kf_support.proofs.Copying.{fits_type, copied_value}
-use Rattle.kf_support.proofs.steps.copied_to.Goals as goal
+use Rattle.kf_support.proofs.moves.copied_to.Goals as goal
 
 pub unreachable-requires : goal.unreachable-requires
 unreachable-requires c =

@@ -4,7 +4,7 @@ use Rattle.kf_value.specs.Types.{product}
 use Rattle.kf_core.specs.Programs.{program_tree}
 use Rattle.kf_core.specs.Dxs.{dx_items}
 use Rattle.kf_support.proofs.Copying.{Copies}
-use Rattle.kf_support.proofs.steps.copied_store.Given as goal
+use Rattle.kf_support.proofs.moves.copied_store.Given as goal
 
 abbrev pub invariant-loop-slot : goal.invariant-loop-slot
 invariant-loop-slot l = record {

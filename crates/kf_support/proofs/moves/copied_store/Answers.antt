@@ -5,7 +5,7 @@ use Rattle.kf_value.specs.Types.{product}
 use Rattle.kf_core.specs.Dxs.{dx_items, dx_tree}
 use Rattle.kf_core.specs.Programs.{program_tree}
 use Rattle.kf_support.proofs.Copying.{copy_known, copies_end, drop_past}
-use Rattle.kf_support.proofs.steps.copied_store.Goals as goal
+use Rattle.kf_support.proofs.moves.copied_store.Goals as goal
 
 pub copied_to-requires-clause-from : goal.copied_to-requires-clause-from
 copied_to-requires-clause-from c =

@@ -1,5 +1,5 @@
 use Rattle.kf_support.proofs.Copying.{type_sized, type_formed, size_at, value_found}
-use Rattle.kf_support.proofs.steps.value_in.Goals as goal
+use Rattle.kf_support.proofs.moves.value_in.Goals as goal
 
 pub value_at-requires-clause-sized : goal.value_at-requires-clause-sized
 value_at-requires-clause-sized c =

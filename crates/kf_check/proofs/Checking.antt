@@ -1,10 +1,9 @@
 -- The program of a source that breaks no rule is checked.
 use Rattle.std.proofs.Common.{◌≡◌, ℕ, suc, zero, ◌≤◌, ◌<◌, ◌+◌, true, false, List, [], ◌∷◌, ◌++◌, length, map, take, slice_get, Option, Some, None, Ok, length-append, append_assoc, get_or, refl, sym, ap, ◌∙◌, subst, arith}
 use Rattle.std.proofs.lemmas.List.{length-map, map-append, take-append-le}
-use Rattle.std.proofs.lemmas.List.FromFn.{get_or-range_with_len, length-range_with_len}
-use Rattle.std.specs.List.{range_with_len}
+use Rattle.std.proofs.lemmas.List.FromFn.{length-range_with_len}
 use Rattle.std.specs.Option.{option_map}
-use Rattle.std.proofs.lemmas.Option.{slice_get-map, slice_get_within, slice_get-get_or, get_or_from_slice_get}
+use Rattle.std.proofs.lemmas.Option.{slice_get-map, slice_get_within, slice_get-get_or}
 use Rattle.kf_value.specs.Types.{TypeTree, Boolean}
 use Rattle.kf_value.specs.Targets.{Item}
 use Rattle.kf_ops.specs.Fitting.{Takes}
@@ -20,13 +19,14 @@ use Rattle.kf_core.specs.Programs.{ProgramTree}
 use Rattle.kf_core.specs.Checked.{kind_of, DistKinded, AreSound, declared_kinds, IsReadFrom, IsChecked}
 use Rattle.kf_check.specs.Kinds.{JudgesDist}
 use Rattle.kf_check.specs.Statements.{JudgesStmts}
-use Rattle.kf_check.specs.Sources.{Variable, types_of, known_of, JudgesDecl, JudgesDecls}
+use Rattle.kf_check.specs.Sources.{Variable, types_of, known_of, JudgesDecl, JudgesDecls, JudgesItems}
 use Rattle.kf_check.specs.Sources as rule
 use Rattle.kf_check.specs.Translation.{IsVariable, AreDecls, AreItems, IsTarget, AreSts, names_of}
 use Rattle.kf_check.specs.Translation as becomes
 use Rattle.kf_check.specs.Laws.{IsWellBuilt}
 use Rattle.kf_check.proofs.Kinding.{names_in, kinds_in, Differ, Agree, agree, asked, dist_kinded, all_sound, slice_get-some}
 use Rattle.kf_check.proofs.Declared.{grown, counted, slice_get-left, slice_get-right, variables_differ, known_differ, names_of_known, kinds_of_known, named_first, types_first}
+use Rattle.kf_check.proofs.SlotsApart.{target_apart, place_is}
 
 pub sts_list-sts : (ys : List StTree) → sts_list (sts ys) ≡ ys
 sts_list-sts [] = refl
@@ -123,9 +123,7 @@ module _ (vs : List Variable) (p : ProgramTree) (some : length p.decls ≡ lengt
       → (j slot : ℕ) (item : Item) → slice_get is j ≡ Some item → slice_get slots j ≡ Some slot → IsReadFrom p item slot
   target_read becomes.all later j slot item h g =
       let ours = map_at (λ v. record { initial = false; name = v.name; ty = v.type }) vs j item h in
-      let within = slice_get_within vs j ours.0 ours.1 in
-      let here : j ≡ slot = (let zeroth : 0 + j ≡ j = omega arith in sym zeroth) ∙ sym (get_or-range_with_len 0 (length vs) j slot within) ∙ get_or_from_slice_get (range_with_len 0 (length vs)) j slot slot g in
-      found_read _ item j slot (final_read j ours.0 ours.1) (ap Some ours.2) (ap Some here)
+      found_read _ item j slot (final_read j ours.0 ours.1) (ap Some ours.2) (ap Some (place_is (length vs) j slot g))
   target_read (becomes.about are) later j slot item h g = items_read are (λ m c e. (let shift : length vs + (0 + m) ≡ length vs + m = omega arith in ap (slice_get p.types) shift) ∙ later m c e) j slot item h g
 
 target_length : {vs : List Variable} {items : List ItemTree} {cs : List ℕ} {is : List Item} {slots : List ℕ} → IsTarget vs items cs is slots → length is ≡ length slots
@@ -213,15 +211,16 @@ module _ (vs : List Variable) (types : List TypeTree) (p : ProgramTree) (as_many
 pub decls_many : {names : List (List ℕ)} {vs : List Variable} {ds : List DeclTree} {es : List DxTree} → JudgesDecls [] ds (Ok vs) → AreDecls names ds es → length es ≡ length vs
 decls_many js are = let a = decls_length are in let b = counted js in omega arith
 
--- the program of a source whose declarations and statements break no rule is checked
+-- the program of a source whose declarations, target and statements break no rule is checked
 pub checked : (ds : List DeclTree) (items : List ItemTree) (xs : List StmtTree) (vs : List Variable) (types : List TypeTree) (p : ProgramTree) → IsWellBuilt (source ds items xs)
-    → JudgesDecls [] ds (Ok vs) → JudgesStmts (known_of vs) (stmts xs) None → p.types ≡ types_of vs ++ types → AreCopied vs p.copies types
+    → JudgesDecls [] ds (Ok vs) → JudgesItems vs [] (types_of vs) items None → JudgesStmts (known_of vs) (stmts xs) None → p.types ≡ types_of vs ++ types → AreCopied vs p.copies types
     → AreDecls (names_of vs) ds p.decls → IsTarget vs items p.copies p.target p.target_slots → AreSts (names_of vs) (stmts xs) (sts p.body) → IsChecked p
-checked ds items xs vs types p built js ss whole copied decls target body = let many = decls_many js decls in record {
+checked ds items xs vs types p built js ls ss whole copied decls target body = let many = decls_many js decls in record {
   counted = all_counted vs types p many whole copied;
   declared = dists_kinded vs types p many whole copied ds js built.0 decls;
   copied = copied_from vs types p many whole copied;
   sound = body_sound vs types p many whole copied ds js xs built.1 ss body;
   targeted = target_length target;
   read = target_read vs p many (first_type vs types p many whole copied) target (copy_read vs types p many whole copied);
+  apart = target_apart ls target;
 }

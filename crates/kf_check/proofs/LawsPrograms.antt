@@ -171,7 +171,7 @@ module _ (ds : List DeclTree) (items : List ItemTree) (xs : List StmtTree) (buil
           are_decls = decls;
           is_target = aim.is;
           are_statements = same;
-          checked = checked ds items xs vs aim.types p built js ss refl aim.copied decls aim.is same;
+          checked = checked ds items xs vs aim.types p built js ls ss refl aim.copied decls aim.is same;
         },
       )
 

@@ -3,6 +3,7 @@ mod Naming
 mod Left
 mod StmtTurns
 pub mod Declared
+mod SlotsApart
 pub mod Checking
 mod LawsChoices
 mod LawsFits

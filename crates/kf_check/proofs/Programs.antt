@@ -104,5 +104,5 @@ typed ds items xs vs types p built some decls target body whole copied = record 
   are_decls = decls.1;
   is_target = target.1;
   are_statements = body.1;
-  checked = checked ds items xs vs types p built decls.0 body.0 whole copied decls.1 target.1 body.1;
+  checked = checked ds items xs vs types p built decls.0 target.0 body.0 whole copied decls.1 target.1 body.1;
 }

@@ -1,14 +1,10 @@
 mod Among
-mod Digits
-mod Examples
-pub mod Forms
 mod PassFollows
 pub mod PassTells
 pub mod RunEnds
 mod RunsChain
 pub mod Scales
 mod SupportAgrees
-pub mod Runs
 pub mod StoreKinds
 pub mod SetLiterals
 pub mod Keeping
@@ -18,3 +14,7 @@ pub mod Shares
 mod Choosing
 pub mod Plain
 pub mod Wider
+mod Settled
+mod KindsFound
+mod DistsFound
+pub mod Unsquashed

@@ -99,3 +99,5 @@ pub record IsChecked (p : ProgramTree) : Type 0 where
   pub sound : AreSound (declared_kinds p) p.body
   pub targeted : length p.target ≡ length p.target_slots
   pub read : (j slot : ℕ) (item : Item) → slice_get p.target j ≡ Some item → slice_get p.target_slots j ≡ Some slot → IsReadFrom p item slot
+  -- no two items of the target are read from one variable
+  pub apart : (j k slot : ℕ) → slice_get p.target_slots j ≡ Some slot → slice_get p.target_slots k ≡ Some slot → j ≡ k

@@ -1,31 +1,45 @@
--- The joint: whole weights of traces and values, over one scale.
-use Rattle.std.specs.Prelude.{◌≡◌, ℕ, ◌*◌, ◌/◌, Bool, ◌&&◌, ◌==◌, List, map, nat_eq, filter, sum_by, Any}
+-- The joint of a program: whole weights of traces and target values, over the scale of all runs.
+use Rattle.std.specs.Prelude.{ℕ, ◌*◌, ◌/◌, ◌<◌, Bool, false, ◌&&◌, ◌==◌, List, [], ◌∷◌, map, get_or, filter, sum_by, flat_map, None, Some, Ok, Err}
 use Rattle.std.specs.Cmp.Lexicographic.{pointwise}
-use Rattle.kf_core.specs.FirstForm.{FirstForm}
-use Rattle.kf_core.specs.Rows.{Row, rows_of, scale_of}
+use Rattle.kf_value.specs.Values.{ValueTree, Truth}
+use Rattle.kf_ops.specs.Values.{is_equal}
+use Rattle.kf_core.specs.Programs.{ProgramTree}
+use Rattle.kf_core.specs.Runs.{Run, store_at, store_number, program_runs}
+use Rattle.kf_core.specs.Scale.{scale_of}
 
--- a run's trace, its value, and its weight over the scale of all runs
+-- a run's trace, the number of its target value, and its weight over the scale of all runs
 pub record Cell : Type 0 where
-  pub trace : List ℕ
+  pub trace : List ValueTree
   pub value : ℕ
   pub weight : ℕ
 
--- a row's weight, brought from its own scale to the scale of all
-abbrev pub cell_of : ℕ → Row → Cell
-cell_of total r = record { trace = r.trace; value = r.final; weight = r.weight * total / r.scale }
+-- the values of the target in a store: each item is read in its variable, which for an item `old` is the carried copy
+abbrev pub target_values_at : ProgramTree → ℕ → List ValueTree
+target_values_at p n = map (λ slot. get_or (store_at p.types n) slot (Truth false)) p.target_slots
+
+-- their number among the target's values
+abbrev pub target_number : ProgramTree → ℕ → ℕ
+target_number p n = elim (store_number (map (λ i. i.ty) p.target) (target_values_at p n)) [ Some m ↦ m | None ↦ 0 ]
+
+-- a run that ends, with its weight brought from its own scale to the scale of all
+abbrev pub cells_of : ℕ → ProgramTree → Run → List Cell
+cells_of total p r = elim r.end [ Ok n ↦ record { trace = r.trace; value = target_number p n; weight = r.weight * total / r.scale } ∷ [] | Err f ↦ [] ]
 
 -- the cells of all runs
-abbrev pub joint_of : FirstForm → List Cell
-joint_of f = map (cell_of (scale_of f)) (rows_of f)
+abbrev pub joint_of : ℕ → ProgramTree → List Cell
+joint_of turns p = flat_map (cells_of (scale_of turns p) p) (program_runs turns p)
 
--- whether a cell has this trace and this value
-abbrev pub is_cell_at : List ℕ → ℕ → Cell → Bool
-is_cell_at t x c = pointwise nat_eq c.trace t && (c.value == x)
+abbrev pub is_cell_at : List ValueTree → ℕ → Cell → Bool
+is_cell_at t x c = pointwise is_equal c.trace t && (c.value == x)
 
--- the joint weight of a trace and a value: the sum over the runs that have both
-abbrev pub weight_of : List Cell → List ℕ → ℕ → ℕ
+-- the joint weight of a trace and a target value: the sum over the runs that have both
+abbrev pub weight_of : List Cell → List ValueTree → ℕ → ℕ
 weight_of cells t x = sum_by (λ c. c.weight) (filter (is_cell_at t x) cells)
 
--- some run has the trace
-abbrev pub HasTrace : List Cell → List ℕ → Type 0
-HasTrace cells t = Any (λ c. c.trace ≡ t) cells
+-- the weight of a trace: the sum over the runs that have it
+abbrev pub trace_weight : List Cell → List ValueTree → ℕ
+trace_weight cells t = sum_by (λ c. c.weight) (filter (λ c. pointwise is_equal c.trace t) cells)
+
+-- some weight lies on the trace
+abbrev pub HasTrace : List Cell → List ValueTree → Type 0
+HasTrace cells t = 0 < trace_weight cells t

@@ -1,8 +1,3 @@
-pub mod FirstForm
-pub mod FirstView
-pub mod Joint
-pub mod Numerals
-pub mod Rows
 pub mod Exs
 pub mod Dxs
 pub mod Sts
@@ -14,5 +9,6 @@ pub mod Choices
 pub mod Runs
 pub mod Support
 pub mod Scale
+pub mod Joint
 pub mod SupportLaws
 pub mod ChoiceLaws

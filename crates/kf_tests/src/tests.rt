@@ -6,6 +6,7 @@ ghost use Rattle.kf_core.specs.Checked.{IsChecked};
 mod answers;
 mod causes;
 mod choices;
+mod commands;
 mod faults;
 mod plain;
 mod refusals;
@@ -15,7 +16,9 @@ mod values;
 
 use kf_check::check;
 use kf_core::Program;
-use kf_io::{ByteList, CallList, FileEntry, FileList, FileName, Files, MemFiles, MemSink};
+use kf_io::{
+    ByteList, CallList, FileEntry, FileList, FileName, Files, MemFiles, MemSink, SureFiles,
+};
 use kf_lex::lex;
 use kf_parse::{grammar, parse};
 use kf_top::run;
@@ -32,6 +35,17 @@ struct End<'a> {
     status: u8,
     out: &'a str,
     err: &'a str,
+}
+
+impl<'a> End<'a> {
+    // An answer with nothing on standard error.
+    fn answer(out: &'a str) -> End<'a> {
+        End {
+            status: 0,
+            out,
+            err: "",
+        }
+    }
 }
 
 // The words of a line.
@@ -113,4 +127,16 @@ fn ends<F: Files>(
 ) -> Result<(), Fail> {
     let alloc = rt.alloc();
     ends_over(rt, line, files, ample(alloc)?, ample(alloc)?, want)
+}
+
+// A run of these words over the file `p.kf` with this text ends so.
+fn ends_over_text(
+    rt: &(impl Abort + AllocGlobal),
+    words: &str,
+    text: &str,
+    want: End<'_>,
+) -> Result<(), Fail> {
+    let bytes = text.as_bytes().to_vec(rt.alloc())?;
+    let mut files = SureFiles::new(one_file(rt.alloc(), bytes)?, 65536);
+    ends(rt, words, &mut files, want)
 }

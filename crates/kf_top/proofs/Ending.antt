@@ -30,14 +30,14 @@ refused_high (refusal.TooLong name) = omega arith
 refused_high (refusal.BadText name line column word) = omega arith
 refused_high (refusal.BadRun name line column word) = omega arith
 refused_high (refusal.WideScale name) = omega arith
-refused_high (refusal.NotFirst name) = omega arith
+refused_high refusal.NotInitial = omega arith
 
 pub refused_other : (r : Refusal) → status_of (refused r) ≢ 12
 refused_other (refusal.TooLong name) = λ e. omega arith
 refused_other (refusal.BadText name line column word) = λ e. omega arith
 refused_other (refusal.BadRun name line column word) = λ e. omega arith
 refused_other (refusal.WideScale name) = λ e. omega arith
-refused_other (refusal.NotFirst name) = λ e. omega arith
+refused_other refusal.NotInitial = λ e. omega arith
 
 answered_refused : (words : List (List ℕ)) (contents : List ℕ → List ℕ) (r : Refused) (out err : Sunk) (status : ℕ) → Outcome words contents (Err r) → status ≡ status_of r → TookNothing out → TookLine err (line_of r)
     → Answered words contents out err status

@@ -1,12 +1,10 @@
-pub mod Adding
 pub mod Ending
-pub mod FirstTarget
-pub mod Gathering
 pub mod Lines
 pub mod Listing
+mod Noisy
 pub mod OneAnswer
 pub mod Placing
 pub mod Printing
 pub mod Steps
-pub mod Whole
+mod Rows
 mod Turns

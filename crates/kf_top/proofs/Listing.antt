@@ -1,29 +1,54 @@
--- Columns taken from the map one after the other.
-use Rattle.std.proofs.Common.{◌≡◌, ℕ, List, [], ◌∷◌, ◌++◌, All, map, sym, ◌∙◌, ap, subst, append_assoc, append-nil}
-use Rattle.std.proofs.lemmas.List.Elements.{All-head, All-tail}
-use Rattle.kf_hyper.specs.declared.entry.Entry.{Entry}
-use Rattle.kf_hyper.specs.Columns.{IsColumn}
-use Rattle.kf_top.specs.Gathering.{gathered}
-use Rattle.kf_top.proofs.Adding.{Key, Values}
+-- The columns of rows, taken from them one after the other.
+use Rattle.std.proofs.Common.{◌≡◌, ℕ, ◌+◌, List, [], ◌∷◌, ◌++◌, All, map, length, sum_by, refl, sym, ◌∙◌, ap, subst, arith, append_assoc, append-nil}
+use Rattle.std.proofs.lemmas.List.Elements.{All-head, All-tail, All-nil, All-cons}
+use Rattle.std.proofs.lemmas.List.Sums.{sum_by-cons}
+use Rattle.kf_hyper.specs.declared.traces.TraceRow.{TraceRow}
+use Rattle.kf_hyper.specs.declared.column.Column.{Column}
+use Rattle.kf_hyper.specs.Columns.{IsBelow, total}
+use Rattle.kf_hyper.specs.Joint.{IsJoint, mass}
+use Rattle.kf_hyper.specs.Traces.{Row, row_of, IsTable}
 
-abbrev Traced : Type 0
-Traced = List ℕ × List Entry
+abbrev pub columns_in : List Row → List Column
+columns_in rows = map (λ (r : Row). r.column) rows
 
-abbrev Listed : List (List Entry) → List (Key × Values) → List (List Entry) → Type 0
-Listed columns left whole = columns ++ map (λ (t : Traced). t.1) (gathered left) ≡ whole
+abbrev pub columns_left : List TraceRow → List Column
+columns_left left = columns_in (map row_of left)
 
-module _ (left : List (Key × Values)) (entry : Key × Values) (rest : List (Key × Values)) (is : left ≡ entry ∷ rest) where
-  pub taken : All (λ (t : Traced). IsColumn t.1) (gathered left) → IsColumn entry.1.items
-  taken all = All-head (λ (t : Traced). IsColumn t.1) (entry.0.items, entry.1.items) (gathered rest) (subst (λ es. All (λ (t : Traced). IsColumn t.1) (gathered es)) is all)
+-- what a loop over rows keeps, in which `len` are left
+pub record Listed (columns : List Column) (left : List TraceRow) (len : ℕ) (whole : List TraceRow) : Type 0 where
+  pub same : columns ++ columns_left left ≡ columns_left whole
+  pub len_is : len ≡ length left
 
-  pub still_left : All (λ (t : Traced). IsColumn t.1) (gathered left) → All (λ (t : Traced). IsColumn t.1) (gathered rest)
-  still_left all = All-tail (λ (t : Traced). IsColumn t.1) (entry.0.items, entry.1.items) (gathered rest) (subst (λ es. All (λ (t : Traced). IsColumn t.1) (gathered es)) is all)
+module _ (left : List TraceRow) (len : ℕ) (whole : List TraceRow) (columns : List Column) (had : Listed columns left len whole) where
+  pub listed_more : (now : List Column) (row : TraceRow) (rest : List TraceRow) (len' : ℕ) → left ≡ row ∷ rest → len' + 1 ≡ len → now ≡ columns ++ row.column ∷ [] → Listed now rest len' whole
+  listed_more now row rest len' is fewer grown = record {
+    same = ap (λ (l : List Column). l ++ columns_left rest) grown ∙ append_assoc columns (row.column ∷ []) (columns_left rest) ∙ ap (λ (rs : List TraceRow). columns ++ columns_left rs) (sym is) ∙ had.same;
+    len_is = let long = had.len_is in let longer = ap length is in omega arith;
+  }
 
-  pub listed_more : (columns now : List (List Entry)) (column : List Entry) (whole : List (List Entry)) → now ≡ columns ++ column ∷ [] → column ≡ entry.1.items → Listed columns left whole → Listed now rest whole
-  listed_more columns now column whole grown same had =
-      ap (λ (l : List (List Entry)). l ++ map (λ (t : Traced). t.1) (gathered rest)) (grown ∙ ap (λ (c : List Entry). columns ++ c ∷ []) same)
-      ∙ append_assoc columns (entry.1.items ∷ []) (map (λ (t : Traced). t.1) (gathered rest))
-      ∙ ap (λ es. columns ++ map (λ (t : Traced). t.1) (gathered es)) (sym is) ∙ had
+  none_left : (rows : List TraceRow) → length rows ≡ 0 → columns ++ columns_left rows ≡ columns_left whole → columns ≡ columns_left whole
+  none_left [] none same = sym (append-nil columns) ∙ same
+  none_left (r ∷ rs) none same = absurd (omega arith)
 
-pub listed_all : (columns : List (List Entry)) (left : List (Key × Values)) (whole : List (List Entry)) → left ≡ [] → Listed columns left whole → columns ≡ whole
-listed_all columns left whole none had = sym (append-nil columns) ∙ ap (λ es. columns ++ map (λ (t : Traced). t.1) (gathered es)) (sym none) ∙ had
+  pub listed_all : len ≡ 0 → columns ≡ columns_left whole
+  listed_all none = none_left left (sym had.len_is ∙ none) had.same
+
+mass_in : (rows : List Row) → mass (columns_in rows) ≡ sum_by (λ (r : Row). total r.column) rows
+mass_in [] = refl
+mass_in (r ∷ rs) =
+    sum_by-cons total r.column (columns_in rs) ∙ ap (λ n. total r.column + n) (mass_in rs) ∙ sym (sum_by-cons (λ (r : Row). total r.column) r rs)
+
+below_in : (size : ℕ) (rows : List Row) → All (λ (r : Row). IsBelow size r.column) rows → All (IsBelow size) (columns_in rows)
+below_in size [] all = All-nil (IsBelow size)
+below_in size (r ∷ rs) all = All-cons (IsBelow size) r.column (columns_in rs) (All-head (λ (r : Row). IsBelow size r.column) r rs all) (below_in size rs (All-tail (λ (r : Row). IsBelow size r.column) r rs all))
+
+-- the columns of a table are a joint whose weights sum to the scale
+module _ (size scale : ℕ) (rows : List Row) (is : IsTable size scale rows) (columns : List Column) (same : columns ≡ columns_in rows) where
+  pub whole_mass : mass columns ≡ scale
+  whole_mass = ap mass same ∙ mass_in rows ∙ is.whole
+
+  pub all_below : All (IsBelow size) columns
+  all_below = subst (All (IsBelow size)) (sym same) (below_in size rows is.within)
+
+  pub joint_in : IsJoint (record { scale = scale; columns = columns })
+  joint_in = record { some = is.some; narrow = is.narrow; fits = let sum = whole_mass in omega arith }

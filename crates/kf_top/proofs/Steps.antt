@@ -1,7 +1,8 @@
 -- One step and then the next, and what a stop's result is.
-use Rattle.std.proofs.Common.{◌≡◌, ◌≢◌, ◌<◌, ◌≤◌, le-leb, if◌then◌else◌, IsOk, ℕ, List, inl, inr, true, true≢false, None, Some, Result, Ok, Err, refl, sym, ap, ◌∙◌, subst}
+use Rattle.std.proofs.Common.{◌≡◌, ◌≢◌, ◌<◌, ◌≤◌, le-leb, if◌then◌else◌, IsOk, IfOk, IfErr, ℕ, List, Bool, ◌⊎◌, ⊎_elim, inl, inr, true, false, true≢false, None, Some, Result, Ok, Err, refl, sym, ap, ◌∙◌, subst}
 use Rattle.std.proofs.lemmas.Bool.{lt-leb}
 use Rattle.kf_frac.specs.Fractions.{limit}
+use Rattle.kf_value.specs.Targets.{Item}
 use Rattle.kf_lex.specs.declared.token.Token.{Token}
 use Rattle.kf_lex.specs.declared.token.LexError.{LexError}
 use Rattle.kf_lex.specs.declared.token.LexError.TheVariants as lexing
@@ -17,15 +18,13 @@ use Rattle.kf_core.specs.Programs.{ProgramTree}
 use Rattle.kf_core.specs.Runs.{Halted}
 use Rattle.kf_core.specs.Support.{StoreSet, program_pass}
 use Rattle.kf_core.specs.Scale.{scale_of as run_scale}
-use Rattle.kf_core.specs.FirstForm.{FirstForm}
-use Rattle.kf_core.specs.Rows.{scale_of}
 use Rattle.kf_core.specs.Joint.{joint_of}
-use Rattle.kf_hyper.specs.Hypers.{Inner}
-use Rattle.kf_top.specs.Answer.{Shown, Statement, States, WideScale}
-use Rattle.kf_top.specs.Columns.{IsHyperOf}
-use Rattle.kf_top.specs.Texts.{hyper_text}
-use Rattle.kf_top.specs.Outcome.{Step, After, Fault, token_fault, syntax_fault, type_fault, bad_text, TokensOf, SourceOf, ProgramOf, bad_run, scaled, cleared, ProgramForm, HyperOutcome, source_of, first_target, first_statement}
-use Rattle.kf_top.specs.Stops.{Answers, is_form}
+use Rattle.kf_channel.specs.Views.{all_initial}
+use Rattle.kf_top.specs.Answer.{Statement, Refused, ChannelOf, NotInitial, WideScale}
+use Rattle.kf_top.specs.Outcome.{Step, After, Fault, token_fault, syntax_fault, type_fault, bad_text, TokensOf, SourceOf, ProgramOf, bad_run, scaled, cleared, Gives, channel_statement}
+use Rattle.kf_top.specs.Stops.{Answers}
+use Rattle.kf_top.specs.Views.{ShowsStatement}
+use Rattle.kf_top.specs.declared.stops.Done.{Done}
 use Rattle.kf_top.specs.declared.stops.Stop.{Stop}
 use Rattle.kf_top.specs.declared.stops.Stop.TheVariants as stop
 
@@ -45,6 +44,15 @@ next_stops Meets first next Met stop.Mem x done h = tt
 pub next_answers : {A B X : Type 0} (Meets : X → B → Type 0) (first : Step A) (next : A → Step B) (r : Result X Stop) (x : A) → first (Ok x) → Answers Meets r (next x) → Answers Meets r (After first next)
 next_answers Meets first next (Ok z) x done h = (h.0, h.1, (x, done, h.2))
 next_answers Meets first next (Err s) x done h = next_stops Meets first next Meets s x done h
+
+-- what is left of the way to a cleared program once it is checked
+abbrev pub Then : List ℕ → List ℕ → ℕ → ProgramTree → Step ProgramTree
+Then name bytes turns p = After (Gives (cleared name bytes turns p)) (λ _. Gives (Ok p))
+
+-- what is stated of a cleared program, given what it is
+pub then_answers : (first : Step ProgramTree) (next : ProgramTree → Result Statement Refused) (q : ProgramTree) (r : Result Done Stop) → ((y : ProgramTree) × (q ≡ y) × first (Ok y))
+    → Answers ShowsStatement r (Gives (next q)) → Answers ShowsStatement r (After first (λ p. Gives (next p)))
+then_answers first next q r way answer = next_answers ShowsStatement first (λ p. Gives (next p)) r way.0 way.2 (subst (λ (p : ProgramTree). Answers ShowsStatement r (Gives (next p))) way.1 answer)
 
 -- an error with a fault isn't want of memory
 pub some_syntax : (e : ParseError) (f : Fault) → syntax_fault e ≡ Some f → e ≢ parsing.Mem
@@ -80,13 +88,21 @@ fits name bytes turns p ok few = ap (λ b. if b then Ok tt else Err (WideScale n
 pub too_wide : (name bytes : List ℕ) (turns : ℕ) (p : ProgramTree) → IsOk (program_pass turns p) → limit < run_scale turns p → Err (WideScale name) ≡ cleared name bytes turns p
 too_wide name bytes turns p ok wide = ap (λ b. if b then Ok tt else Err (WideScale name)) (sym (lt-leb (run_scale turns p) limit wide)) ∙ passed name bytes turns p (program_pass turns p) refl ok
 
--- the form of the same bytes
-pub form_at : (bytes read : List ℕ) (name : List ℕ) (turns : ℕ) (s : Stop) → read ≡ bytes → Answers is_form (Err s) (ProgramForm name read turns) → Answers is_form (Err s) (ProgramForm name bytes turns)
-form_at bytes read name turns s same h = subst (λ (l : List ℕ). Answers is_form (Err s) (ProgramForm name l turns)) same h
+-- what is made or wants memory
+pub made_answers : {B X : Type 0} (Meets : X → B → Type 0) (r : Result X Stop) (given : B) → IfOk r (λ x. Meets x given) → IfErr r (λ s. s ≡ stop.Mem) → Answers Meets r (Gives (Ok given))
+made_answers Meets (Ok x) given ok err = (given, ok, refl)
+made_answers Meets (Err s) given ok err = rw err tt
 
--- the shown text states the hyper of the form
-pub stated : (contents : List ℕ → List ℕ) (file bytes : List ℕ) (turns : ℕ) (form : FirstForm) (shown : Shown) (inners : List Inner) → Ok bytes ≡ source_of contents file → ProgramForm file bytes turns (Ok form) → IsHyperOf (joint_of form) inners
-    → shown.bytes ≡ hyper_text (first_target form) (scale_of form) inners → shown.yes ≡ true
-    → (statement : Statement) × States shown statement × HyperOutcome contents file turns (Ok statement)
-stated contents file bytes turns form shown inners source first hyper text yes' =
-    (first_statement form, record { inners = inners; is_hyper = hyper; text = text; yes = yes' }, (bytes, source, (form, first, refl)))
+either_way : (b : Bool) → (b ≡ true) ⊎ (b ≡ false)
+either_way true = inl refl
+either_way false = inr refl
+
+-- a target that is read before the statements has a channel
+pub initial : (turns : ℕ) (p : ProgramTree) (items : List Item) → items ≡ p.target → (all_initial items ≡ false → ⊥) → Ok (ChannelOf p.target (joint_of turns p)) ≡ channel_statement turns p
+initial turns p items same not_false =
+    ⊎_elim
+    (λ (yes : all_initial items ≡ true). ap (λ b. if b then Ok (ChannelOf p.target (joint_of turns p)) else Err NotInitial) (sym yes ∙ ap all_initial same))
+    (λ (no' : all_initial items ≡ false). absurd (not_false no')) (either_way (all_initial items))
+
+pub not_initial : (turns : ℕ) (p : ProgramTree) (items : List Item) → items ≡ p.target → all_initial items ≡ false → Err NotInitial ≡ channel_statement turns p
+not_initial turns p items same no' = ap (λ b. if b then Ok (ChannelOf p.target (joint_of turns p)) else Err NotInitial) (sym no' ∙ ap all_initial same)

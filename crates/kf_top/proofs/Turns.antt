@@ -1,5 +1,5 @@
--- How a word says a number of turns.
-use Rattle.std.proofs.Common.{◌≡◌, ◌≢◌, ℕ, ◌<◌, ◌≤◌, List, [], ◌∷◌, length, get_or, Bool, true, false, ◌&&◌, nat_le, None, Some, refl, sym, ◌∙◌, ap, subst, arith, true≢false, leb-true, le-leb, if◌then◌else◌}
+-- A numeral that doesn't fit 16 bits says no number of turns.
+use Rattle.std.proofs.Common.{◌≡◌, ◌≢◌, ℕ, ◌<◌, ◌≤◌, List, [], ◌∷◌, length, get_or, Bool, true, false, ◌&&◌, nat_le, None, Some, refl, sym, ◌∙◌, ap, subst, arith, true≢false, leb-true, if◌then◌else◌}
 use Rattle.std.specs.Char.{is_ascii_digit, digit_value}
 use Rattle.std.specs.List.{list_all}
 use Rattle.std.specs.Str.Parse.{AllDigits, IsNumeral, digits_value, without_leading_plus}
@@ -27,10 +27,6 @@ no_plus : (cs : List ℕ) → list_all is_ascii_digit cs ≡ true → get_or cs 
 no_plus [] h e = omega (arith, e)
 no_plus (c ∷ cs) h e = let p = digit c (both (is_ascii_digit c) (list_all is_ascii_digit cs) h).0 in omega (arith, e, p.0)
 
-and_true : (b : Bool) → (b && true) ≡ b
-and_true true = refl
-and_true false = refl
-
 and_false : (b : Bool) → (b && false) ≡ false
 and_false true = refl
 and_false false = refl
@@ -54,15 +50,6 @@ module _ (word : List ℕ) (numeral : is_numeral word ≡ true) where
 
   is : turns_said word ≡ some_turns (digits_value 10 word)
   is = ap (λ b. if b then some_turns (digits_value 10 word) else None) numeral
-
-  digits_plain : digits_value 10 (without_leading_plus word) ≡ digits_value 10 word
-  digits_plain = ap (digits_value 10) plain
-
-  pub read : (n : ℕ) → digits_value 10 (without_leading_plus word) < 65536 → n ≡ digits_value 10 (without_leading_plus word) → turns_said word ≡ (if nat_le 1 n then Some n else None)
-  read n few same =
-      let value : n ≡ digits_value 10 word = same ∙ digits_plain in
-      let few' : n ≤ 65535 = omega (arith, few, same) in
-      is ∙ ap some_turns (sym value) ∙ ap (λ b. if nat_le 1 n && b then Some n else None) (le-leb n 65535 few') ∙ ap (λ b. if b then Some n else None) (and_true (nat_le 1 n))
 
   many : ¬ (IsNumeral 10 (without_leading_plus word) × (digits_value 10 (without_leading_plus word) < 65536)) → 65535 < digits_value 10 word
   many none = or_else (digits_value 10 word) (λ few. none (subst (λ w. IsNumeral 10 w × (digits_value 10 w < 65536)) (sym plain) ((long, all_digits word digits), few)))

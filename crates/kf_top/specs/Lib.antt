@@ -1,7 +1,6 @@
 pub mod Answer
 pub mod Columns
 pub mod Ends
-pub mod Gathering
 pub mod Outcome
 pub mod Place
 pub mod Stops

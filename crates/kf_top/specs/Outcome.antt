@@ -1,9 +1,7 @@
 -- The defined answer to words over files: the first refusal, or what is to be stated.
-use Rattle.std.specs.Prelude.{◌≡◌, ◌⊎◌, ℕ, pos, List, [], ◌∷◌, false, length, nat_le, codes, if◌then◌else◌, Ok, Err, None, Some}
+use Rattle.std.specs.Prelude.{◌≡◌, ◌⊎◌, ℕ, List, length, nat_le, codes, if◌then◌else◌, Ok, Err, None, Some}
 use Rattle.std.specs.declared.option.Option.{Option}
 use Rattle.std.specs.declared.result.Result.{Result}
-use Rattle.kf_value.specs.Targets.{Item}
-use Rattle.kf_value.specs.Types.{Range}
 use Rattle.kf_lex.specs.declared.token.Token.{Token}
 use Rattle.kf_lex.specs.declared.token.LexError.{LexError}
 use Rattle.kf_lex.specs.declared.token.LexError.TheVariants as lexing
@@ -23,12 +21,11 @@ use Rattle.kf_core.specs.Runs.{Cause, Choosing, OutOfRange, LoopBound, Halted}
 use Rattle.kf_core.specs.Support.{program_pass}
 use Rattle.kf_core.specs.Scale.{scale_of as run_scale}
 use Rattle.kf_core.specs.Programs.{ProgramTree}
-use Rattle.kf_core.specs.FirstForm.{FirstForm, IsFirst}
-use Rattle.kf_core.specs.Rows.{scale_of}
 use Rattle.kf_core.specs.Joint.{joint_of}
-use Rattle.kf_top.specs.Answer.{Statement, HyperOf, Refused, Usage, TooLong, BadText, BadRun, WideScale, NotFirst}
+use Rattle.kf_channel.specs.Views.{all_initial}
+use Rattle.kf_top.specs.Answer.{Statement, HyperOf, TracesOf, ChannelOf, Refused, Usage, TooLong, BadText, BadRun, WideScale, NotInitial}
 use Rattle.kf_top.specs.Place.{line_at, column_at}
-use Rattle.kf_top.specs.Task.{Task, Hyper, task_of}
+use Rattle.kf_top.specs.Task.{Task, Hyper, Traces, Channel, task_of}
 
 -- a step towards an answer: which results it may have
 abbrev pub Step : Type 0 → Type 1
@@ -128,33 +125,28 @@ scaled name scale = if nat_le scale limit then Ok tt else Err (WideScale name)
 unfoldable pub cleared : List ℕ → List ℕ → ℕ → ProgramTree → Result (Unit {0}) Refused
 cleared name bytes turns p = elim (program_pass turns p) [ Ok ns ↦ scaled name (run_scale turns p) | Err f ↦ Err (bad_run name bytes f) ]
 
--- the form of a text, or that it has none
-abbrev pub FormOf : List ℕ → List ℕ → Step FirstForm
-FormOf name bytes (Ok form) = IsFirst bytes form
-FormOf name bytes (Err r) = (r ≡ NotFirst name) × ((form : FirstForm) → IsFirst bytes form → ⊥)
+-- the cleared program of a text
+unfoldable pub ClearedOf : List ℕ → ℕ → List ℕ → Step ProgramTree
+ClearedOf name turns bytes = After (TokensOf name bytes) (λ tokens. After (SourceOf name bytes tokens) (λ tree. After (ProgramOf name bytes tree) (λ p. After (Gives (cleared name bytes turns p)) (λ _. Gives (Ok p)))))
 
--- the form of a text that is a program
-unfoldable pub ProgramForm : List ℕ → List ℕ → ℕ → Step FirstForm
-ProgramForm name bytes turns = After (TokensOf name bytes) (λ tokens. After (SourceOf name bytes tokens) (λ tree. After (ProgramOf name bytes tree) (λ p. After (Gives (cleared name bytes turns p)) (λ _. FormOf name bytes))))
+-- a file is read, then its text
+abbrev pub FileOf : (List ℕ → List ℕ) → List ℕ → ℕ → Step ProgramTree
+FileOf contents file turns = After (Gives (source_of contents file)) (ClearedOf file turns)
 
--- the target of a text of the first form: its one variable
-abbrev pub first_target : FirstForm → List Item
-first_target form = record { initial = false; name = codes "x"; ty = Range (pos 0) (pos form.high) } ∷ []
+abbrev pub hyper_statement : ℕ → ProgramTree → Statement
+hyper_statement turns p = HyperOf p.target (run_scale turns p) (joint_of turns p)
 
--- the statement that a text of the first form has its hyper
-abbrev pub first_statement : FirstForm → Statement
-first_statement form = HyperOf (first_target form) (scale_of form) (joint_of form)
+abbrev pub traces_statement : ℕ → ProgramTree → Statement
+traces_statement turns p = TracesOf p.target (run_scale turns p) (joint_of turns p)
 
--- what the bytes of a file come to
-abbrev pub TextOutcome : List ℕ → ℕ → List ℕ → Step Statement
-TextOutcome file turns bytes = After (ProgramForm file bytes turns) (λ form. Gives (Ok (first_statement form)))
-
--- `hyper`: the file is read, then its text
-abbrev pub HyperOutcome : (List ℕ → List ℕ) → List ℕ → ℕ → Step Statement
-HyperOutcome contents file turns = After (Gives (source_of contents file)) (TextOutcome file turns)
+-- a channel leads from values before the statements
+abbrev pub channel_statement : ℕ → ProgramTree → Result Statement Refused
+channel_statement turns p = if all_initial p.target then Ok (ChannelOf p.target (joint_of turns p)) else Err NotInitial
 
 abbrev pub TaskOutcome : (List ℕ → List ℕ) → Task → Step Statement
-TaskOutcome contents (Hyper file turns) = HyperOutcome contents file turns
+TaskOutcome contents (Hyper file turns) = After (FileOf contents file turns) (λ p. Gives (Ok (hyper_statement turns p)))
+TaskOutcome contents (Traces file turns) = After (FileOf contents file turns) (λ p. Gives (Ok (traces_statement turns p)))
+TaskOutcome contents (Channel file turns) = After (FileOf contents file turns) (λ p. Gives (channel_statement turns p))
 
 abbrev pub SomeOutcome : (List ℕ → List ℕ) → Option Task → Step Statement
 SomeOutcome contents None = Gives (Err Usage)

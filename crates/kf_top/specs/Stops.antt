@@ -6,10 +6,8 @@ use Rattle.kf_ast.specs.declared.decl.Source.{Source}
 use Rattle.kf_ast.specs.Sources.{SourceTree, source_tree}
 use Rattle.kf_core.specs.declared.program.Program.{Program}
 use Rattle.kf_core.specs.Programs.{ProgramTree, program_tree}
-use Rattle.kf_core.specs.declared.first.First.{First}
 use Rattle.kf_support.specs.declared.cleared.Cleared.{Cleared}
-use Rattle.kf_core.specs.FirstForm.{FirstForm}
-use Rattle.kf_core.specs.FirstView.{form_of}
+use Rattle.kf_support.specs.Cleared.{program_of}
 use Rattle.std.specs.declared.result.Result.{Result}
 use Rattle.kf_io.specs.Faults.{Rose}
 use Rattle.kf_top.specs.Answer as answer
@@ -24,7 +22,7 @@ refused (refusal.TooLong name) = answer.TooLong name.now
 refused (refusal.BadText name line column word) = answer.BadText name.now line column word.now
 refused (refusal.BadRun name line column word) = answer.BadRun name.now line column word.now
 refused (refusal.WideScale name) = answer.WideScale name.now
-refused (refusal.NotFirst name) = answer.NotFirst name.now
+refused refusal.NotInitial = answer.NotInitial
 
 -- the result is one that the step may have, or its cause isn't in the words and the files' bytes
 abbrev pub Answers : {A B : Type 0} → (A → B → Type 0) → Result A Stop → Step B → Type 0
@@ -46,9 +44,6 @@ Causes names before now (Err s) = StopCause names before now s
 abbrev pub is_bytes : Vec ℕ Global → List ℕ → Type 0
 is_bytes v bytes = v.items ≡ bytes
 
-abbrev pub is_form : First → FirstForm → Type 0
-is_form first form = form_of first ≡ form
-
 abbrev pub is_tokens : List Token → List Token → Type 0
 is_tokens tokens ts = tokens ≡ ts
 
@@ -58,6 +53,6 @@ is_source source tree = source_tree source ≡ tree
 abbrev pub is_program : Program → ProgramTree → Type 0
 is_program program p = program_tree program ≡ p
 
--- that a program is cleared is all that is told of it
-abbrev pub is_cleared : Cleared → Unit {0} → Type 0
-is_cleared cleared u = Unit {0}
+-- the program of a cleared one
+abbrev pub is_cleared : Cleared → ProgramTree → Type 0
+is_cleared cleared p = program_tree (program_of cleared) ≡ p

@@ -10,6 +10,8 @@ use Rattle.std.specs.declared.option.Option.{Option}
 -- a command with its files, and how often a loop may turn
 pub data Task : Type 0 where
   Hyper : List ℕ → ℕ → Task
+  Traces : List ℕ → ℕ → Task
+  Channel : List ℕ → ℕ → Task
 
 -- how often a loop may turn where no word says it
 abbrev pub default_turns : ℕ
@@ -38,13 +40,16 @@ turns_after (option ∷ word ∷ []) = if bytes_eq option (codes "--turns") then
 turns_after _ = None
 
 -- the one file that these words name, and how often a loop may turn
-abbrev pub hyper_task : List (List ℕ) → Option Task
-hyper_task [] = None
-hyper_task (file ∷ others) = if is_file file then option_map (Hyper file) (turns_after others) else None
+abbrev pub file_task : (List ℕ → ℕ → Task) → List (List ℕ) → Option Task
+file_task command [] = None
+file_task command (file ∷ others) = if is_file file then option_map (command file) (turns_after others) else None
 
 -- the task of a command's word and the words after it
 abbrev pub command_task : List ℕ → List (List ℕ) → Option Task
-command_task word others = if bytes_eq word (codes "hyper") then hyper_task others else None
+command_task word others =
+    if bytes_eq word (codes "hyper") then file_task Hyper others
+    else (if bytes_eq word (codes "traces") then file_task Traces others
+    else (if bytes_eq word (codes "channel") then file_task Channel others else None))
 
 -- the task of a list of words, the first of which is the program's name
 abbrev pub task_of : List (List ℕ) → Option Task
@@ -53,6 +58,8 @@ task_of _ = None
 
 abbrev pub files_of_task : Task → List (List ℕ)
 files_of_task (Hyper file turns) = file ∷ []
+files_of_task (Traces file turns) = file ∷ []
+files_of_task (Channel file turns) = file ∷ []
 
 abbrev pub files_of_some : Option Task → List (List ℕ)
 files_of_some None = []
@@ -65,3 +72,5 @@ files_of words = files_of_some (task_of words)
 -- a task's loops may turn so often
 abbrev pub HasTurns : Task → Type 0
 HasTurns (Hyper file turns) = (1 ≤ turns) × (turns ≤ 65535)
+HasTurns (Traces file turns) = (1 ≤ turns) × (turns ≤ 65535)
+HasTurns (Channel file turns) = (1 ≤ turns) × (turns ≤ 65535)

@@ -1,17 +1,25 @@
--- Printed hypers.
-use Rattle.std.specs.Prelude.{ℕ, pos, List, [], ◌∷◌, ◌++◌, length, codes, decimal, flat_map}
+-- Printed hypers, tables of traces and channels.
+use Rattle.std.specs.Prelude.{ℕ, pos, List, [], ◌∷◌, ◌++◌, length, codes, decimal, flat_map, map}
 use Rattle.std.specs.List.{enumerate_from}
 use Rattle.kf_frac.specs.Fractions.{fraction_text}
+use Rattle.kf_value.specs.Values.{ValueTree}
+use Rattle.kf_value.specs.Texts.{text, separated}
 use Rattle.kf_value.specs.Targets.{Item, target_text, target_value_text}
 use Rattle.kf_hyper.specs.declared.entry.Entry.{Entry}
 use Rattle.kf_hyper.specs.Columns.{total}
 use Rattle.kf_hyper.specs.Hypers.{Inner}
+use Rattle.kf_hyper.specs.Traces.{Row}
+use Rattle.kf_channel.specs.Channels.{cell}
 
 -- a line is ended by LF
 abbrev pub line : List ℕ → List ℕ
 line text = text ++ 10 ∷ []
 
--- two spaces, a value, and its probability in an inner whose weights sum to `whole`
+-- what a text is about
+abbrev pub target_line : List Item → List ℕ
+target_line target = line (codes "target " ++ target_text target)
+
+-- two spaces, a value, and its weight over `whole`, which in an inner is the sum of its weights
 abbrev pub entry_line : List Item → ℕ → Entry → List ℕ
 entry_line target whole e = line (codes "  " ++ (target_value_text target e.value ++ (codes " " ++ fraction_text (pos e.weight) whole)))
 
@@ -23,9 +31,50 @@ inner_lines target scale numbered =
 
 -- the target, the scale and how many inners there are
 abbrev pub head_lines : List Item → ℕ → ℕ → List ℕ
-head_lines target scale count =
-    line (codes "target " ++ target_text target) ++ (line (codes "scale " ++ decimal scale) ++ line (codes "inners " ++ decimal count))
+head_lines target scale count = target_line target ++ (line (codes "scale " ++ decimal scale) ++ line (codes "inners " ++ decimal count))
 
 -- these, and each inner with its number from 0
 abbrev pub hyper_text : List Item → ℕ → List Inner → List ℕ
 hyper_text target scale inners = head_lines target scale (length inners) ++ flat_map (inner_lines target scale) (enumerate_from 0 inners)
+
+-- a trace: its values in brackets, a comma and a space between them
+abbrev pub bracketed : List ValueTree → List ℕ
+bracketed trace = codes "[" ++ (separated (map text trace) ++ codes "]")
+
+-- a trace and its probability, then its values, each with the probability of this trace and the value
+abbrev pub row_lines : List Item → ℕ → Row → List ℕ
+row_lines target scale row =
+    line (codes "trace " ++ (bracketed row.trace ++ (codes " weight " ++ fraction_text (pos (total row.column)) scale)))
+    ++ flat_map (entry_line target scale) row.column
+
+-- the target, the scale and how many traces there are
+abbrev pub table_lines : List Item → ℕ → ℕ → List ℕ
+table_lines target scale count = target_line target ++ (line (codes "scale " ++ decimal scale) ++ line (codes "traces " ++ decimal count))
+
+-- these, and each trace
+abbrev pub trace_text : List Item → ℕ → List Row → List ℕ
+trace_text target scale rows = table_lines target scale (length rows) ++ flat_map (row_lines target scale) rows
+
+-- a column's number and trace
+abbrev pub column_line : ℕ × Row → List ℕ
+column_line numbered = line (codes "column " ++ (decimal numbered.0 ++ (codes " " ++ bracketed numbered.1.trace)))
+
+-- two spaces, and the probability that a secret shows this trace
+abbrev pub cell_line : List Row → ℕ → Row → List ℕ
+cell_line rows x row = line (codes "  " ++ fraction_text (pos (cell rows row x).part) (cell rows row x).whole)
+
+-- a secret, and its cell in each column
+abbrev pub secret_lines : List Item → List Row → ℕ → List ℕ
+secret_lines target rows x = line (codes "row " ++ target_value_text target x) ++ flat_map (cell_line rows x) rows
+
+-- how many traces there are, and each with its number from 0
+abbrev pub columns_lines : List Row → List ℕ
+columns_lines rows = line (codes "columns " ++ decimal (length rows)) ++ flat_map column_line (enumerate_from 0 rows)
+
+-- how many secrets there are, and each
+abbrev pub rows_lines : List Item → List Row → List ℕ → List ℕ
+rows_lines target rows secrets = line (codes "rows " ++ decimal (length secrets)) ++ flat_map (secret_lines target rows) secrets
+
+-- the target, the columns and the rows
+abbrev pub channel_text : List Item → List Row → List ℕ → List ℕ
+channel_text target rows secrets = target_line target ++ (columns_lines rows ++ rows_lines target rows secrets)

@@ -10,6 +10,8 @@ shown done = record { yes = done.yes; bytes = done.bytes.items }
 
 abbrev pub task_of_job : Job → task.Task
 task_of_job (job.Hyper file turns) = task.Hyper file turns
+task_of_job (job.Traces file turns) = task.Traces file turns
+task_of_job (job.Channel file turns) = task.Channel file turns
 
 abbrev pub ShowsStatement : Done → Statement → Type 0
 ShowsStatement done statement = States (shown done) statement

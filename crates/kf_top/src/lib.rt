@@ -1,7 +1,7 @@
 //! The top call: from words and files to bytes and a status.
 #![tactic(auto)]
 
-mod first_hyper;
+mod hypers;
 mod law;
 mod places;
 mod stops;
@@ -9,11 +9,13 @@ mod stops;
 mod tests;
 mod texts;
 mod top;
+#[cfg(test)]
+mod trace_tests;
 mod words;
 mod work;
 
 pub use law::at_most_one_answer;
 pub use places::place;
-pub use texts::hyper_text;
+pub use texts::{channel_text, hyper_text, trace_text};
 pub use top::run;
 pub use words::{Job, WordsError, read_words};

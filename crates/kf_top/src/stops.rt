@@ -12,13 +12,14 @@ pub enum Refusal<'a> {
     BadRun(&'a str, u32, u32, &'static str),
     /// The scale of the file's program passes 2^127 - 1.
     WideScale(&'a str),
-    /// The file's text is not of the first form.
-    NotFirst(&'a str),
+    /// Some item of the target isn't read before the statements.
+    NotInitial,
 }
 
 /// Why there is no answer.
 #[derive(Debug, Drop)]
 pub enum Stop<'a> {
+    /// The words and the files' bytes have none.
     Refused(Refusal<'a>),
     /// A read of this file failed.
     ReadFailed(&'a str),

@@ -1,4 +1,4 @@
-ghost use Rattle.std.specs.Prelude.{◌≡◌, List, ℕ, map, string_bytes, codes};
+ghost use Rattle.std.specs.Prelude.{◌≡◌, map, string_bytes};
 ghost use Rattle.std.specs.List.{flat_map};
 ghost use Rattle.kf_top.specs.Answer.{placed, said, line_of, status_of};
 ghost use Rattle.kf_top.specs.Stops.{refused};
@@ -61,9 +61,9 @@ fn refuse<E: Sink>(err: &mut E, refusal: &Refusal<'_>) -> u8
             tell(err, name, ": scale passes 2^127 - 1");
             7
         }
-        Refusal::NotFirst(name) => {
-            tell(err, name, ": not of the first form");
-            5
+        Refusal::NotInitial => {
+            tell(err, "", "target is not initial");
+            10
         }
     }
 }

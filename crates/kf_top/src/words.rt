@@ -1,4 +1,4 @@
-ghost use Rattle.std.specs.Prelude.{◌≡◌, IfOk, IsErrOf, None, Some, map, string_bytes};
+ghost use Rattle.std.specs.Prelude.{◌≡◌, ◌≤◌, IfOk, IfSome, IsErrOf, None, Some, map, string_bytes};
 ghost use Rattle.std.specs.Char.{is_ascii_digit};
 ghost use Rattle.std.specs.List.{list_all};
 ghost use Rattle.kf_top.specs.Task.{task_of, is_file, is_numeral as is_numeral_word, turns_said as turns_of, turns_after as turns_behind, HasTurns};
@@ -12,8 +12,13 @@ use std::alloc::{AllocError, Global};
 pub enum Job {
     /// The hyper of the program in `file`, whose loops turn at most `turns` times per entry.
     Hyper { file: Name, turns: u32 },
+    /// The same program's traces.
+    Traces { file: Name, turns: u32 },
+    /// The channel from its target's values to its traces.
+    Channel { file: Name, turns: u32 },
 }
 
+/// Why the words have no job.
 #[derive(Clone, Copy, Debug, PartialEq, Eq)]
 pub enum WordsError {
     /// The words ask for nothing that there is.
@@ -36,12 +41,14 @@ impl From<AllocError> for WordsError {
 /// How often a loop may turn where no word says it.
 const DEFAULT_TURNS: u32 = 1024;
 
+// Whether a word may name a file.
 fn is_file_word(word: &str) -> bool
     ensures { result ≡ is_file word.now }
 {
     !word.starts_with("-")
 }
 
+// Whether all bytes are decimal digits.
 fn are_digits(word: &[u8]) -> bool
     ensures { result ≡ list_all is_ascii_digit word.now }
 {
@@ -53,6 +60,7 @@ fn are_digits(word: &[u8]) -> bool
     true
 }
 
+// Whether a word is one to five decimal digits.
 fn is_numeral(word: &str) -> bool
     ensures { result ≡ is_numeral_word word.now }
 {
@@ -61,7 +69,8 @@ fn is_numeral(word: &str) -> bool
 
 // How often a loop may turn, as the word says it.
 fn turns_said(word: &str) -> Option<u32>
-    ensures { result ≡ turns_of word.now }
+    ensures said { result ≡ turns_of word.now }
+    ensures few { IfSome result (λ turns. (1 ≤ turns) × (turns ≤ 65535)) }
 {
     if !is_numeral(word) {
         return None;
@@ -80,7 +89,8 @@ fn turns_said(word: &str) -> Option<u32>
 
 // How often a loop may turn, as the words behind a file say it.
 fn turns_after(words: &[String]) -> Option<u32>
-    ensures { result ≡ turns_behind (map string_bytes words.now) }
+    ensures said { result ≡ turns_behind (map string_bytes words.now) }
+    ensures few { IfSome result (λ turns. (1 ≤ turns) × (turns ≤ 65535)) }
 {
     match words {
         [] => Some(DEFAULT_TURNS),
@@ -98,15 +108,17 @@ pub fn read_words(alloc: Global, words: &[String]) -> Result<Job, WordsError>
     let [_, word, file, others @ ..] = words else {
         return Err(WordsError::Usage);
     };
-    if word.as_str() != "hyper" || !is_file_word(file.as_str()) {
+    if !is_file_word(file.as_str()) {
         return Err(WordsError::Usage);
     }
     let Some(turns) = turns_after(others) else {
         return Err(WordsError::Usage);
     };
-    let text = file.clone()?;
-    Ok(Job::Hyper {
-        file: Name::new(text),
-        turns,
-    })
+    let file = Name::new(file.clone()?);
+    match word.as_str() {
+        "hyper" => Ok(Job::Hyper { file, turns }),
+        "traces" => Ok(Job::Traces { file, turns }),
+        "channel" => Ok(Job::Channel { file, turns }),
+        _ => Err(WordsError::Usage),
+    }
 }

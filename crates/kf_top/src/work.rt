@@ -1,8 +1,5 @@
-ghost use Rattle.std.specs.Prelude.{◌≡◌, ◌≤◌, ◌∷◌, [], ℕ, List, length, vec_len, IfOk};
+ghost use Rattle.std.specs.Prelude.{◌≡◌, ◌≤◌, ◌∷◌, [], ℕ, List, length, vec_len, Ok, IfOk, IfErr};
 ghost use Rattle.std.specs.Option.{ForSome};
-ghost use Rattle.kf_core.specs.FirstForm.{IsFirst};
-ghost use Rattle.kf_core.specs.FirstView.{form_of};
-ghost use Rattle.kf_top.specs.Answer.{States};
 ghost use Rattle.kf_ast.specs.Sources.{source_tree};
 ghost use Rattle.kf_check.specs.Laws.{IsWellBuilt};
 ghost use Rattle.kf_lex.specs.Readings.{IsTokens};
@@ -10,26 +7,29 @@ ghost use Rattle.kf_parse.specs.Answers.{IsParsed};
 ghost use Rattle.kf_core.specs.Checked.{IsChecked};
 ghost use Rattle.kf_core.specs.Programs.{program_tree};
 ghost use Rattle.kf_support.specs.Answers.{cause_of};
-ghost use Rattle.kf_top.specs.Outcome.{Gives, TokensOf, SourceOf, ProgramOf, cause_word, cleared as cleared_of, FormOf, ProgramForm, source_of, HyperOutcome, TaskOutcome};
+ghost use Rattle.kf_support.specs.Cleared.{program_of, turns_of};
+ghost use Rattle.kf_top.specs.Outcome.{After, Gives, TokensOf, SourceOf, ProgramOf, cause_word, cleared as whether_cleared, ClearedOf, FileOf, hyper_statement, traces_statement, channel_statement, source_of, TaskOutcome};
 ghost use Rattle.kf_top.specs.Place.{line_at, column_at};
 ghost use Rattle.kf_top.specs.Task.{files_of_task, HasTurns};
-ghost use Rattle.kf_top.specs.Stops.{Answers, Causes, is_form, is_bytes, is_tokens, is_source, is_program, is_cleared};
+ghost use Rattle.kf_top.specs.Stops.{Answers, Causes, is_bytes, is_tokens, is_source, is_program, is_cleared};
 ghost use Rattle.kf_top.specs.declared.stops.Refusal.TheVariants as refusal;
 ghost use Rattle.kf_top.specs.declared.stops.Stop.TheVariants as stop;
-ghost use Rattle.kf_top.specs.Views.{shown, task_of_job, ShowsStatement};
+ghost use Rattle.kf_top.specs.Views.{task_of_job, ShowsStatement};
 
-use crate::first_hyper::hyper_of;
+use crate::hypers::hyper_of;
 use crate::places::place;
 use crate::stops::{Done, Refusal, Stop};
-use crate::texts::hyper_text;
+use crate::texts::{channel_text, hyper_text, trace_text};
 use crate::words::Job;
 use kf_ast::Source;
+use kf_channel::{ChannelError, channel_of};
 use kf_check::{TypeError, check};
-use kf_core::{First, FirstError, Program, read_first};
+use kf_core::Program;
 use kf_io::{Files, ReadError, read_whole};
 use kf_lex::{LexError, Tokens, lex};
 use kf_parse::{ParseError, grammar, parse};
 use kf_support::{Cleared, Halt, RunFault, clear};
+use kf_traces::table;
 use std::alloc::Global;
 
 // The refusal of a text for a fault of this word at this byte.
@@ -146,7 +146,8 @@ fn cleared<'a>(
     requires checked { IsChecked (program_tree program) }
     requires some_turns { 1 ≤ turns }
     requires few_turns { turns ≤ 65535 }
-    ensures answer { Answers is_cleared result (Gives (cleared_of name.now bytes.now turns (program_tree program))) }
+    ensures answer { Answers is_cleared result (After (Gives (whether_cleared name.now bytes.now turns (program_tree program))) (λ _. Gives (Ok (program_tree program)))) }
+    ensures turns { IfOk result (λ cleared. turns_of cleared ≡ turns) }
     ensures causes { (before : List ℕ → ℕ) → Causes (name.now ∷ []) before before result }
 {
     match clear(alloc, program, turns) {
@@ -161,52 +162,72 @@ fn cleared<'a>(
     }
 }
 
-// The first form that a file's bytes have.
-fn form<'a>(alloc: Global, name: &'a str, bytes: &[u8]) -> Result<First, Stop<'a>>
-    ensures answer { Answers is_form result (FormOf name.now bytes.now) }
-    ensures causes { (before : List ℕ → ℕ) → Causes (name.now ∷ []) before before result }
-{
-    match read_first(alloc, bytes) {
-        Ok(first) => Ok(first),
-        Err(FirstError::NotFirst) => Err(Stop::Refused(Refusal::NotFirst(name))),
-        Err(FirstError::Mem) => Err(Stop::Mem),
-    }
-}
-
-// The first form of a file's bytes, which are a program that is cleared.
-#[tactic(auto, unfolding(crate::specs::Outcome::ProgramForm))]
-fn text<'a>(alloc: Global, name: &'a str, bytes: &[u8], turns: u32) -> Result<First, Stop<'a>>
+// The cleared program of a file's bytes.
+#[tactic(auto, unfolding(crate::specs::Outcome::ClearedOf))]
+fn text<'a>(alloc: Global, name: &'a str, bytes: &[u8], turns: u32) -> Result<Cleared, Stop<'a>>
     requires short { length bytes.now ≤ 1048576 }
     requires some_turns { 1 ≤ turns }
     requires few_turns { turns ≤ 65535 }
-    ensures answer { Answers is_form result (ProgramForm name.now bytes.now turns) }
-    ensures first { IfOk result (λ first. IsFirst bytes.now (form_of first)) }
+    ensures answer { Answers is_cleared result (ClearedOf name.now turns bytes.now) }
+    ensures turns { IfOk result (λ cleared. turns_of cleared ≡ turns) }
     ensures causes { (before : List ℕ → ℕ) → Causes (name.now ∷ []) before before result }
 {
     grammar();
     let tokens = tokens(alloc, name, bytes)?;
     let source = tree(alloc, name, bytes, &tokens)?;
     let program = program(alloc, name, bytes, &source)?;
-    let _cleared = cleared(alloc, name, bytes, program, turns)?;
-    form(alloc, name, bytes)
+    cleared(alloc, name, bytes, program, turns)
+}
+
+// The cleared program of a file.
+fn file<'a, F: Files>(
+    alloc: Global,
+    files: &mut F,
+    name: &'a str,
+    turns: u32,
+) -> Result<Cleared, Stop<'a>>
+    requires some_turns { 1 ≤ turns }
+    requires few_turns { turns ≤ 65535 }
+    ensures answer { ForSome (F.contents files.old) (λ c. Answers is_cleared result (FileOf c name.now turns)) }
+    ensures turns { IfOk result (λ cleared. turns_of cleared ≡ turns) }
+    ensures causes { Causes (name.now ∷ []) (F.faults files.old) (F.faults files.new) result }
+{
+    let source = source(alloc, files, name)?;
+    text(alloc, name, &source, turns)
 }
 
 // The command `hyper`.
-fn hyper<'a, F: Files>(
-    alloc: Global,
-    files: &mut F,
-    file: &'a str,
-    turns: u32,
-) -> Result<Done, Stop<'a>>
-    requires some_turns { 1 ≤ turns }
-    requires few_turns { turns ≤ 65535 }
-    ensures answer { ForSome (F.contents files.old) (λ c. Answers ShowsStatement result (HyperOutcome c file.now turns)) }
-    ensures causes { Causes (file.now ∷ []) (F.faults files.old) (F.faults files.new) result }
+fn hyper<'a>(alloc: Global, cleared: &Cleared) -> Result<Done, Stop<'a>>
+    ensures states { IfOk result (λ done. ShowsStatement done (hyper_statement (turns_of cleared.now) (program_tree (program_of cleared.now)))) }
+    ensures memory { IfErr result (λ s. s ≡ stop.Mem) }
 {
-    let source = source(alloc, files, file)?;
-    let first = text(alloc, file, &source, turns)?;
-    let hyper = hyper_of(alloc, &first)?;
+    let hyper = hyper_of(alloc, cleared)?;
     let bytes = hyper_text(alloc, &hyper)?;
+    Ok(Done { yes: true, bytes })
+}
+
+// The command `traces`.
+fn traces<'a>(alloc: Global, cleared: &Cleared) -> Result<Done, Stop<'a>>
+    ensures states { IfOk result (λ done. ShowsStatement done (traces_statement (turns_of cleared.now) (program_tree (program_of cleared.now)))) }
+    ensures memory { IfErr result (λ s. s ≡ stop.Mem) }
+{
+    let table = table(alloc, cleared)?;
+    let bytes = trace_text(alloc, &table)?;
+    Ok(Done { yes: true, bytes })
+}
+
+// The command `channel`.
+fn channel<'a>(alloc: Global, cleared: &Cleared) -> Result<Done, Stop<'a>>
+    ensures answer { Answers ShowsStatement result (Gives (channel_statement (turns_of cleared.now) (program_tree (program_of cleared.now)))) }
+    ensures causes { (names : List (List ℕ)) (before : List ℕ → ℕ) → Causes names before before result }
+{
+    let table = table(alloc, cleared)?;
+    let channel = match channel_of(alloc, &table) {
+        Ok(channel) => channel,
+        Err(ChannelError::NotInitial) => return Err(Stop::Refused(Refusal::NotInitial)),
+        Err(ChannelError::Mem) => return Err(Stop::Mem),
+    };
+    let bytes = channel_text(alloc, &channel)?;
     Ok(Done { yes: true, bytes })
 }
 
@@ -217,6 +238,17 @@ pub fn work<'a, F: Files>(alloc: Global, files: &mut F, job: &'a Job) -> Result<
     ensures causes { Causes (files_of_task (task_of_job job.now)) (F.faults files.old) (F.faults files.new) result }
 {
     match job {
-        Job::Hyper { file, turns } => hyper(alloc, files, file.as_str(), *turns),
+        Job::Hyper { file: name, turns } => {
+            let cleared = file(alloc, files, name.as_str(), *turns)?;
+            hyper(alloc, &cleared)
+        }
+        Job::Traces { file: name, turns } => {
+            let cleared = file(alloc, files, name.as_str(), *turns)?;
+            traces(alloc, &cleared)
+        }
+        Job::Channel { file: name, turns } => {
+            let cleared = file(alloc, files, name.as_str(), *turns)?;
+            channel(alloc, &cleared)
+        }
     }
 }

@@ -1,6 +1,5 @@
 use crate::tests::*;
 use crate::{run_in_memory, run_over_sure_files};
-use kf_io::SureFiles;
 
 const NOTHING: &str = "target x
 scale 4
@@ -43,8 +42,17 @@ inner 0 outer 1
   0 1
 ";
 
-// Texts of the first form, and their hypers.
-fn rows() -> [(&'static str, &'static str); 6] {
+const THREE_VALUES: &str = "target x
+scale 3
+inners 1
+inner 0 outer 1
+  0 1/3
+  1 1/3
+  2 1/3
+";
+
+// Texts, and their hypers; the last ones are spelt in other ways.
+fn rows() -> [(&'static str, &'static str); 16] {
     [
         ("var x : 0..3 := uniform 0..3;\n", NOTHING),
         ("var x : 0..3 := uniform 0..3;\nobserve x mod 1;\n", NOTHING),
@@ -58,6 +66,19 @@ fn rows() -> [(&'static str, &'static str); 6] {
             ALL,
         ),
         ("var x : 0..0 := uniform 0..0;\n", ONE_VALUE),
+        ("var x : 0..3 := uniform 0..2;\n", THREE_VALUES),
+        ("var x : 0..03 := uniform 0..03;\n", NOTHING),
+        ("var x  : 0..3 := uniform 0..3;\n", NOTHING),
+        ("var x : 0..3 := uniform 0..3;", NOTHING),
+        ("var x : 0..3 := uniform 0..3;\r\n", NOTHING),
+        ("var x : 0..3 := uniform 0..3;\n\n", NOTHING),
+        ("var x : 0..3 := uniform 0..3;\nobserve x mod 2;", PARITY),
+        ("var x : 0..3 := uniform 0..3;\nobserve x mod 02;\n", PARITY),
+        ("var x : 0..3 := uniform 0..3;\nobserve x  mod 2;\n", PARITY),
+        (
+            "var x : 0..3 := uniform 0..3;\nobserve x mod 1000000000;\n",
+            ALL,
+        ),
     ]
 }
 
@@ -65,16 +86,7 @@ fn rows() -> [(&'static str, &'static str); 6] {
 fn answers_with_ample_memory(rt: HostRuntime) -> Result<(), Fail> {
     for (text, out) in rows() {
         let mut files = text_files(rt.alloc(), text, 65536, &[])?;
-        ends(
-            &rt,
-            HYPER,
-            &mut files,
-            End {
-                status: 0,
-                out,
-                err: "",
-            },
-        )?;
+        ends(&rt, HYPER, &mut files, End::answer(out))?;
     }
     Ok(())
 }
@@ -83,16 +95,7 @@ fn answers_with_ample_memory(rt: HostRuntime) -> Result<(), Fail> {
 fn answers_to_reads_of_one_byte(rt: HostRuntime) -> Result<(), Fail> {
     for (text, out) in rows() {
         let mut files = text_files(rt.alloc(), text, 1, &[])?;
-        ends(
-            &rt,
-            HYPER,
-            &mut files,
-            End {
-                status: 0,
-                out,
-                err: "",
-            },
-        )?;
+        ends(&rt, HYPER, &mut files, End::answer(out))?;
     }
     Ok(())
 }
@@ -126,14 +129,5 @@ fn many_classes(rt: HostRuntime) -> Result<(), Fail> {
     }
     let text = "var x : 0..65535 := uniform 0..65535;\nobserve x mod 256;\nobserve x mod 257;\n";
     let mut files = text_files(alloc, text, 65536, &[])?;
-    ends(
-        &rt,
-        HYPER,
-        &mut files,
-        End {
-            status: 0,
-            out: &want,
-            err: "",
-        },
-    )
+    ends(&rt, HYPER, &mut files, End::answer(&want))
 }

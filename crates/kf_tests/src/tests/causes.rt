@@ -1,5 +1,4 @@
 use crate::tests::*;
-use kf_io::SureFiles;
 
 const PARITY_TEXT: &str = "var x : 0..3 := uniform 0..3;\nobserve x mod 2;\n";
 
@@ -13,12 +12,6 @@ const USAGE: End<'static> = End {
     status: 2,
     out: "",
     err: "kuifje: usage: kuifje COMMAND [FILES] [--gain G] [--turns N] [--json]\n",
-};
-
-const NOT_FIRST: End<'static> = End {
-    status: 5,
-    out: "",
-    err: "kuifje: p.kf: not of the first form\n",
 };
 
 #[test]
@@ -90,6 +83,9 @@ fn words_that_ask_for_nothing(rt: HostRuntime) -> Result<(), Fail> {
         "kuifje hyper --json",
         "kuifje leak p.kf",
         "kuifje hyperp p.kf",
+        "kuifje traces",
+        "kuifje channel -p.kf",
+        "kuifje channels p.kf",
         "kuifje hyper p.kf --turns",
         "kuifje hyper p.kf --turns 0",
         "kuifje hyper p.kf --turns 65536",
@@ -103,27 +99,6 @@ fn words_that_ask_for_nothing(rt: HostRuntime) -> Result<(), Fail> {
     ] {
         let mut files = text_files(rt.alloc(), PARITY_TEXT, 65536, &[])?;
         ends(&rt, line, &mut files, USAGE)?;
-    }
-    Ok(())
-}
-
-#[test]
-fn texts_not_of_the_first_form(rt: HostRuntime) -> Result<(), Fail> {
-    for text in [
-        "var x : 0..3 := uniform 0..2;\n",
-        "var x : 0..03 := uniform 0..03;\n",
-        "var y : 0..3 := uniform 0..3;\n",
-        "var x  : 0..3 := uniform 0..3;\n",
-        "var x : 0..3 := uniform 0..3;",
-        "var x : 0..3 := uniform 0..3;\r\n",
-        "var x : 0..3 := uniform 0..3;\n\n",
-        "var x : 0..3 := uniform 0..3;\nobserve x mod 2;",
-        "var x : 0..3 := uniform 0..3;\nobserve x mod 02;\n",
-        "var x : 0..3 := uniform 0..3;\nobserve x  mod 2;\n",
-        "var x : 0..3 := uniform 0..3;\nobserve x mod 1000000000;\n",
-    ] {
-        let mut files = text_files(rt.alloc(), text, 65536, &[])?;
-        ends(&rt, HYPER, &mut files, NOT_FIRST)?;
     }
     Ok(())
 }

@@ -1,33 +1,16 @@
 // Programs that meet a fault when they are run, and scales that are too wide.
 use crate::tests::*;
-use kf_io::SureFiles;
 
 /// The words of a run whose loops have at most one turn.
 const ONE_TURN: &str = "kuifje hyper p.kf --turns 1";
+
+const NONE_LEFT: &str = "target n\nscale 1\ninners 1\ninner 0 outer 1\n  0 1\n";
 
 const WIDE_SCALE: End<'static> = End {
     status: 7,
     out: "",
     err: "kuifje: p.kf: scale passes 2^127 - 1\n",
 };
-
-const CLEARED: End<'static> = End {
-    status: 5,
-    out: "",
-    err: "kuifje: p.kf: not of the first form\n",
-};
-
-// A run of these words over a file with this text ends so.
-fn ends_over_text(
-    rt: &(impl Abort + AllocGlobal),
-    words: &str,
-    text: &str,
-    want: End<'_>,
-) -> Result<(), Fail> {
-    let bytes = text.as_bytes().to_vec(rt.alloc())?;
-    let mut files = SureFiles::new(one_file(rt.alloc(), bytes)?, 65536);
-    ends(rt, words, &mut files, want)
-}
 
 // Each text ends with status 6 at this place.
 fn faults(
@@ -194,18 +177,41 @@ fn loops_at_their_bound(rt: HostRuntime) -> Result<(), Fail> {
     faults(&rt, ONE_TURN, &bounded())
 }
 
+// Programs of which no loop has more than one turn, and their hypers.
+fn without_faults() -> [(&'static str, &'static str); 7] {
+    [
+        (
+            "var n : 0..5 := 1;\nwhile n > 0 { n := n - 1; }\n",
+            NONE_LEFT,
+        ),
+        (
+            "var n : 0..5 := uniform 0..1;\nwhile n > 0 { n := n - 1; }\n",
+            "target n\nscale 2\ninners 1\ninner 0 outer 1\n  0 1\n",
+        ),
+        ("var n : 0..5 := 0;\nwhile false { n := 9; }\n", NONE_LEFT),
+        (
+            "var x : 0..3 := choose { 1 div 0 : 0, 2 : 1 };\n",
+            "target x\nscale 1\ninners 1\ninner 0 outer 1\n  2 1\n",
+        ),
+        (
+            "var y : 0..65535 := uniform 0..65535;\ny := 0;\n",
+            "target y\nscale 65536\ninners 1\ninner 0 outer 1\n  0 1\n",
+        ),
+        (
+            "var x : 0..3 := uniform 0..3;\nif x > 1 { x := x - 2; } else { skip; }\nx := x + 2;\n",
+            "target x\nscale 4\ninners 1\ninner 0 outer 1\n  2 1/2\n  3 1/2\n",
+        ),
+        (
+            "var x : 0..3 := uniform 0..3;\nabout old x;\nx := 0;\n",
+            "target old x\nscale 4\ninners 1\ninner 0 outer 1\n  0 1/4\n  1 1/4\n  2 1/4\n  3 1/4\n",
+        ),
+    ]
+}
+
 #[test]
 fn programs_without_faults(rt: HostRuntime) -> Result<(), Fail> {
-    for text in [
-        "var n : 0..5 := 1;\nwhile n > 0 { n := n - 1; }\n",
-        "var n : 0..5 := uniform 0..1;\nwhile n > 0 { n := n - 1; }\n",
-        "var n : 0..5 := 0;\nwhile false { n := 9; }\n",
-        "var x : 0..3 := choose { 1 div 0 : 0, 2 : 1 };\n",
-        "var y : 0..65535 := uniform 0..65535;\n",
-        "var x : 0..3 := uniform 0..3;\nif x > 1 { x := x - 2; } else { skip; }\nx := x + 2;\n",
-        "var x : 0..3 := uniform 0..3;\nabout old x;\nx := 0;\n",
-    ] {
-        ends_over_text(&rt, ONE_TURN, text, CLEARED)?;
+    for (text, out) in without_faults() {
+        ends_over_text(&rt, ONE_TURN, text, End::answer(out))?;
     }
     Ok(())
 }
@@ -218,31 +224,37 @@ fn loops_of_as_many_turns_as_the_words_say(rt: HostRuntime) -> Result<(), Fail> 
         out: "",
         err: "kuifje: p.kf:2:7: LoopBound\n",
     };
-    ends_over_text(&rt, "kuifje hyper p.kf --turns 5", down, CLEARED)?;
-    ends_over_text(&rt, "kuifje hyper p.kf --turns 00005", down, CLEARED)?;
-    ends_over_text(&rt, "kuifje hyper p.kf --turns 65535", down, CLEARED)?;
+    for words in [
+        "kuifje hyper p.kf --turns 5",
+        "kuifje hyper p.kf --turns 00005",
+        "kuifje hyper p.kf --turns 65535",
+    ] {
+        ends_over_text(&rt, words, down, End::answer(NONE_LEFT))?;
+    }
     ends_over_text(&rt, "kuifje hyper p.kf --turns 4", down, bound)?;
     let always = "var n : 0..5 := 5;\nwhile true { skip; }\n";
     ends_over_text(&rt, "kuifje hyper p.kf --turns 5", always, bound)?;
     ends_over_text(&rt, HYPER, always, bound)
 }
 
-// Each turn halves the weight, so the scale of n turns is 2^n. In the second program both branches lead to one store by
-// scale 6, so that of n turns is 6^n: 6^49 is below 2^127, 6^50 above.
+// Each turn halves the weights, so the scale of n turns is 2^n. In the last program both branches lead to one store by
+// scale 6, so that of n turns is 6^n, and 6^50 is above 2^127; 6^49 and its many traces are left to `by_hand`.
 #[test]
 fn scales_up_to_the_limit(rt: HostRuntime) -> Result<(), Fail> {
     for (text, want) in [
         (
-            "var n : 0..200 := 126;\nwhile n > 0 { observe flip 1/2; n := n - 1; }\n",
-            CLEARED,
+            "var n : 0..200 := 126;\nvar x : bool := true;\nabout x;\nwhile n > 0 { x := flip 1/2; n := n - 1; }\n",
+            End::answer(
+                "target x\nscale 85070591730234615865843651857942052864\ninners 1\ninner 0 outer 1\n  false 1/2\n  true 1/2\n",
+            ),
+        ),
+        (
+            "var n : 0..200 := 127;\nvar x : bool := true;\nabout x;\nwhile n > 0 { x := flip 1/2; n := n - 1; }\n",
+            WIDE_SCALE,
         ),
         (
             "var n : 0..200 := 127;\nwhile n > 0 { observe flip 1/2; n := n - 1; }\n",
             WIDE_SCALE,
-        ),
-        (
-            "var n : 0..200 := 49;\nwhile n > 0 { if flip 1/2 { observe flip 1/3; } else { observe flip 1/3; } n := n - 1; }\n",
-            CLEARED,
         ),
         (
             "var n : 0..200 := 50;\nwhile n > 0 { if flip 1/2 { observe flip 1/3; } else { observe flip 1/3; } n := n - 1; }\n",
@@ -258,6 +270,7 @@ fn scales_up_to_the_limit(rt: HostRuntime) -> Result<(), Fail> {
 #[test]
 fn many_stores(rt: HostRuntime) -> Result<(), Fail> {
     let text =
-        "var x : 0..59999 := uniform 0..59999;\nvar n : 0..100 := 100;\nwhile n > 0 { n := n - 1; }\n";
-    ends_over_text(&rt, HYPER, text, CLEARED)
+        "var x : 0..59999 := uniform 0..59999;\nvar n : 0..100 := 100;\nabout n;\nwhile n > 0 { n := n - 1; }\n";
+    let out = "target n\nscale 60000\ninners 1\ninner 0 outer 1\n  0 1\n";
+    ends_over_text(&rt, HYPER, text, End::answer(out))
 }

@@ -555,8 +555,19 @@ fn clears_as_the_plain_program_does(rt: HostRuntime) -> Result<(), Fail> {
 }
 
 // Scales worked out by hand.
-fn by_hand() -> [(u32, &'static str, u128); 7] {
+fn by_hand() -> [(u32, &'static str, u128); 9] {
     [
+        // A half for each of 126 turns, and 1/2 * 1/3 for each of 49: 2^126 and 6^49.
+        (
+            126,
+            "var n : 0..200 := 126; while n > 0 { observe flip 1/2; n := n - 1; }",
+            85070591730234615865843651857942052864,
+        ),
+        (
+            49,
+            "var n : 0..200 := 49; while n > 0 { if flip 1/2 { observe flip 1/3; } else { observe flip 1/3; } n := n - 1; }",
+            134713546244127343440523266742756048896,
+        ),
         // Merged, the weights are 3, 3 and 2: 8. The weights 6 and 9 in lowest terms are 2 and 3: 5. 2/4 is 1 of 2. 8 * 5 * 2.
         (
             1,

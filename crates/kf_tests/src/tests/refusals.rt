@@ -1,6 +1,5 @@
 // Texts that are no programs, and where.
 use crate::tests::*;
-use kf_io::SureFiles;
 
 // A text of these bytes ends with status 5 and this line.
 pub(super) fn refused(

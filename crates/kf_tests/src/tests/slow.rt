@@ -72,16 +72,7 @@ fn hypers_as_the_slow_program_has_them(rt: HostRuntime) -> Result<(), Fail> {
             "var x : 0..{high} := uniform 0..{high};\nobserve x mod {first};\nobserve x mod {second};\n"
         )?;
         let mut files = text_files(alloc, &text, 65536, &[])?;
-        ends(
-            &rt,
-            HYPER,
-            &mut files,
-            End {
-                status: 0,
-                out: &out,
-                err: "",
-            },
-        )?;
+        ends(&rt, HYPER, &mut files, End::answer(&out))?;
     }
     Ok(())
 }

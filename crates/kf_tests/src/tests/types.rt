@@ -204,12 +204,28 @@ fn too_much(
     refused(rt, declarations(rt.alloc(), count, high, behind)?, err)
 }
 
+// Such a text ends with the hyper of this target, which is 0 for certain.
+fn not_too_much(
+    rt: &(impl Abort + AllocGlobal),
+    count: u32,
+    high: &str,
+    behind: &str,
+    target: &str,
+) -> Result<(), Fail> {
+    let alloc = rt.alloc();
+    let text = declarations(alloc, count, high, behind)?;
+    let mut out = String::from_str(alloc, "target ")?;
+    out.push_str(target)?;
+    out.push_str("\nscale 1\ninners 1\ninner 0 outer 1\n  0 1\n")?;
+    let mut files = SureFiles::new(one_file(alloc, text)?, 65536);
+    ends(rt, HYPER, &mut files, End::answer(out.as_str()))
+}
+
 #[test]
 fn variables_and_stores_up_to_the_limits(rt: HostRuntime) -> Result<(), Fail> {
-    let form = "kuifje: p.kf: not of the first form\n";
-    too_much(&rt, 32, "0", "", form)?;
+    not_too_much(&rt, 32, "0", "about v1;\n", "v1")?;
     too_much(&rt, 33, "0", "", "kuifje: p.kf:33:5: TooManyVariables\n")?;
-    too_much(&rt, 31, "0", "about old v1;\n", form)?;
+    not_too_much(&rt, 31, "0", "about old v1;\n", "old v1")?;
     too_much(
         &rt,
         31,
@@ -217,7 +233,7 @@ fn variables_and_stores_up_to_the_limits(rt: HostRuntime) -> Result<(), Fail> {
         "about old v1, old v2;\n",
         "kuifje: p.kf:32:19: TooManyVariables\n",
     )?;
-    too_much(&rt, 3, "65535", "var w : 0..32767 := 0;\n", form)?;
+    not_too_much(&rt, 3, "65535", "var w : 0..32767 := 0;\nabout w;\n", "w")?;
     too_much(&rt, 4, "65535", "", "kuifje: p.kf:4:5: StoreTooWide\n")?;
     too_much(
         &rt,

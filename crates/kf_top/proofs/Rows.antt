@@ -1,0 +1,45 @@
+-- The rows of a table, printed one after the other.
+use Rattle.std.proofs.Common.{◌≡◌, ℕ, ◌+◌, ◌<◌, ◌≤◌, List, ◌++◌, length, map, drop, get_or, sym, ◌∙◌, ap, subst, append_assoc, arith}
+use Rattle.std.specs.List.{flat_map}
+use Rattle.std.proofs.lemmas.List.{get_or-map, length-map, drop-map}
+use Rattle.std.proofs.lemmas.List.Sums.{get_or-le-sum_by}
+use Rattle.kf_value.proofs.ListLemmas.{left_step}
+use Rattle.kf_hyper.specs.declared.traces.TraceRow.{TraceRow}
+use Rattle.kf_hyper.specs.Columns.{IsBelow, total}
+use Rattle.kf_hyper.specs.Traces.{Row, IsTable, row_of}
+
+module _ (rows items : List TraceRow) (same : items ≡ rows) (k : ℕ) (row : TraceRow) (inside : k < length items) (is : row ≡ get_or items k row) where
+  row_inside : k < length rows
+  row_inside = subst (λ (rs : List TraceRow). k < length rs) same inside
+
+  row_is : row ≡ get_or rows k row
+  row_is = subst (λ (rs : List TraceRow). row ≡ get_or rs k row) same is
+
+  mapped_inside : k < length (map row_of rows)
+  mapped_inside = subst (λ (n : ℕ). k < n) (sym (length-map rows row_of)) row_inside
+
+  here : get_or (map row_of rows) k (row_of row) ≡ row_of row
+  here = get_or-map row_of rows k row (row_of row) row_inside ∙ ap row_of (sym row_is)
+
+  pub row_below : (size scale : ℕ) → IsTable size scale (map row_of rows) → IsBelow size row.column
+  row_below size scale table = subst (λ (r : Row). IsBelow size r.column) here (table.within k (row_of row) mapped_inside)
+
+  pub row_narrow : (size scale : ℕ) → IsTable size scale (map row_of rows) → total row.column ≤ scale
+  row_narrow size scale table =
+      let sum = get_or-le-sum_by (λ (r : Row). total r.column) (map row_of rows) k (row_of row) mapped_inside in
+      let this : total (get_or (map row_of rows) k (row_of row)).column ≡ total row.column = ap (λ (r : Row). total r.column) here in
+      omega (arith, sum, this, table.whole)
+
+  module _ (f : Row → List ℕ) where
+    row_left : flat_map f (drop k (map row_of rows)) ≡ f (row_of row) ++ flat_map f (drop (k + 1) (map row_of rows))
+    row_left =
+        ap (flat_map f) (drop-map row_of k rows ∙ left_step row_of rows k row row_inside row_is)
+        ∙ ap (λ (rs : List Row). f (row_of row) ++ flat_map f rs) (sym (drop-map row_of (k + 1) rows))
+
+    -- what is left after a row brings the text to its end, as before
+    pub row_printed : (out now whole : List ℕ) → now ≡ out ++ f (row_of row) → out ++ flat_map f (drop k (map row_of rows)) ≡ whole
+        → now ++ flat_map f (drop (k + 1) (map row_of rows)) ≡ whole
+    row_printed out now whole grown had =
+        ap (λ (t : List ℕ). t ++ flat_map f (drop (k + 1) (map row_of rows))) grown
+        ∙ append_assoc out (f (row_of row)) (flat_map f (drop (k + 1) (map row_of rows)))
+        ∙ ap (λ (t : List ℕ). out ++ t) (sym row_left) ∙ had

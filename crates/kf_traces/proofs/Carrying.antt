@@ -1,0 +1,238 @@
+-- That traced states bring all weight to where the runs end: for each form, and so for statements, blocks and declarations.
+use Rattle.std.proofs.Common.{◌≡◌, ℕ, zero, suc, ◌+◌, Bool, true, false, List, [], ◌∷◌, ◌++◌, map, Option, Some, None, Result, Ok, Err, refl, sym, ◌∙◌, arith}
+use Rattle.std.specs.Prelude.{if◌then◌else◌}
+use Rattle.std.specs.List.{AllByRecursion as Each, flat_map}
+use Rattle.kf_value.specs.Types.{TypeTree}
+use Rattle.kf_value.specs.Values.{ValueTree}
+use Rattle.kf_value.proofs.ListLemmas.{each_append}
+use Rattle.kf_ops.specs.Values.{truth}
+use Rattle.kf_core.specs.Choices.{total}
+use Rattle.kf_core.specs.Dxs.{DxTree}
+use Rattle.kf_core.specs.Sts.{StTree, StTrees, Skip, Assign, Observe, If, While, no_sts, more_sts}
+use Rattle.kf_core.specs.Runs.{Run, Halted, Tried, tried, place, LoopBound, joined, onward, chain, choice_run, branched, silent, shown, stay, stopped, moved, replaced, assigned, guarded, looped, runs, all_runs, declared}
+use Rattle.kf_traces.specs.Traced.{Weights, Traced, Part, split, behind, branches, alone, gone, assign_all, assign_traced, guard_traced, loop_traced, traced, all_traced, declared_traced}
+use Rattle.kf_traces.specs.Traced as spec
+use Rattle.kf_traces.proofs.Sums.{adds, adds_joined}
+use Rattle.kf_traces.proofs.Measures.{Measure, Trace, Within, measure, ahead, Full, chain_runs, stay_within, stay_value}
+use Rattle.kf_traces.proofs.Splitting.{PartsWithin, parts_value, shown_to, split_is, moved_at}
+
+abbrev pub StateWithin : (Trace → Measure) → Traced → Type 0
+StateWithin M s = Within (M s.trace) s.stores
+
+abbrev pub state_value : (Trace → Measure) → Traced → ℕ
+state_value M s = measure (M s.trace) s.stores
+
+abbrev pub StatesWithin : (Trace → Measure) → List Traced → Type 0
+StatesWithin M ss = Each (λ s. StateWithin M s) ss
+
+abbrev pub states_value : (Trace → Measure) → List Traced → ℕ
+states_value M ss = adds (λ s. state_value M s) ss
+
+abbrev pub Brings : (Trace → Measure) → List Traced → (Trace → Measure) → Traced → Type 0
+Brings M ss N s = StatesWithin M ss × (states_value M ss ≡ state_value N s)
+
+-- whatever is measured, the states have what the runs bring
+abbrev pub Carries : (Traced → List Traced) → (ℕ → List Run) → Type 1
+Carries f from = (M : Trace → Measure) (s : Traced) → StateWithin (ahead M from) s → Brings M (f s) (ahead M from) s
+
+-- ---- measures that agree on stores
+
+module _ (M N : Measure) where
+  abbrev pub Turns : Type 0
+  Turns = (n v : ℕ) → M.holds n v → N.holds n v × (M.value n v ≡ N.value n v)
+
+  pub turned : Turns → (es : Weights) → Within M es → Within N es × (measure M es ≡ measure N es)
+  turned h [] within = (tt, refl)
+  turned h (e ∷ es) within =
+      let one = h e.0 e.1 within.0 in
+      let others = turned h es within.1 in
+      ((one.0, others.0), omega (arith, one.1, others.1))
+
+-- ---- states that stay, and states that go on
+
+pub stay_carries : Carries alone stay
+stay_carries M s within =
+    let h = turned (ahead M stay s.trace) (M s.trace) (λ n v w. (stay_within M s.trace v n w, stay_value M s.trace v n)) s.stores within in
+    ((h.0, tt), omega (arith, h.1))
+
+module _ (g : Traced → List Traced) (from : ℕ → List Run) (carries : Carries g from) (M : Trace → Measure) where
+  pub each_carries : (ss : List Traced) → StatesWithin (ahead M from) ss → StatesWithin M (flat_map g ss) × (states_value M (flat_map g ss) ≡ states_value (ahead M from) ss)
+  each_carries [] h = (tt, refl)
+  each_carries (s ∷ ss) h =
+      let one = carries M s h.0 in
+      let others = each_carries ss h.1 in (
+        each_append (λ u. StateWithin M u) (g s) (flat_map g ss) one.0 others.0,
+        adds_joined (λ u. state_value M u) (g s) (flat_map g ss) ∙ omega (arith, one.1, others.1),
+      )
+
+pub chain_carries : (f g : Traced → List Traced) (a b : ℕ → List Run) → ((n : ℕ) → Full (b n)) → Carries f a → Carries g b → Carries (λ s. flat_map g (f s)) (λ n. chain (a n) b)
+chain_carries f g a b full one other M s within =
+    let h = turned (ahead M (λ n. chain (a n) b) s.trace) (ahead (ahead M b) a s.trace) (λ n v w. chain_runs M s.trace v b full (a n) w) s.stores within in
+    let first = one (ahead M b) s h.0 in
+    let second = each_carries g b other M (f s) first.0 in
+    (second.0, second.1 ∙ first.1 ∙ sym h.1)
+
+-- ---- branches
+
+module _ (next : ValueTree → Traced → List Traced) (from : ValueTree → ℕ → List Run) (carries : (v : ValueTree) → Carries (next v) (from v)) (M : Trace → Measure) (t : Trace) where
+  parts_carry : (tries : ℕ → Tried) (ps : List Part) → PartsWithin (shown_to M t tries from) ps
+      → StatesWithin M (flat_map (λ p. next p.value (behind t p)) ps) × (states_value M (flat_map (λ p. next p.value (behind t p)) ps) ≡ parts_value (shown_to M t tries from) ps)
+  parts_carry tries [] h = (tt, refl)
+  parts_carry tries (p ∷ ps) h =
+      let one = carries p.value M (behind t p) h.0 in
+      let others = parts_carry tries ps h.1 in
+      let head = next p.value (behind t p) in
+      let rest = flat_map (λ (q : Part). next q.value (behind t q)) ps in
+      (each_append (λ u. StateWithin M u) head rest one.0 others.0, adds_joined (λ u. state_value M u) head rest ∙ omega (arith, one.1, others.1))
+
+pub branches_carry : (tries : ℕ → Tried) (next : ValueTree → Traced → List Traced) (from : ValueTree → ℕ → List Run)
+    → ((v : ValueTree) → Carries (next v) (from v)) → Carries (branches tries next) (λ n. branched shown n (λ v. from v n) (tries n))
+branches_carry tries next from carries M s within =
+    let h = split_is M s.trace tries from [] s.stores tt within in
+    let r = parts_carry next from carries M s.trace tries (split tries [] s.stores) h.0 in
+    (r.0, r.1 ∙ omega (arith, h.1))
+
+-- ---- assignments
+
+module _ (ts : List TypeTree) (i : ℕ) (d : DxTree) where
+  assign_brings : (M : Trace → Measure) (t : Trace) (to es : Weights) → Within (M t) to → Within (ahead M (assigned ts i d) t) es
+      → Within (M t) (assign_all ts i d to es) × (measure (M t) (assign_all ts i d to es) ≡ measure (M t) to + measure (ahead M (assigned ts i d) t) es)
+  assign_brings M t to [] within h = (within, omega arith)
+  assign_brings M t to (e ∷ es) within h =
+      let one = moved_at M t ts i (place d) (tried ts d) e.0 e.1 to (tried ts d e.0) within h.0 in
+      let others = assign_brings M t (spec.moved ts i to e.0 e.1 (tried ts d e.0)) es one.0 h.1 in
+      (others.0, omega (arith, one.1, others.1))
+
+  pub assign_carries : Carries (assign_traced ts i d) (assigned ts i d)
+  assign_carries M s within =
+      let h = assign_brings M s.trace [] s.stores tt within in
+      ((h.0, tt), omega (arith, h.1))
+
+-- ---- guards and loops
+
+module _ (F G : Traced → List Traced) (a b : ℕ → List Run) (one : Carries F a) (other : Carries G b) where
+  side_carries : (c : Bool) → Carries (if c then F else G) (λ n. if c then a n else b n)
+  side_carries true = one
+  side_carries false = other
+
+  pub guard_carries : (guard : ℕ → Tried) → Carries (guard_traced guard F G) (guarded guard a b)
+  guard_carries guard = branches_carry guard (λ v. if truth v then F else G) (λ v n. if truth v then a n else b n) (λ v. side_carries (truth v))
+
+none_left : (at : ℕ) (M : Trace → Measure) (t : Trace) (es : Weights) → Within (ahead M (λ n. stopped LoopBound at) t) es → 0 ≡ measure (ahead M (λ n. stopped LoopBound at) t) es
+none_left at M t [] within = refl
+none_left at M t (e ∷ es) within = absurd within.0.0.2
+
+stopped_carries : (at : ℕ) → Carries gone (λ n. stopped LoopBound at)
+stopped_carries at M s within = (tt, none_left at M s.trace s.stores within)
+
+-- ---- there are runs, where there are choices
+
+abbrev pub Filled : Tried → Type 0
+Filled (Ok ws) = Full ws
+Filled (Err f) = Unit {0}
+
+full_left : {X : Type 0} (xs ys : List X) → Full xs → Full (xs ++ ys)
+full_left [] ys h = absurd h
+full_left (x ∷ xs) ys h = tt
+
+full_map : {X Y : Type 0} (f : X → Y) (xs : List X) → Full xs → Full (map f xs)
+full_map f [] h = absurd h
+full_map f (x ∷ xs) h = tt
+
+module _ (next : ℕ → List Run) (full : (n : ℕ) → Full (next n)) where
+  onward_full : (r : Run) (x : Result ℕ Halted) → Full (onward next r x)
+  onward_full r (Ok n) = full_map (joined r) (next n) (full n)
+  onward_full r (Err f) = tt
+
+  pub chain_full : (rs : List Run) → Full rs → Full (chain rs next)
+  chain_full [] h = absurd h
+  chain_full (r ∷ rs) h = full_left (onward next r r.end) (chain rs next) (onward_full r r.end)
+
+module _ (leak : ValueTree → List ValueTree) (n : ℕ) (next : ValueTree → List Run) (full : (v : ValueTree) → Full (next v)) where
+  pub branched_full : (g : Tried) → Filled g → Full (branched leak n next g)
+  branched_full (Ok []) h = absurd h
+  branched_full (Ok (c ∷ cs)) h =
+      full_left (map (joined (choice_run leak n (total (c ∷ cs)) c)) (next c.value)) (flat_map (λ u. map (joined (choice_run leak n (total (c ∷ cs)) u)) (next u.value)) cs)
+      (full_map (joined (choice_run leak n (total (c ∷ cs)) c)) (next c.value) (full c.value))
+  branched_full (Err f) h = tt
+
+pub moved_some : (at : ℕ) (x : Option ℕ) → Full (moved at x)
+moved_some at (Some n) = tt
+moved_some at None = tt
+
+pub side_full : (c : Bool) (xs ys : List Run) → Full xs → Full ys → Full (if c then xs else ys)
+side_full true xs ys h k = h
+side_full false xs ys h k = k
+
+module _ (guard : ℕ → Tried) (filled : (n : ℕ) → Filled (guard n)) where
+  guarded_full : (a b : ℕ → List Run) → ((n : ℕ) → Full (a n)) → ((n : ℕ) → Full (b n)) → (n : ℕ) → Full (guarded guard a b n)
+  guarded_full a b h k n = branched_full shown n (λ v. if truth v then a n else b n) (λ v. side_full (truth v) (a n) (b n) (h n) (k n)) (guard n) (filled n)
+
+  pub looped_full : (k at : ℕ) (body : ℕ → List Run) → ((n : ℕ) → Full (body n)) → (n : ℕ) → Full (looped k guard at body n)
+  looped_full zero at body h n = guarded_full (λ m. stopped LoopBound at) stay (λ m. tt) (λ m. tt) n
+  looped_full (suc k) at body h n =
+      guarded_full (λ m. chain (body m) (looped k guard at body)) stay (λ m. chain_full (looped k guard at body) (looped_full k at body h) (body m) (h m)) (λ m. tt) n
+
+  pub loop_carries : (k at : ℕ) (F : Traced → List Traced) (body : ℕ → List Run) → ((n : ℕ) → Full (body n)) → Carries F body → Carries (loop_traced k guard F) (looped k guard at body)
+  loop_carries zero at F body full carries = guard_carries gone alone (λ n. stopped LoopBound at) stay (stopped_carries at) stay_carries guard
+  loop_carries (suc k) at F body full carries =
+      guard_carries (λ s. flat_map (loop_traced k guard F) (F s)) alone (λ n. chain (body n) (looped k guard at body)) stay
+      (chain_carries F (loop_traced k guard F) body (looped k guard at body) (looped_full k at body full) carries (loop_carries k at F body full carries))
+      stay_carries guard
+
+-- ---- statements, blocks and declarations
+
+-- each distribution chooses something, where it has no fault
+abbrev mutual
+  pub Solid : List TypeTree → StTree → Type 0
+  Solid ts Skip = Unit {0}
+  Solid ts (Assign i d) = (n : ℕ) → Filled (tried ts d n)
+  Solid ts (Observe d) = (n : ℕ) → Filled (tried ts d n)
+  Solid ts (If d xs ys) = ((n : ℕ) → Filled (tried ts d n)) × AllSolid ts xs × AllSolid ts ys
+  Solid ts (While d xs) = ((n : ℕ) → Filled (tried ts d n)) × AllSolid ts xs
+
+  pub AllSolid : List TypeTree → StTrees → Type 0
+  AllSolid ts no_sts = Unit {0}
+  AllSolid ts (more_sts x xs) = Solid ts x × AllSolid ts xs
+
+pub assigned_full : (ts : List TypeTree) (i : ℕ) (d : DxTree) → ((n : ℕ) → Filled (tried ts d n)) → (n : ℕ) → Full (assigned ts i d n)
+assigned_full ts i d filled n = branched_full silent n (λ v. moved (place d) (replaced ts i v n)) (λ v. moved_some (place d) (replaced ts i v n)) (tried ts d n) (filled n)
+
+module _ (ts : List TypeTree) (turns : ℕ) where
+  mutual
+    pub runs_full : (x : StTree) → Solid ts x → (n : ℕ) → Full (runs ts turns x n)
+    runs_full Skip h n = tt
+    runs_full (Assign i d) h n = assigned_full ts i d h n
+    runs_full (Observe d) h n = branched_full shown n (λ v. stay n) (λ v. tt) (tried ts d n) (h n)
+    runs_full (If d xs ys) h n = guarded_full (tried ts d) h.0 (all_runs ts turns xs) (all_runs ts turns ys) (all_full xs h.1) (all_full ys h.2) n
+    runs_full (While d xs) h n = looped_full (tried ts d) h.0 turns (place d) (all_runs ts turns xs) (all_full xs h.1) n
+
+    pub all_full : (xs : StTrees) → AllSolid ts xs → (n : ℕ) → Full (all_runs ts turns xs n)
+    all_full no_sts h n = tt
+    all_full (more_sts x xs) h n = chain_full (all_runs ts turns xs) (all_full xs h.1) (runs ts turns x n) (runs_full x h.0 n)
+
+  mutual
+    pub carries : (x : StTree) → Solid ts x → Carries (traced ts turns x) (runs ts turns x)
+    carries Skip h = stay_carries
+    carries (Assign i d) h = assign_carries ts i d
+    carries (Observe d) h = branches_carry (tried ts d) (λ v. alone) (λ v. stay) (λ v. stay_carries)
+    carries (If d xs ys) h =
+        guard_carries (all_traced ts turns xs) (all_traced ts turns ys) (all_runs ts turns xs) (all_runs ts turns ys) (all_carry xs h.1) (all_carry ys h.2) (tried ts d)
+    carries (While d xs) h = loop_carries (tried ts d) h.0 turns (place d) (all_traced ts turns xs) (all_runs ts turns xs) (all_full xs h.1) (all_carry xs h.1)
+
+    pub all_carry : (xs : StTrees) → AllSolid ts xs → Carries (all_traced ts turns xs) (all_runs ts turns xs)
+    all_carry no_sts h = stay_carries
+    all_carry (more_sts x xs) h =
+        chain_carries (traced ts turns x) (all_traced ts turns xs) (runs ts turns x) (all_runs ts turns xs) (all_full xs h.1) (carries x h.0) (all_carry xs h.1)
+
+abbrev pub DeclsSolid : List TypeTree → List DxTree → Type 0
+DeclsSolid ts ds = Each (λ d. (n : ℕ) → Filled (tried ts d n)) ds
+
+pub declared_full : (ts : List TypeTree) (i : ℕ) (ds : List DxTree) → DeclsSolid ts ds → (n : ℕ) → Full (declared ts i ds n)
+declared_full ts i [] h n = tt
+declared_full ts i (d ∷ ds) h n = chain_full (declared ts (suc i) ds) (declared_full ts (suc i) ds h.1) (assigned ts i d n) (assigned_full ts i d h.0 n)
+
+pub decls_carry : (ts : List TypeTree) (i : ℕ) (ds : List DxTree) → DeclsSolid ts ds → Carries (declared_traced ts i ds) (declared ts i ds)
+decls_carry ts i [] h = stay_carries
+decls_carry ts i (d ∷ ds) h =
+    chain_carries (assign_traced ts i d) (declared_traced ts (suc i) ds) (assigned ts i d) (declared ts (suc i) ds) (declared_full ts (suc i) ds h.1) (assign_carries ts i d) (decls_carry ts (suc i) ds h.1)

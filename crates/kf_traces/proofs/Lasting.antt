@@ -1,0 +1,271 @@
+-- That no traced state is without a store, and that no weight is lost.
+use Rattle.std.proofs.Common.{◌≡◌, ℕ, zero, suc, ◌+◌, ◌*◌, ◌/◌, Bool, true, false, List, [], ◌∷◌, ◌++◌, Option, Some, None, Result, Ok, Err, refl, sym, ap, ◌∙◌, arith}
+use Rattle.std.specs.Prelude.{if◌then◌else◌}
+use Rattle.std.specs.Ordering.{nat_cmp, match_ordering}
+use Rattle.std.specs.declared.cmp.Ordering.{Ordering}
+use Rattle.std.specs.declared.cmp.Ordering.TheVariants.{Less, Equal, Greater}
+use Rattle.std.specs.List.{AllByRecursion as Each, flat_map}
+use Rattle.std.proofs.Math.Nat.{div-mul_cancel, mul-add, mul-zero}
+use Rattle.std.proofs.lemmas.List.Sums.{sum_by-cons}
+use Rattle.kf_value.specs.Types.{TypeTree}
+use Rattle.kf_value.specs.Values.{ValueTree, order}
+use Rattle.kf_value.proofs.ListLemmas.{each_append}
+use Rattle.kf_ops.specs.Values.{truth}
+use Rattle.kf_core.specs.Choices.{Weighted, total}
+use Rattle.kf_core.specs.Dxs.{DxTree}
+use Rattle.kf_core.specs.Sts.{StTree, StTrees, Skip, Assign, Observe, If, While, no_sts, more_sts}
+use Rattle.kf_core.specs.Runs.{Run, Halted, Tried, tried, place, LoopBound, chain, branched, silent, shown, stay, stopped, moved, replaced, assigned, guarded, looped, runs, all_runs, declared}
+use Rattle.kf_traces.specs.Traced.{Weights, Traced, Part, with_weight, with_part, with_shares, parted, split, behind, branches, alone, gone, with_move, with_moves, assign_all, assign_traced, guard_traced, loop_traced, traced, all_traced, declared_traced}
+use Rattle.kf_traces.specs.Traced as spec
+use Rattle.kf_traces.proofs.Sums.{adds, adds_same}
+use Rattle.kf_traces.proofs.Measures.{Measure, Trace, Within, Ends, end_value, RunsWithin, runs_value, ahead, Full, chain_runs, choices_run, choices_first, ChosenWithin, stay_value}
+use Rattle.kf_traces.proofs.Splitting.{PartsWithin, shown_to, split_is}
+use Rattle.kf_traces.proofs.Carrying.{StateWithin, StatesWithin, Carries, turned, assign_carries, Filled, Solid, AllSolid, DeclsSolid, carries, all_carry, looped_full, moved_some, side_full, all_full, declared_full, chain_full}
+
+-- ---- no state is without a store
+
+weight_full_at : (n w : ℕ) (e : ℕ × ℕ) (es : Weights) (r : Ordering) → Full (match_ordering r ((n, w) ∷ e ∷ es) ((e.0, e.1 + w) ∷ es) (e ∷ with_weight es n w))
+weight_full_at n w e es Less = tt
+weight_full_at n w e es Equal = tt
+weight_full_at n w e es Greater = tt
+
+pub weight_full : (es : Weights) (n w : ℕ) → Full (with_weight es n w)
+weight_full [] n w = tt
+weight_full (e ∷ es) n w = weight_full_at n w e es (nat_cmp n e.0)
+
+abbrev pub PartsFull : List Part → Type 0
+PartsFull ps = Each (λ p. Full p.stores) ps
+
+module _ (v : ValueTree) (n w : ℕ) where
+  part_full_at : (p : Part) (ps : List Part) (r : Ordering) → PartsFull (p ∷ ps) → PartsFull (with_part ps v n w)
+      → PartsFull (match_ordering r (record { value = v; stores = (n, w) ∷ [] } ∷ p ∷ ps) (record { value = p.value; stores = with_weight p.stores n w } ∷ ps) (p ∷ with_part ps v n w))
+  part_full_at p ps Less h k = (tt, h)
+  part_full_at p ps Equal h k = (weight_full p.stores n w, h.1)
+  part_full_at p ps Greater h k = (h.0, k)
+
+  part_full : (ps : List Part) → PartsFull ps → PartsFull (with_part ps v n w)
+  part_full [] h = (tt, tt)
+  part_full (p ∷ ps) h = part_full_at p ps (order v p.value) h (part_full ps h.1)
+
+shares_full : (ps : List Part) (n share : ℕ) (cs : List Weighted) → PartsFull ps → PartsFull (with_shares ps n share cs)
+shares_full ps n share [] h = h
+shares_full ps n share (c ∷ cs) h = shares_full (with_part ps c.value n (share * c.weight)) n share cs (part_full c.value n (share * c.weight) ps h)
+
+parted_full : (ps : List Part) (n w : ℕ) (g : Tried) → PartsFull ps → PartsFull (parted ps n w g)
+parted_full ps n w (Ok cs) h = shares_full ps n (w / total cs) cs h
+parted_full ps n w (Err f) h = h
+
+split_full : (tries : ℕ → Tried) (ps : List Part) (es : Weights) → PartsFull ps → PartsFull (split tries ps es)
+split_full tries ps [] h = h
+split_full tries ps (e ∷ es) h = split_full tries (parted ps e.0 e.1 (tries e.0)) es (parted_full ps e.0 e.1 (tries e.0) h)
+
+abbrev pub StatesFull : List Traced → Type 0
+StatesFull ss = Each (λ s. Full s.stores) ss
+
+-- a state with stores leads to such states, where its runs end
+abbrev pub Lasts : (Traced → List Traced) → (ℕ → List Run) → Type 1
+Lasts f from = (M : Trace → Measure) (s : Traced) → Full s.stores → StateWithin (ahead M from) s → StatesFull (f s)
+
+alone_lasts : Lasts alone stay
+alone_lasts M s full within = (full, tt)
+
+module _ (g : Traced → List Traced) (from : ℕ → List Run) (lasts : Lasts g from) (M : Trace → Measure) where
+  pub each_lasts : (ss : List Traced) → StatesFull ss → StatesWithin (ahead M from) ss → StatesFull (flat_map g ss)
+  each_lasts [] h within = tt
+  each_lasts (s ∷ ss) h within = each_append (λ u. Full u.stores) (g s) (flat_map g ss) (lasts M s h.0 within.0) (each_lasts ss h.1 within.1)
+
+pub chain_lasts : (f g : Traced → List Traced) (a b : ℕ → List Run) → ((n : ℕ) → Full (b n)) → Carries f a → Lasts f a → Lasts g b → Lasts (λ s. flat_map g (f s)) (λ n. chain (a n) b)
+chain_lasts f g a b full carry one other M s some within =
+    let h = turned (ahead M (λ n. chain (a n) b) s.trace) (ahead (ahead M b) a s.trace) (λ n v w. chain_runs M s.trace v b full (a n) w) s.stores within in
+    each_lasts g b other M (f s) (one (ahead M b) s some h.0) (carry (ahead M b) s h.0).0
+
+module _ (next : ValueTree → Traced → List Traced) (from : ValueTree → ℕ → List Run) (lasts : (v : ValueTree) → Lasts (next v) (from v)) (M : Trace → Measure) (t : Trace) (tries : ℕ → Tried) where
+  parts_last : (ps : List Part) → PartsFull ps → PartsWithin (shown_to M t tries from) ps → StatesFull (flat_map (λ p. next p.value (behind t p)) ps)
+  parts_last [] h within = tt
+  parts_last (p ∷ ps) h within =
+      each_append (λ u. Full u.stores) (next p.value (behind t p)) (flat_map (λ (q : Part). next q.value (behind t q)) ps)
+      (lasts p.value M (behind t p) h.0 within.0) (parts_last ps h.1 within.1)
+
+branches_last : (tries : ℕ → Tried) (next : ValueTree → Traced → List Traced) (from : ValueTree → ℕ → List Run)
+    → ((v : ValueTree) → Lasts (next v) (from v)) → Lasts (branches tries next) (λ n. branched shown n (λ v. from v n) (tries n))
+branches_last tries next from lasts M s full within =
+    parts_last next from lasts M s.trace tries (split tries [] s.stores) (split_full tries [] s.stores tt) (split_is M s.trace tries from [] s.stores tt within).0
+
+module _ (ts : List TypeTree) (i at : ℕ) where
+  move_full : (es : Weights) (x : Option ℕ) (w : ℕ) → Full es → Full (with_move es x w)
+  move_full es None w h = h
+  move_full es (Some n) w h = weight_full es n w
+
+  moves_full : (n share : ℕ) (es : Weights) (cs : List Weighted) → Full es → Full (with_moves ts i n es share cs)
+  moves_full n share es [] h = h
+  moves_full n share es (c ∷ cs) h = moves_full n share (with_move es (replaced ts i c.value n) (share * c.weight)) cs (move_full es (replaced ts i c.value n) (share * c.weight) h)
+
+  moved_keeps : (n w : ℕ) (es : Weights) (g : Tried) → Full es → Full (spec.moved ts i es n w g)
+  moved_keeps n w es (Ok cs) h = moves_full n (w / total cs) es cs h
+  moved_keeps n w es (Err f) h = h
+
+  module _ (M : Trace → Measure) (t : Trace) where
+    first_move : (u : Trace) (v z : ℕ) (es : Weights) (x : Option ℕ) → RunsWithin M u v (moved at x) → Full (with_move es x z)
+    first_move u v z es (Some m) h = weight_full es m z
+    first_move u v z es None h = absurd h.0.2
+
+    moved_full : (n w : ℕ) (es : Weights) (g : Tried) → Filled g → RunsWithin M t w (branched silent n (λ v. moved at (replaced ts i v n)) g) → Full (spec.moved ts i es n w g)
+    moved_full n w es (Ok []) filled h = absurd filled
+    moved_full n w es (Ok (c ∷ cs)) filled h =
+        let k = total (c ∷ cs) in
+        let x = replaced ts i c.value n in
+        let one = (choices_run M t w silent n k (λ v. moved at (replaced ts i v n)) (c ∷ cs) h).0.0 in
+        moves_full n (w / k) (with_move es x (w / k * c.weight)) cs
+        (first_move (t ++ []) (w / k * c.weight) (w / k * c.weight) es x one)
+    moved_full n w es (Err f) filled h = absurd h.0.2
+
+module _ (ts : List TypeTree) (i : ℕ) (d : DxTree) where
+  assign_keeps : (to es : Weights) → Full to → Full (assign_all ts i d to es)
+  assign_keeps to [] h = h
+  assign_keeps to (e ∷ es) h = assign_keeps (spec.moved ts i to e.0 e.1 (tried ts d e.0)) es (moved_keeps ts i (place d) e.0 e.1 to (tried ts d e.0) h)
+
+  module _ (filled : (n : ℕ) → Filled (tried ts d n)) (M : Trace → Measure) (t : Trace) where
+    assign_full : (es : Weights) → Full es → Within (ahead M (assigned ts i d) t) es → Full (assign_all ts i d [] es)
+    assign_full [] full within = absurd full
+    assign_full (e ∷ es) full within = assign_keeps (spec.moved ts i [] e.0 e.1 (tried ts d e.0)) es (moved_full ts i (place d) M t e.0 e.1 [] (tried ts d e.0) (filled e.0) within.0)
+
+assign_lasts : (ts : List TypeTree) (i : ℕ) (d : DxTree) → ((n : ℕ) → Filled (tried ts d n)) → Lasts (assign_traced ts i d) (assigned ts i d)
+assign_lasts ts i d filled M s full within = (assign_full ts i d filled M s.trace s.stores full within, tt)
+
+module _ (F G : Traced → List Traced) (a b : ℕ → List Run) (one : Lasts F a) (other : Lasts G b) where
+  side_lasts : (c : Bool) → Lasts (if c then F else G) (λ n. if c then a n else b n)
+  side_lasts true = one
+  side_lasts false = other
+
+  guard_lasts : (guard : ℕ → Tried) → Lasts (guard_traced guard F G) (guarded guard a b)
+  guard_lasts guard = branches_last guard (λ v. if truth v then F else G) (λ v n. if truth v then a n else b n) (λ v. side_lasts (truth v))
+
+gone_lasts : (at : ℕ) → Lasts gone (λ n. stopped LoopBound at)
+gone_lasts at M s full within = tt
+
+module _ (guard : ℕ → Tried) (filled : (n : ℕ) → Filled (guard n)) where
+  loop_lasts : (k at : ℕ) (F : Traced → List Traced) (body : ℕ → List Run) → ((n : ℕ) → Full (body n)) → Carries F body → Lasts F body → Lasts (loop_traced k guard F) (looped k guard at body)
+  loop_lasts zero at F body full carry lasts = guard_lasts gone alone (λ n. stopped LoopBound at) stay (gone_lasts at) alone_lasts guard
+  loop_lasts (suc k) at F body full carry lasts =
+      guard_lasts (λ s. flat_map (loop_traced k guard F) (F s)) alone (λ n. chain (body n) (looped k guard at body)) stay
+      (chain_lasts F (loop_traced k guard F) body (looped k guard at body) (looped_full guard filled k at body full) carry lasts (loop_lasts k at F body full carry lasts))
+      alone_lasts guard
+
+module _ (ts : List TypeTree) (turns : ℕ) where
+  mutual
+    pub lasts : (x : StTree) → Solid ts x → Lasts (traced ts turns x) (runs ts turns x)
+    lasts Skip h = alone_lasts
+    lasts (Assign i d) h = assign_lasts ts i d h
+    lasts (Observe d) h = branches_last (tried ts d) (λ v. alone) (λ v. stay) (λ v. alone_lasts)
+    lasts (If d xs ys) h = guard_lasts (all_traced ts turns xs) (all_traced ts turns ys) (all_runs ts turns xs) (all_runs ts turns ys) (all_last xs h.1) (all_last ys h.2) (tried ts d)
+    lasts (While d xs) h = loop_lasts (tried ts d) h.0 turns (place d) (all_traced ts turns xs) (all_runs ts turns xs) (all_full ts turns xs h.1) (all_carry ts turns xs h.1) (all_last xs h.1)
+
+    pub all_last : (xs : StTrees) → AllSolid ts xs → Lasts (all_traced ts turns xs) (all_runs ts turns xs)
+    all_last no_sts h = alone_lasts
+    all_last (more_sts x xs) h =
+        chain_lasts (traced ts turns x) (all_traced ts turns xs) (runs ts turns x) (all_runs ts turns xs) (all_full ts turns xs h.1) (carries ts turns x h.0) (lasts x h.0) (all_last xs h.1)
+
+pub decls_last : (ts : List TypeTree) (i : ℕ) (ds : List DxTree) → DeclsSolid ts ds → Lasts (declared_traced ts i ds) (declared ts i ds)
+decls_last ts i [] h = alone_lasts
+decls_last ts i (d ∷ ds) h =
+    chain_lasts (assign_traced ts i d) (declared_traced ts (suc i) ds) (assigned ts i d) (declared ts (suc i) ds) (declared_full ts (suc i) ds h.1)
+    (assign_carries ts i d) (assign_lasts ts i d h.0) (decls_last ts (suc i) ds h.1)
+
+-- ---- no weight is lost
+
+-- weight itself
+abbrev pub all_weight : Trace → Measure
+all_weight t = record { holds = λ n w. Unit {0}; value = λ n w. w; closed = λ n a b h k. tt; linear = λ n a b h k. refl }
+
+abbrev pub Keeps : (ℕ → List Run) → Type 0
+Keeps from = (t : Trace) (n v : ℕ) → RunsWithin all_weight t v (from n) → runs_value all_weight t v (from n) ≡ v
+
+stay_keeps : Keeps stay
+stay_keeps t n v within = stay_value all_weight t v n
+
+module _ (b : ℕ → List Run) (keeps : Keeps b) where
+  kept_end : (t : Trace) (x : Result ℕ Halted) (w : ℕ) → Ends (ahead all_weight b t) x w → end_value (ahead all_weight b t) x w ≡ end_value (all_weight t) x w × Ends (all_weight t) x w
+  kept_end t (Ok n) w h = (keeps t n w h, tt)
+  kept_end t (Err f) w h = absurd h
+
+  kept_runs : (t : Trace) (v : ℕ) (rs : List Run) → RunsWithin (ahead all_weight b) t v rs → RunsWithin all_weight t v rs × (runs_value (ahead all_weight b) t v rs ≡ runs_value all_weight t v rs)
+  kept_runs t v [] h = (tt, refl)
+  kept_runs t v (r ∷ rs) h =
+      let one = kept_end (t ++ r.trace) r.end (v / r.scale * r.weight) h.0.2 in
+      let others = kept_runs t v rs h.1 in
+      (((h.0.0, h.0.1, one.1), others.0), omega (arith, one.0, others.1))
+
+  pub chain_keeps : (a : ℕ → List Run) → ((n : ℕ) → Full (b n)) → Keeps a → Keeps (λ n. chain (a n) b)
+  chain_keeps a full first t n v within =
+      let c = chain_runs all_weight t v b full (a n) within in
+      let k = kept_runs t v (a n) c.0 in
+      c.1 ∙ k.1 ∙ first t n v k.0
+
+shares_sum : (q : ℕ) (cs : List Weighted) → adds (λ c. q * c.weight) cs ≡ q * total cs
+shares_sum q [] = sym (mul-zero q)
+shares_sum q (c ∷ cs) =
+    ap (λ n. q * c.weight + n) (shares_sum q cs) ∙ sym (mul-add q c.weight (total cs)) ∙ ap (λ n. q * n) (sym (sum_by-cons (λ (u : Weighted). u.weight) c cs))
+
+module _ (leak : ValueTree → List ValueTree) (n : ℕ) (next : ValueTree → List Run) (full : (v : ValueTree) → Full (next v))
+    (keeps : (u : ValueTree) (t : Trace) (v : ℕ) → RunsWithin all_weight t v (next u) → runs_value all_weight t v (next u) ≡ v) where
+  kept_shares : (t : Trace) (v k : ℕ) (cs : List Weighted) → ChosenWithin all_weight t v leak n k next cs → Each (λ c. runs_value all_weight (t ++ leak c.value) (v / k * c.weight) (next c.value) ≡ v / k * c.weight) cs
+  kept_shares t v k [] h = tt
+  kept_shares t v k (c ∷ cs) h = (keeps c.value (t ++ leak c.value) (v / k * c.weight) h.0, kept_shares t v k cs h.1)
+
+  branched_keeps : (g : Tried) → Filled g → (t : Trace) (v : ℕ) → RunsWithin all_weight t v (branched leak n next g) → runs_value all_weight t v (branched leak n next g) ≡ v
+  branched_keeps (Ok cs) filled t v within =
+      let k = total cs in
+      let c = choices_run all_weight t v leak n k next cs within in
+      let d = choices_first all_weight t v leak n k next cs filled full within in
+      c.1
+      ∙ adds_same (λ c. runs_value all_weight (t ++ leak c.value) (v / k * c.weight) (next c.value)) (λ c. v / k * c.weight) cs (kept_shares t v k cs c.0)
+      ∙ shares_sum (v / k) cs
+      ∙ div-mul_cancel k d.1
+  branched_keeps (Err f) filled t v within = absurd within.0.2
+
+moved_keeps_all : (at : ℕ) (x : Option ℕ) (t : Trace) (v : ℕ) → RunsWithin all_weight t v (moved at x) → runs_value all_weight t v (moved at x) ≡ v
+moved_keeps_all at (Some n) t v within = stay_value all_weight t v n
+moved_keeps_all at None t v within = absurd within.0.2
+
+stopped_keeps : (at : ℕ) → Keeps (λ n. stopped LoopBound at)
+stopped_keeps at t n v within = absurd within.0.2
+
+side_keeps : (c : Bool) (xs ys : List Run) (t : Trace) (v : ℕ) → (RunsWithin all_weight t v xs → runs_value all_weight t v xs ≡ v) → (RunsWithin all_weight t v ys → runs_value all_weight t v ys ≡ v)
+    → RunsWithin all_weight t v (if c then xs else ys) → runs_value all_weight t v (if c then xs else ys) ≡ v
+side_keeps true xs ys t v h k = h
+side_keeps false xs ys t v h k = k
+
+module _ (guard : ℕ → Tried) (filled : (n : ℕ) → Filled (guard n)) where
+  guarded_keeps : (a b : ℕ → List Run) → ((n : ℕ) → Full (a n)) → ((n : ℕ) → Full (b n)) → Keeps a → Keeps b → Keeps (guarded guard a b)
+  guarded_keeps a b fa fb h k t n v within =
+      branched_keeps shown n (λ u. if truth u then a n else b n) (λ u. side_full (truth u) (a n) (b n) (fa n) (fb n)) (λ u t v. side_keeps (truth u) (a n) (b n) t v (h t n v) (k t n v)) (guard n) (filled n) t v within
+
+  looped_keeps : (k at : ℕ) (body : ℕ → List Run) → ((n : ℕ) → Full (body n)) → Keeps body → Keeps (looped k guard at body)
+  looped_keeps zero at body full h = guarded_keeps (λ m. stopped LoopBound at) stay (λ m. tt) (λ m. tt) (stopped_keeps at) stay_keeps
+  looped_keeps (suc k) at body full h =
+      let rest = looped_full guard filled k at body full in
+      guarded_keeps (λ m. chain (body m) (looped k guard at body)) stay (λ m. chain_full (looped k guard at body) rest (body m) (full m)) (λ m. tt)
+      (chain_keeps (looped k guard at body) (looped_keeps k at body full h) body rest h) stay_keeps
+
+assigned_keeps : (ts : List TypeTree) (i : ℕ) (d : DxTree) → ((n : ℕ) → Filled (tried ts d n)) → Keeps (assigned ts i d)
+assigned_keeps ts i d filled t n v within =
+    branched_keeps silent n (λ u. moved (place d) (replaced ts i u n)) (λ u. moved_some (place d) (replaced ts i u n)) (λ u. moved_keeps_all (place d) (replaced ts i u n)) (tried ts d n) (filled n) t v within
+
+module _ (ts : List TypeTree) (turns : ℕ) where
+  mutual
+    pub keeps : (x : StTree) → Solid ts x → Keeps (runs ts turns x)
+    keeps Skip h = stay_keeps
+    keeps (Assign i d) h = assigned_keeps ts i d h
+    keeps (Observe d) h = λ t n v within. branched_keeps shown n (λ u. stay n) (λ u. tt) (λ u t v k. stay_value all_weight t v n) (tried ts d n) (h n) t v within
+    keeps (If d xs ys) h =
+        guarded_keeps (tried ts d) h.0 (all_runs ts turns xs) (all_runs ts turns ys) (all_full ts turns xs h.1) (all_full ts turns ys h.2) (all_keep xs h.1) (all_keep ys h.2)
+    keeps (While d xs) h = looped_keeps (tried ts d) h.0 turns (place d) (all_runs ts turns xs) (all_full ts turns xs h.1) (all_keep xs h.1)
+
+    pub all_keep : (xs : StTrees) → AllSolid ts xs → Keeps (all_runs ts turns xs)
+    all_keep no_sts h = stay_keeps
+    all_keep (more_sts x xs) h = chain_keeps (all_runs ts turns xs) (all_keep xs h.1) (runs ts turns x) (all_full ts turns xs h.1) (keeps x h.0)
+
+pub decls_keep : (ts : List TypeTree) (i : ℕ) (ds : List DxTree) → DeclsSolid ts ds → Keeps (declared ts i ds)
+decls_keep ts i [] h = stay_keeps
+decls_keep ts i (d ∷ ds) h =
+    chain_keeps (declared ts (suc i) ds) (decls_keep ts (suc i) ds h.1) (assigned ts i d) (declared_full ts (suc i) ds h.1) (assigned_keeps ts i d h.0)

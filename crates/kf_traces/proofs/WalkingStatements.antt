@@ -1,0 +1,84 @@
+-- What a state comes to in each form of statement.
+use Rattle.std.proofs.Common.{◌≡◌, ℕ, true, false, List, map, rules, sym, ap, ◌∙◌}
+use Rattle.std.specs.Prelude.{flat_map}
+use Rattle.kf_value.specs.Types.{TypeTree}
+use Rattle.kf_core.specs.Dxs.{dx_tree}
+use Rattle.kf_core.specs.declared.dx.Dx.{Dx}
+use Rattle.kf_core.specs.declared.st.St.{St, the_lemmas}
+use Rattle.kf_core.specs.declared.st.St.TheVariants as code
+use Rattle.kf_core.specs.declared.st.StList.{StList}
+use Rattle.kf_core.specs.Sts.{StTree, Skip, Assign, Observe, If, While, sts, st_tree, st_items}
+use Rattle.kf_core.specs.Runs.{tried}
+use Rattle.kf_traces.specs.Traced.{Traced, alone, assign_traced, traced, all_traced, loop_traced}
+use Rattle.kf_traces.specs.Visits.{leaked, last_true, side}
+use Rattle.kf_traces.proofs.WalkingLoops.{all_leaked, guard_sides, side_is}
+
+-- the tree of each form of statement
+tree-Skip : st_tree code.Skip ≡ Skip
+tree-Skip = search (rules, the_lemmas)
+
+-- of an assignment
+tree-Assign : (i : ℕ) (d : Dx) → st_tree (code.Assign i d) ≡ Assign i (dx_tree d)
+tree-Assign i d = search (rules, the_lemmas)
+
+-- of an observation
+tree-Observe : (d : Dx) → st_tree (code.Observe d) ≡ Observe (dx_tree d)
+tree-Observe d = search (rules, the_lemmas)
+
+-- of a conditional
+tree-If : (d : Dx) (xs ys : StList) → st_tree (code.If d xs ys) ≡ If (dx_tree d) (sts (map st_tree (st_items xs))) (sts (map st_tree (st_items ys)))
+tree-If d xs ys = search (rules, the_lemmas)
+
+-- of a loop
+tree-While : (d : Dx) (xs : StList) → st_tree (code.While d xs) ≡ While (dx_tree d) (sts (map st_tree (st_items xs)))
+tree-While d xs = search (rules, the_lemmas)
+
+module _ (ts : List TypeTree) (turns : ℕ) where
+  -- the ends of a list of statements
+  abbrev pub ends_in : StList → Traced → List Traced
+  ends_in xs s = all_traced ts turns (sts (map st_tree (st_items xs))) s
+
+  -- a state behind a guard goes to one of two branches
+  abbrev pub branch_of : StList → StList → Traced → List Traced
+  branch_of xs ys s = side (ends_in xs) (ends_in ys) s
+
+  module _ (xs ys : StList) (s : Traced) (us : List St) (walked : List Traced) (is : walked ≡ all_traced ts turns (sts (map st_tree us)) s) where
+    -- a state whose last value is true takes the first branch
+    pub took_first : true ≡ last_true s.trace → us ≡ st_items xs → walked ≡ branch_of xs ys s
+    took_first truly same = is ∙ (ap (λ vs. all_traced ts turns (sts (map st_tree vs)) s) same ∙ side_is (ends_in xs) (ends_in ys) s true truly)
+
+    -- and another the second one
+    pub took_second : false ≡ last_true s.trace → us ≡ st_items ys → walked ≡ branch_of xs ys s
+    took_second falsely same = is ∙ (ap (λ vs. all_traced ts turns (sts (map st_tree vs)) s) same ∙ side_is (ends_in xs) (ends_in ys) s false falsely)
+
+  module _ (s : St) (from : Traced) where
+    -- what is known of a form is known of the statement
+    ends_as : (x : StTree) → st_tree s ≡ x → traced ts turns x from ≡ traced ts turns (st_tree s) from
+    ends_as x is = ap (λ y. traced ts turns y from) (sym is)
+
+    -- a statement that does nothing
+    pub ends_skip : s ≡ code.Skip → alone from ≡ traced ts turns (st_tree s) from
+    ends_skip is = ends_as Skip (ap st_tree is ∙ tree-Skip)
+
+    -- an assignment
+    pub ends_assign : (i : ℕ) (d : Dx) → s ≡ code.Assign i d → assign_traced ts i (dx_tree d) from ≡ traced ts turns (st_tree s) from
+    ends_assign i d is = ends_as (Assign i (dx_tree d)) (ap st_tree is ∙ tree-Assign i d)
+
+    -- an observation
+    pub ends_observe : (d : Dx) → s ≡ code.Observe d → leaked (tried ts (dx_tree d)) from ≡ traced ts turns (st_tree s) from
+    ends_observe d is = sym (all_leaked (tried ts (dx_tree d)) from) ∙ ends_as (Observe (dx_tree d)) (ap st_tree is ∙ tree-Observe d)
+
+    -- a conditional
+    ends_if : (d : Dx) (yes_list no_list : StList) → s ≡ code.If d yes_list no_list → flat_map (branch_of yes_list no_list) (leaked (tried ts (dx_tree d)) from) ≡ traced ts turns (st_tree s) from
+    ends_if d yes_list no_list is =
+        guard_sides (tried ts (dx_tree d)) (ends_in yes_list) (ends_in no_list) from
+        ∙ ends_as (If (dx_tree d) (sts (map st_tree (st_items yes_list))) (sts (map st_tree (st_items no_list)))) (ap st_tree is ∙ tree-If d yes_list no_list)
+
+    -- states that went to their branches behind a conditional's guard are its ends
+    pub if_walked : (d : Dx) (yes_list no_list : StList) → s ≡ code.If d yes_list no_list → (states leaks done : List Traced) → states ≡ leaks → leaks ≡ leaked (tried ts (dx_tree d)) from
+        → done ≡ flat_map (branch_of yes_list no_list) states → done ≡ traced ts turns (st_tree s) from
+    if_walked d yes_list no_list is states leaks done same leaked_so walked = walked ∙ (ap (flat_map (branch_of yes_list no_list)) (same ∙ leaked_so) ∙ ends_if d yes_list no_list is)
+
+    -- a loop
+    pub ends_while : (d : Dx) (xs : StList) → s ≡ code.While d xs → loop_traced turns (tried ts (dx_tree d)) (ends_in xs) from ≡ traced ts turns (st_tree s) from
+    ends_while d xs is = ends_as (While (dx_tree d) (sts (map st_tree (st_items xs)))) (ap st_tree is ∙ tree-While d xs)

@@ -1,0 +1,254 @@
+use Rattle.std.proofs.Common.{rules, ◌≡◌, ◌+◌, ◌-◌, [], ◌∷◌, ap, ◌∙◌, sym, map, drop, reverse, arith, false, All, refl}
+use Rattle.std.proofs.lemmas.List.Elements.{All-cons, All-map, All-nil, All-same}
+use Rattle.std.specs.Prelude.{flat_map}
+use Rattle.std.specs.Vec.Iter.{into_iter_items}
+use Rattle.kf_value.specs.Shapes.{shape_types, shape_sizes}
+use Rattle.kf_value.specs.Types.{product}
+use Rattle.kf_value.proofs.ListLemmas.{left_step, left_end, map-reverse}
+use Rattle.kf_core.specs.declared.st.St.{the_lemmas}
+use Rattle.kf_core.specs.Dxs.{dx_tree}
+use Rattle.kf_core.specs.Runs.{tried}
+use Rattle.kf_core.specs.Sts.{st_tree}
+use Rattle.kf_eval.specs.Kinds.{shape_kinds}
+use Rattle.kf_support.proofs.Passing as pass
+use Rattle.kf_traces.specs.declared.walks.Visit.TheVariants as code
+use Rattle.kf_traces.specs.Traced.{Traced, loop_traced, traced}
+use Rattle.kf_traces.specs.Views.{traced_of}
+use Rattle.kf_traces.specs.Visits.{VisitTree, Asks, Left, visit_of, visitor, visits_next}
+use Rattle.kf_traces.proofs.Walking as walking
+use Rattle.kf_traces.proofs.WalkingLoops as loops
+use Rattle.kf_traces.proofs.WalkingStatements as form
+use Rattle.kf_traces.proofs.walks.+walk.Goals as goal
+use Rattle.kf_traces.proofs.walks.+walk.Goals.{walk-then-ends_true+in_ok-walked-in-If, walk-else-ends_true+in_ok-walked-in-If-2}
+
+pub ask_again-returns-clause-fits : goal.ask_again-returns-clause-fits
+ask_again-returns-clause-fits t c =
+    let size = product (shape_sizes c.args.shape.now) in
+    let fits = λ (v : VisitTree). walking.InSize size (visitor v) in
+    let asks = λ (s : Traced). Asks s (c.args.rest - 1) in
+    All-same fits (map visit_of c.in_ok-asking.asking.items) (map asks (map traced_of c.in_ok-walked.walked.items)) c.in_ok-asking.ensures
+    (All-map fits asks (map traced_of c.in_ok-walked.walked.items) c.in_ok-walked.ensures.fits)
+
+pub turn-ask_again-requires : goal.turn-ask_again-requires
+turn-ask_again-requires t c =
+    let size = product (shape_sizes c.args.shape.now) in
+    let next = visits_next (walking.ends_of c.args.shape.now c.args.turns (map st_tree c.args.body.now)) c.args.rest in (
+      search (rules, the_lemmas),
+      (
+        c.requires.sound,
+        walking.goes_next next (walking.InSize size) (λ v. walking.InSize size (visitor v)) (flat_map next (map traced_of c.args.states.items)) (map visit_of c.loop-state.visits.items) (map traced_of (into_iter_items c.loop-state.state-iterator)) (traced_of c.in-Some.state) (map traced_of (into_iter_items c.next.new.self))
+            (ap (map traced_of) c.in-Some.ensures.steps.0) c.loop-state.invariant,
+      ),
+    )
+
+pub turn-loop-state-preserved-then-ends_true : goal.turn-loop-state-preserved-then-ends_true
+turn-loop-state-preserved-then-ends_true t c =
+    let size = product (shape_sizes c.args.shape.now) in
+    let body = walking.ends_of c.args.shape.now c.args.turns (map st_tree c.args.body.now) in
+    walking.goes_step (visits_next body c.args.rest) (walking.InSize size) (λ v. walking.InSize size (visitor v)) (flat_map (visits_next body c.args.rest) (map traced_of c.args.states.items)) (map visit_of c.loop-state.visits.items) (map traced_of (into_iter_items c.loop-state.state-iterator)) (traced_of c.in-Some.state)
+    (map traced_of (into_iter_items c.next.new.self)) (ap (map traced_of) c.in-Some.ensures.steps.0) c.loop-state.invariant
+    (map visit_of c.in_ok-asking.asking.items) (map visit_of c.append.new.self.items)
+    (loops.asked_next body c.args.rest (traced_of c.in-Some.state) (map visit_of c.in_ok-asking.asking.items) c.in_ok-asking.ensures.visits (sym c.if-ends_true.true ∙ c.ends_true.ensures))
+    (walking.mapped_joined visit_of c.append.new.self.items c.loop-state.visits.items c.in_ok-asking.asking.items c.in_ok-append.ensures.items) c.in_ok-asking.ensures.fits
+
+pub turn-loop-state-preserved : goal.turn-loop-state-preserved
+turn-loop-state-preserved t c =
+    let size = product (shape_sizes c.args.shape.now) in
+    let body = walking.ends_of c.args.shape.now c.args.turns (map st_tree c.args.body.now) in
+    let s = traced_of c.in-Some.state in
+    let kept = λ (v : VisitTree). walking.InSize size (visitor v) in
+    let before = c.loop-state.invariant in
+    let step : map traced_of (into_iter_items c.loop-state.state-iterator) ≡ s ∷ map traced_of (into_iter_items c.next.new.self) = ap (map traced_of) c.in-Some.ensures.steps.0 in
+    walking.goes_step (visits_next body c.args.rest) (walking.InSize size) (λ v. walking.InSize size (visitor v)) (flat_map (visits_next body c.args.rest) (map traced_of c.args.states.items)) (map visit_of c.loop-state.visits.items) (map traced_of (into_iter_items c.loop-state.state-iterator)) s
+    (map traced_of (into_iter_items c.next.new.self)) step before (Left s ∷ []) (map visit_of c.push.new.self.items)
+    (loops.next_is body c.args.rest s false (sym c.if-ends_true.false ∙ c.ends_true.ensures))
+    (walking.mapped_joined visit_of c.push.new.self.items c.loop-state.visits.items (code.Left c.in-Some.state ∷ []) c.in_ok-push.ensures.items)
+    (All-cons kept (Left s) [] (walking.goes_next (visits_next body c.args.rest) (walking.InSize size) (λ v. walking.InSize size (visitor v)) (flat_map (visits_next body c.args.rest) (map traced_of c.args.states.items)) (map visit_of c.loop-state.visits.items) (map traced_of (into_iter_items c.loop-state.state-iterator)) s (map traced_of (into_iter_items c.next.new.self)) step before) (All-nil kept))
+
+pub walk-assigned-requires-clause-variable : goal.walk-assigned-requires-clause-variable
+walk-assigned-requires-clause-variable t c =
+    let known = pass.assign_parts (shape_kinds c.args.shape.now) c.args.statement.now c.requires.sound c.in-Assign.slot c.in-Assign.dist c.in-Assign.is in
+    pass.variable_within c.args.shape.now c.in-Assign.slot c.from.result known.0 c.from.ensures known.1.0
+
+pub walk-walk_while-requires : goal.walk-walk_while-requires
+walk-walk_while-requires t c =
+    let ks = shape_kinds c.args.shape.now in (
+      search (rules, the_lemmas),
+      (
+        pass.while_guard ks c.args.statement.now c.requires.sound c.in-While.test c.in-While.body c.in-While.is,
+        (pass.body_sound ks c.args.statement.now c.requires.sound c.in-While.test c.in-While.body c.in-While.is c.as_slice-in-While.result.now c.as_slice-in-While.ensures, c.requires.fits),
+      ),
+    )
+
+pub walk-loop-state-preserved : goal.walk-loop-state-preserved
+walk-loop-state-preserved t c =
+    let size = product (shape_sizes c.args.shape.now) in
+    let ts = shape_types c.args.shape.now in
+    let next = form.branch_of ts c.args.turns c.in-If.yes c.in-If.no in
+    let s = traced_of c.in-Some.state in
+    let step : map traced_of (into_iter_items c.loop-state.state-iterator) ≡ s ∷ map traced_of (into_iter_items c.next.new.self) = ap (map traced_of) c.in-Some.ensures.steps.0 in
+    let went : (map traced_of c.if-ends_true.walked.items ≡ next s) × All (walking.InSize size) (map traced_of c.if-ends_true.walked.items) =
+    elim c.if-ends_true.branch [
+      | walk-then-ends_true+in_ok-walked-in-If w ↦
+          let same : map traced_of c.if-ends_true.walked.items ≡ map traced_of w.in_ok-walked-in-If.walked.items = λ i. map traced_of ((w.walked-is i).items) in (
+            same ∙ form.took_first ts c.args.turns c.in-If.yes c.in-If.no s w.as_slice.result.now (map traced_of w.in_ok-walked-in-If.walked.items) w.in_ok-walked-in-If.ensures.walked (sym w.if-ends_true.true ∙ c.ends_true.ensures) w.as_slice.ensures,
+            All-same (walking.InSize size) _ _ same w.in_ok-walked-in-If.ensures.fits,
+          )
+      | walk-else-ends_true+in_ok-walked-in-If-2 w ↦
+          let same : map traced_of c.if-ends_true.walked.items ≡ map traced_of w.in_ok-walked-in-If-2.walked.items = λ i. map traced_of ((w.walked-is i).items) in (
+            same ∙ form.took_second ts c.args.turns c.in-If.yes c.in-If.no s w.as_slice-else-ends_true.result.now (map traced_of w.in_ok-walked-in-If-2.walked.items) w.in_ok-walked-in-If-2.ensures.walked (sym w.if-ends_true.false ∙ c.ends_true.ensures) w.as_slice-else-ends_true.ensures,
+            All-same (walking.InSize size) _ _ same w.in_ok-walked-in-If-2.ensures.fits,
+          )
+    ] in
+    walking.goes_step next (walking.InSize size) (walking.InSize size) (flat_map next (map traced_of (into_iter_items c.into_iter-state-iterator.result))) (map traced_of c.loop-state.next.items) (map traced_of (into_iter_items c.loop-state.state-iterator)) s (map traced_of (into_iter_items c.next.new.self)) step c.loop-state.invariant
+    (map traced_of c.if-ends_true.walked.items) (map traced_of c.append.new.self.items) went.0
+    (walking.mapped_joined traced_of c.append.new.self.items c.loop-state.next.items c.if-ends_true.walked.items c.in_ok-append-in-If.ensures.items) went.1
+
+pub walk-walk_all-requires : goal.walk-walk_all-requires
+walk-walk_all-requires t c =
+    let size = product (shape_sizes c.args.shape.now) in
+    let ts = shape_types c.args.shape.now in
+    let next = form.branch_of ts c.args.turns c.in-If.yes c.in-If.no in
+    let s = traced_of c.in-Some.state in
+    let step : map traced_of (into_iter_items c.loop-state.state-iterator) ≡ s ∷ map traced_of (into_iter_items c.next.new.self) = ap (map traced_of) c.in-Some.ensures.steps.0 in
+    let fits = walking.goes_next next (walking.InSize size) (walking.InSize size) (flat_map next (map traced_of (into_iter_items c.into_iter-state-iterator.result))) (map traced_of c.loop-state.next.items) (map traced_of (into_iter_items c.loop-state.state-iterator)) s (map traced_of (into_iter_items c.next.new.self)) step c.loop-state.invariant in
+    (search (rules, the_lemmas), (pass.yes_sound (shape_kinds c.args.shape.now) c.args.statement.now c.requires.sound c.in-If.test c.in-If.yes c.in-If.no c.in-If.is c.as_slice.result.now c.as_slice.ensures, fits))
+
+pub walk-walk_all-requires-else-ends_true : goal.walk-walk_all-requires-else-ends_true
+walk-walk_all-requires-else-ends_true t c =
+    let size = product (shape_sizes c.args.shape.now) in
+    let ts = shape_types c.args.shape.now in
+    let next = form.branch_of ts c.args.turns c.in-If.yes c.in-If.no in
+    let s = traced_of c.in-Some.state in
+    let step : map traced_of (into_iter_items c.loop-state.state-iterator) ≡ s ∷ map traced_of (into_iter_items c.next.new.self) = ap (map traced_of) c.in-Some.ensures.steps.0 in
+    let fits = walking.goes_next next (walking.InSize size) (walking.InSize size) (flat_map next (map traced_of (into_iter_items c.into_iter-state-iterator.result))) (map traced_of c.loop-state.next.items) (map traced_of (into_iter_items c.loop-state.state-iterator)) s (map traced_of (into_iter_items c.next.new.self)) step c.loop-state.invariant in
+    (search (rules, the_lemmas), (pass.no_sound (shape_kinds c.args.shape.now) c.args.statement.now c.requires.sound c.in-If.test c.in-If.yes c.in-If.no c.in-If.is c.as_slice-else-ends_true.result.now c.as_slice-else-ends_true.ensures, fits))
+
+pub walk_all-walk_each-requires : goal.walk_all-walk_each-requires
+walk_all-walk_each-requires t c =
+    let here = left_step st_tree c.args.statements.now c.loop-statement.statement-index c.statement-item.result (omega arith) c.statement-item.is in
+    let before = rw here at c.loop-statement.invariant in
+    (search (rules, the_lemmas), (walking.block_sound c.args.shape.now c.args.turns (walking.ends_of c.args.shape.now c.args.turns (map st_tree c.args.statements.now) (traced_of c.args.from)) (st_tree c.statement-item.result) (map st_tree (drop (c.loop-statement.statement-index + 1) c.args.statements.now)) (map traced_of c.loop-statement.states.items) before, before.fits))
+
+pub walk_all-loop-statement-preserved : goal.walk_all-loop-statement-preserved
+walk_all-loop-statement-preserved t c =
+    let here = left_step st_tree c.args.statements.now c.loop-statement.statement-index c.statement-item.result (omega arith) c.statement-item.is in
+    let before = rw here at c.loop-statement.invariant in
+    walking.block_step c.args.shape.now c.args.turns (walking.ends_of c.args.shape.now c.args.turns (map st_tree c.args.statements.now) (traced_of c.args.from)) (st_tree c.statement-item.result) (map st_tree (drop (c.loop-statement.statement-index + 1) c.args.statements.now)) (map traced_of c.loop-statement.states.items) before (map traced_of c.in_ok-states-2.states.items) c.in_ok-states-2.ensures.walked c.in_ok-states-2.ensures.fits
+
+pub walk_all-returns-clause-walked : goal.walk_all-returns-clause-walked
+walk_all-returns-clause-walked t c =
+    walking.block_end c.args.shape.now c.args.turns _ _ (map traced_of c.loop-statement.states.items) (left_end st_tree c.args.statements.now c.loop-statement.statement-index (omega arith)) c.loop-statement.invariant
+
+pub walk_each-walk-requires : goal.walk_each-walk-requires
+walk_each-walk-requires t c =
+    let size = product (shape_sizes c.args.shape.now) in
+    let next = traced (shape_types c.args.shape.now) c.args.turns (st_tree c.args.statement.now) in (
+      search (rules, the_lemmas),
+      (
+        c.requires.sound,
+        walking.goes_next next (walking.InSize size) (walking.InSize size) (flat_map next (map traced_of c.args.states.items)) (map traced_of c.loop-state.next.items) (map traced_of (into_iter_items c.loop-state.state-iterator)) (traced_of c.in-Some.state) (map traced_of (into_iter_items c.next.new.self))
+            (ap (map traced_of) c.in-Some.ensures.steps.0) c.loop-state.invariant,
+      ),
+    )
+
+pub walk_each-loop-state-preserved : goal.walk_each-loop-state-preserved
+walk_each-loop-state-preserved t c =
+    let size = product (shape_sizes c.args.shape.now) in
+    let next = traced (shape_types c.args.shape.now) c.args.turns (st_tree c.args.statement.now) in
+    walking.goes_step next (walking.InSize size) (walking.InSize size) (flat_map next (map traced_of c.args.states.items)) (map traced_of c.loop-state.next.items) (map traced_of (into_iter_items c.loop-state.state-iterator)) (traced_of c.in-Some.state) (map traced_of (into_iter_items c.next.new.self))
+    (ap (map traced_of) c.in-Some.ensures.steps.0) c.loop-state.invariant
+    (map traced_of c.in_ok-walked.walked.items) (map traced_of c.append.new.self.items) c.in_ok-walked.ensures.walked
+    (walking.mapped_joined traced_of c.append.new.self.items c.loop-state.next.items c.in_ok-walked.walked.items c.in_ok-append.ensures.items) c.in_ok-walked.ensures.fits
+
+pub walk_while-leak-requires-clause-fits : goal.walk_while-leak-requires-clause-fits
+walk_while-leak-requires-clause-fits t c =
+    let size = product (shape_sizes c.args.shape.now) in
+    let guard = tried (shape_types c.args.shape.now) (dx_tree c.args.test.now) in
+    let body = walking.ends_of c.args.shape.now c.args.turns (map st_tree c.args.body.now) in
+    let whole = loop_traced c.args.turns guard body (traced_of c.args.from) in
+    let ended = map traced_of c.loop-visit.ended.items in
+    let visits = map visit_of c.loop-visit.visits.items in
+    let rest = map visit_of c.pop.new.self.items in
+    let s = traced_of c.in-Asks.state in
+    let k = c.in-Asks.rest in
+    let is = walking.mapped_last visit_of c.loop-visit.visits.items c.pop.new.self.items c.in-Some.visit (code.Asks c.in-Asks.state c.in-Asks.rest) c.in-Some.ensures.items c.in-Asks.is in
+    loops.stack_fits guard body size whole ended visits rest (Asks s k) is c.loop-visit.invariant
+
+pub walk_while-loop-visit-preserved : goal.walk_while-loop-visit-preserved
+walk_while-loop-visit-preserved t c =
+    let size = product (shape_sizes c.args.shape.now) in
+    let guard = tried (shape_types c.args.shape.now) (dx_tree c.args.test.now) in
+    let body = walking.ends_of c.args.shape.now c.args.turns (map st_tree c.args.body.now) in
+    let whole = loop_traced c.args.turns guard body (traced_of c.args.from) in
+    let ended = map traced_of c.loop-visit.ended.items in
+    let visits = map visit_of c.loop-visit.visits.items in
+    let rest = map visit_of c.pop.new.self.items in
+    let s = traced_of c.in-Asks.state in
+    let k = c.in-Asks.rest in
+    let is = walking.mapped_last visit_of c.loop-visit.visits.items c.pop.new.self.items c.in-Some.visit (code.Asks c.in-Asks.state c.in-Asks.rest) c.in-Some.ensures.items c.in-Asks.is in
+    let next = map visit_of c.in_ok-next-in-Asks.next.items in
+    let turned = map visit_of c.reverse.new.self.items in
+    let after = map visit_of c.append.new.self.items in
+    let turn : turned ≡ reverse next = ap (map visit_of) c.reverse.ensures.items ∙ map-reverse visit_of c.in_ok-next-in-Asks.next.items in
+    let put = walking.mapped_joined visit_of c.append.new.self.items c.pop.new.self.items c.reverse.new.self.items c.in_ok-append-in-Asks.ensures.items in
+    loops.stack_asked guard body size whole ended visits rest (Asks s k) is c.loop-visit.invariant s k refl (map traced_of c.in_ok-states-in-Asks.states.items) next turned after
+    c.in_ok-states-in-Asks.ensures.leaked c.in_ok-next-in-Asks.ensures.visits turn put c.in_ok-next-in-Asks.ensures.fits
+
+pub walk_while-loop-visit-smaller : goal.walk_while-loop-visit-smaller
+walk_while-loop-visit-smaller t c =
+    let size = product (shape_sizes c.args.shape.now) in
+    let guard = tried (shape_types c.args.shape.now) (dx_tree c.args.test.now) in
+    let body = walking.ends_of c.args.shape.now c.args.turns (map st_tree c.args.body.now) in
+    let whole = loop_traced c.args.turns guard body (traced_of c.args.from) in
+    let ended = map traced_of c.loop-visit.ended.items in
+    let visits = map visit_of c.loop-visit.visits.items in
+    let rest = map visit_of c.pop.new.self.items in
+    let s = traced_of c.in-Asks.state in
+    let k = c.in-Asks.rest in
+    let is = walking.mapped_last visit_of c.loop-visit.visits.items c.pop.new.self.items c.in-Some.visit (code.Asks c.in-Asks.state c.in-Asks.rest) c.in-Some.ensures.items c.in-Asks.is in
+    let next = map visit_of c.in_ok-next-in-Asks.next.items in
+    let turned = map visit_of c.reverse.new.self.items in
+    let after = map visit_of c.append.new.self.items in
+    let turn : turned ≡ reverse next = ap (map visit_of) c.reverse.ensures.items ∙ map-reverse visit_of c.in_ok-next-in-Asks.next.items in
+    let put = walking.mapped_joined visit_of c.append.new.self.items c.pop.new.self.items c.reverse.new.self.items c.in_ok-append-in-Asks.ensures.items in
+    loops.asked_falls guard body size whole ended visits rest (Asks s k) is c.loop-visit.invariant s k refl (map traced_of c.in_ok-states-in-Asks.states.items) next turned after
+    c.in_ok-states-in-Asks.ensures.leaked c.in_ok-next-in-Asks.ensures.visits turn put
+
+pub walk-returns-in-None-clause-walked : goal.walk-returns-in-None-clause-walked
+walk-returns-in-None-clause-walked t c =
+    let size = product (shape_sizes c.args.shape.now) in
+    let ts = shape_types c.args.shape.now in
+    let next = form.branch_of ts c.args.turns c.in-If.yes c.in-If.no in
+    let states = map traced_of (into_iter_items c.into_iter-state-iterator.result) in
+    let none : into_iter_items c.loop-state.state-iterator ≡ [] = walking.none_left _ (omega (arith, c.in-None.ensures.steps.0, c.loop-state.state-iterator.rest.ok)) in
+    form.if_walked ts c.args.turns c.args.statement.now (traced_of c.args.from) c.in-If.test c.in-If.yes c.in-If.no c.in-If.is states (map traced_of c.in_ok-states-in-If.states.items) (map traced_of c.loop-state.next.items)
+    (ap (map traced_of) c.into_iter-state-iterator.ensures.into_iter_gives.0) c.in_ok-states-in-If.ensures.leaked
+    (walking.goes_end next (walking.InSize size) (walking.InSize size) (flat_map next states) (map traced_of c.loop-state.next.items) (map traced_of (into_iter_items c.loop-state.state-iterator)) (ap (map traced_of) none) c.loop-state.invariant)
+
+pub walk_while-loop-visit-preserved-in-Continue-branch-2 : goal.walk_while-loop-visit-preserved-in-Continue-branch-2
+walk_while-loop-visit-preserved-in-Continue-branch-2 t c =
+    let size = product (shape_sizes c.args.shape.now) in
+    let guard = tried (shape_types c.args.shape.now) (dx_tree c.args.test.now) in
+    let body = walking.ends_of c.args.shape.now c.args.turns (map st_tree c.args.body.now) in
+    let whole = loop_traced c.args.turns guard body (traced_of c.args.from) in
+    let ended = map traced_of c.loop-visit.ended.items in
+    let visits = map visit_of c.loop-visit.visits.items in
+    let rest = map visit_of c.pop.new.self.items in
+    let s = traced_of c.in-Left.state in
+    let is = walking.mapped_last visit_of c.loop-visit.visits.items c.pop.new.self.items c.in-Some.visit (code.Left c.in-Left.state) c.in-Some.ensures.items c.in-Left.is in
+    loops.stack_left guard body size whole ended visits rest (Left s) is c.loop-visit.invariant s (map traced_of c.push-in-Left.new.self.items) refl
+    (walking.mapped_joined traced_of c.push-in-Left.new.self.items c.loop-visit.ended.items (c.in-Left.state ∷ []) c.in_ok-push-in-Left.ensures.items)
+
+pub walk_while-loop-visit-smaller-in-Continue-branch-2 : goal.walk_while-loop-visit-smaller-in-Continue-branch-2
+walk_while-loop-visit-smaller-in-Continue-branch-2 t c =
+    let size = product (shape_sizes c.args.shape.now) in
+    let guard = tried (shape_types c.args.shape.now) (dx_tree c.args.test.now) in
+    let body = walking.ends_of c.args.shape.now c.args.turns (map st_tree c.args.body.now) in
+    let whole = loop_traced c.args.turns guard body (traced_of c.args.from) in
+    let ended = map traced_of c.loop-visit.ended.items in
+    let visits = map visit_of c.loop-visit.visits.items in
+    let rest = map visit_of c.pop.new.self.items in
+    let s = traced_of c.in-Left.state in
+    let is = walking.mapped_last visit_of c.loop-visit.visits.items c.pop.new.self.items c.in-Some.visit (code.Left c.in-Left.state) c.in-Some.ensures.items c.in-Left.is in
+    loops.left_falls guard body size whole ended visits rest (Left s) is c.loop-visit.invariant s refl

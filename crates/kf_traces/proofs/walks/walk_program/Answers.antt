@@ -1,0 +1,10 @@
+use Rattle.std.proofs.Common.{sym, subst}
+use Rattle.kf_core.specs.Checked.{IsChecked}
+use Rattle.kf_core.specs.Programs.{program_tree}
+use Rattle.kf_core.proofs.Unsquashed.{checked_again}
+use Rattle.kf_support.specs.Cleared.{program_of}
+use Rattle.kf_traces.proofs.walks.walk_program.Goals as goal
+
+pub walk_checked-requires-clause-checked : goal.walk_checked-requires-clause-checked
+walk_checked-requires-clause-checked c =
+    subst (λ p. IsChecked (program_tree p)) (sym c.program.ensures) (checked_again (program_tree (program_of c.args.c.now)) c.args.c.now.checked)

@@ -1,0 +1,103 @@
+//! Where assignments and carried copies lead a state's stores.
+
+ghost use Rattle.std.specs.Prelude.{◌≡◌, ◌+◌, ◌*◌, ◌^◌, ◌<◌, [], length, map, IfOk, OnOk};
+ghost use Rattle.std.specs.List.{All};
+ghost use Rattle.kf_value.specs.Kinds.{KindTree};
+ghost use Rattle.kf_value.specs.Values.{IsWellFormed};
+ghost use Rattle.kf_value.specs.Shapes.{shape_types, shape_sizes};
+ghost use Rattle.kf_value.specs.Types.{product};
+ghost use Rattle.kf_core.specs.Checked.{DistKinded, IsChecked};
+ghost use Rattle.kf_core.specs.Choices.{total};
+ghost use Rattle.kf_core.specs.Dxs.{dx_tree};
+ghost use Rattle.kf_core.specs.Programs.{program_tree};
+ghost use Rattle.kf_eval.specs.Choices.{weighted_tree};
+ghost use Rattle.kf_eval.specs.Kinds.{shape_kinds};
+ghost use Rattle.kf_traces.specs.Laws.{sum_of};
+ghost use Rattle.kf_traces.specs.Traced.{with_moves, assign_all, copy_all};
+ghost use Rattle.kf_traces.specs.Views.{Fits};
+
+use crate::parts::add_weight;
+use crate::steps::chosen_in;
+use kf_core::{Dx, Program};
+use kf_eval::Weighted;
+use kf_support::{copied_store, moved};
+use kf_value::{Mem, Shape};
+use std::alloc::Global;
+use std::collections::BTreeMap;
+
+/// Adds the shares of a store, each to the store where the variable at `slot` has the chosen value.
+///
+/// A choice weighs `share` times its weight. A value that isn't of the variable's type leads nowhere.
+fn add_moves(
+    shape: &Shape,
+    slot: usize,
+    store: u64,
+    share: u128,
+    choices: &[Weighted],
+    reached: &mut BTreeMap<u64, u128>,
+) -> Result<(), Mem>
+    requires variable { slot < length (shape_types shape.now) }
+    requires store { store < product (shape_sizes shape.now) }
+    requires formed { All (λ w. IsWellFormed w.value) (map weighted_tree choices.now) }
+    requires below { All (λ e. e.0 < product (shape_sizes shape.now)) reached.old.entries }
+    requires within { sum_of reached.old.entries + share * total (map weighted_tree choices.now) < 2 ^ 127 }
+    ensures moved { OnOk result (reached.new.entries ≡ with_moves (shape_types shape.now) slot store reached.old.entries share (map weighted_tree choices.now)) }
+    ensures below { OnOk result (All (λ e. e.0 < product (shape_sizes shape.now)) reached.new.entries) }
+{
+    for choice in choices {
+        if let Some(after) = moved(shape, slot, store, &choice.value) {
+            add_weight(reached, after, share * choice.weight)?;
+        }
+    }
+    Ok(())
+}
+
+/// Where an assignment to the variable at `slot` leads, each way with its share of the weight.
+pub fn assign(
+    alloc: Global,
+    shape: &Shape,
+    slot: usize,
+    dist: &Dx,
+    stores: &BTreeMap<u64, u128>,
+) -> Result<BTreeMap<u64, u128>, Mem>
+    requires variable { slot < length (shape_types shape.now) }
+    requires kinded { (k : KindTree) × DistKinded (shape_kinds shape.now) (dx_tree dist.now) k }
+    requires fits { Fits (product (shape_sizes shape.now)) stores.now.entries }
+    ensures assigned { IfOk result (λ m. m.entries ≡ assign_all (shape_types shape.now) slot (dx_tree dist.now) [] stores.now.entries) }
+    ensures fits { IfOk result (λ m. Fits (product (shape_sizes shape.now)) m.entries) }
+{
+    let mut reached = BTreeMap::new(alloc);
+    for (store, weight) in stores {
+        if let Some(choice) = chosen_in(alloc, shape, dist, *store)? {
+            let share = *weight / choice.total;
+            add_moves(
+                shape,
+                slot,
+                *store,
+                share,
+                choice.items.as_slice(),
+                &mut reached,
+            )?;
+        }
+    }
+    Ok(reached)
+}
+
+/// The stores with their carried copies set.
+pub fn copy(
+    alloc: Global,
+    program: &Program,
+    stores: &BTreeMap<u64, u128>,
+) -> Result<BTreeMap<u64, u128>, Mem>
+    requires checked { IsChecked (program_tree program.now) }
+    requires fits { Fits (product (shape_sizes program.now.shape)) stores.now.entries }
+    ensures copied { IfOk result (λ m. m.entries ≡ copy_all (program_tree program.now) [] stores.now.entries) }
+    ensures fits { IfOk result (λ m. Fits (product (shape_sizes program.now.shape)) m.entries) }
+{
+    let mut copied = BTreeMap::new(alloc);
+    for (store, weight) in stores {
+        let after = copied_store(alloc, program, *store)?;
+        add_weight(&mut copied, after, *weight)?;
+    }
+    Ok(copied)
+}

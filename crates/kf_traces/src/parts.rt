@@ -1,0 +1,73 @@
+//! Weight on stores, and stores parted by the values that they leak.
+
+ghost use Rattle.std.specs.Prelude.{◌≡◌, ◌+◌, ◌*◌, ◌^◌, ◌<◌, map, OnOk};
+ghost use Rattle.kf_value.specs.Views.{value_tree};
+ghost use Rattle.kf_core.specs.Choices.{total};
+ghost use Rattle.kf_eval.specs.Choices.{weighted_tree};
+ghost use Rattle.kf_traces.specs.Laws.{sum_of};
+ghost use Rattle.kf_traces.specs.Traced.{with_weight, with_part, with_shares};
+ghost use Rattle.kf_traces.specs.Views.{part_of, parts_sum, PartsAscend};
+
+use kf_eval::Weighted;
+use kf_value::{Mem, Value, compare};
+use std::alloc::Global;
+use std::collections::BTreeMap;
+
+/// A value that is leaked, and the stores that leak it, each with its weight.
+#[derive(Drop)]
+pub struct Part {
+    pub value: Value,
+    pub stores: BTreeMap<u64, u128>,
+}
+
+/// Adds weight on a store.
+pub fn add_weight(stores: &mut BTreeMap<u64, u128>, store: u64, weight: u128) -> Result<(), Mem>
+    requires within { sum_of stores.old.entries + weight < 2 ^ 127 }
+    ensures { OnOk result (stores.new.entries ≡ with_weight stores.old.entries store weight) }
+{
+    let before = stores.get(&store).copied().unwrap_or(0);
+    stores.insert(store, before + weight)?;
+    Ok(())
+}
+
+/// Adds weight on a store in the part of a value.
+pub fn add_part(
+    alloc: Global,
+    parts: &mut Vec<Part>,
+    value: &Value,
+    store: u64,
+    weight: u128,
+) -> Result<(), Mem>
+    requires ascending { PartsAscend (map part_of parts.old.items) }
+    requires within { parts_sum (map part_of parts.old.items) + weight < 2 ^ 127 }
+    ensures { OnOk result (map part_of parts.new.items ≡ with_part (map part_of parts.old.items) (value_tree value.now) store weight) }
+{
+    match parts.binary_search_by(|part| compare(&part.value, value)) {
+        Ok(place) => add_weight(&mut parts[place].stores, store, weight)?,
+        Err(place) => {
+            let mut stores = BTreeMap::new(alloc);
+            stores.insert(store, weight)?;
+            let value = value.copy(alloc)?;
+            parts.insert(place, Part { value, stores })?;
+        }
+    }
+    Ok(())
+}
+
+/// Adds the shares of a store, so many times as each choice weighs.
+pub fn add_shares(
+    alloc: Global,
+    parts: &mut Vec<Part>,
+    store: u64,
+    share: u128,
+    choices: &[Weighted],
+) -> Result<(), Mem>
+    requires ascending { PartsAscend (map part_of parts.old.items) }
+    requires within { parts_sum (map part_of parts.old.items) + share * total (map weighted_tree choices.now) < 2 ^ 127 }
+    ensures { OnOk result (map part_of parts.new.items ≡ with_shares (map part_of parts.old.items) store share (map weighted_tree choices.now)) }
+{
+    for choice in choices {
+        add_part(alloc, parts, &choice.value, store, share * choice.weight)?;
+    }
+    Ok(())
+}

@@ -1,0 +1,301 @@
+//! What becomes of a state in statements, and of the first store in a whole program.
+
+ghost use Rattle.std.specs.Prelude.{◌≡◌, ◌^◌, ◌<◌, length, map, flat_map, IfOk};
+ghost use Rattle.std.specs.List.{All};
+ghost use Rattle.kf_value.specs.Kinds.{KindTree, TruthKind};
+ghost use Rattle.kf_value.specs.Shapes.{shape_types, shape_sizes};
+ghost use Rattle.kf_value.specs.Types.{product};
+ghost use Rattle.kf_core.specs.Checked.{AreSound, DistKinded, IsChecked, IsSound};
+ghost use Rattle.kf_core.specs.Dxs.{dx_tree};
+ghost use Rattle.kf_core.specs.Programs.{program_tree};
+ghost use Rattle.kf_core.specs.Runs.{tried};
+ghost use Rattle.kf_core.specs.Sts.{st_tree, sts};
+ghost use Rattle.kf_eval.specs.Kinds.{shape_kinds};
+ghost use Rattle.kf_support.specs.Cleared.{program_of, turns_of, whole_scale};
+ghost use Rattle.kf_traces.specs.Traced.{alone, all_traced, assign_traced, loop_traced, program_traced, traced};
+ghost use Rattle.kf_traces.specs.Views.{traced_of, AllFit, Fits};
+ghost use Rattle.kf_traces.specs.Visits.{Asks, asks_again, first_of, leaked, visit_of, visitor, visits_next};
+
+use crate::assigns::{assign, copy};
+use crate::states::{State, all_behind, ends_true};
+use crate::steps::split;
+use kf_core::{Dx, Program, St};
+use kf_support::Cleared;
+use kf_value::{Mem, Shape};
+use std::alloc::Global;
+use std::collections::BTreeMap;
+
+/// A state on its way through a loop.
+#[derive(Drop)]
+enum Visit {
+    /// It has left the loop.
+    Left(State),
+    /// It asks the guard, and has so many turns to come.
+    Asks(State, u32),
+}
+
+/// The state and no other.
+fn only(alloc: Global, state: State) -> Result<Vec<State>, Mem>
+    ensures { IfOk result (λ ss. map traced_of ss.items ≡ alone (traced_of state)) }
+{
+    let mut states = Vec::new(alloc);
+    states.push(state)?;
+    Ok(states)
+}
+
+/// The state with its stores assigned.
+fn assigned(alloc: Global, shape: &Shape, slot: usize, dist: &Dx, from: State) -> Result<State, Mem>
+    requires variable { slot < length (shape_types shape.now) }
+    requires kinded { (k : KindTree) × DistKinded (shape_kinds shape.now) (dx_tree dist.now) k }
+    requires fits { Fits (product (shape_sizes shape.now)) (traced_of from).stores }
+    ensures assigned { IfOk result (λ s. alone (traced_of s) ≡ assign_traced (shape_types shape.now) slot (dx_tree dist.now) (traced_of from)) }
+    ensures fits { IfOk result (λ s. Fits (product (shape_sizes shape.now)) (traced_of s).stores) }
+{
+    let stores = assign(alloc, shape, slot, dist, &from.stores)?;
+    Ok(State {
+        trace: from.trace,
+        stores,
+    })
+}
+
+/// One state for each value that is leaked, in ascending order.
+fn leak(alloc: Global, shape: &Shape, dist: &Dx, from: State) -> Result<Vec<State>, Mem>
+    requires kinded { (k : KindTree) × DistKinded (shape_kinds shape.now) (dx_tree dist.now) k }
+    requires fits { Fits (product (shape_sizes shape.now)) (traced_of from).stores }
+    ensures leaked { IfOk result (λ ss. map traced_of ss.items ≡ leaked (tried (shape_types shape.now) (dx_tree dist.now)) (traced_of from)) }
+    ensures fits { IfOk result (λ ss. AllFit (product (shape_sizes shape.now)) (map traced_of ss.items)) }
+{
+    let parts = split(alloc, shape, dist, &from.stores)?;
+    let states = all_behind(alloc, from.trace, parts)?;
+    Ok(states)
+}
+
+/// What becomes of a state in a statement.
+#[cycle(walk)]
+fn walk(
+    alloc: Global,
+    shape: &Shape,
+    turns: u32,
+    statement: &St,
+    from: State,
+) -> Result<Vec<State>, Mem>
+    requires sound { IsSound (shape_kinds shape.now) (st_tree statement.now) }
+    requires fits { Fits (product (shape_sizes shape.now)) (traced_of from).stores }
+    ensures walked { IfOk result (λ ss. map traced_of ss.items ≡ traced (shape_types shape.now) turns (st_tree statement.now) (traced_of from)) }
+    ensures fits { IfOk result (λ ss. AllFit (product (shape_sizes shape.now)) (map traced_of ss.items)) }
+{
+    match statement {
+        St::Skip => only(alloc, from),
+        St::Assign { slot, dist } => {
+            let state = assigned(alloc, shape, usize::from(*slot), dist, from)?;
+            only(alloc, state)
+        }
+        St::Observe(dist) => leak(alloc, shape, dist, from),
+        St::If {
+            guard: test,
+            yes,
+            no,
+        } => {
+            let states = leak(alloc, shape, test, from)?;
+            let mut next = Vec::new(alloc);
+            for state in states {
+                let mut walked = if ends_true(&state) {
+                    walk_all(alloc, shape, turns, yes.as_slice(), state)?
+                } else {
+                    walk_all(alloc, shape, turns, no.as_slice(), state)?
+                };
+                next.append(&mut walked)?;
+            }
+            Ok(next)
+        }
+        St::While { guard: test, body } => {
+            walk_while(alloc, shape, turns, test, body.as_slice(), from)
+        }
+    }
+}
+
+/// What becomes of a state in a loop with at most so many turns.
+///
+/// The visits to the guard are a stack, since there may be more turns than calls can be nested.
+#[cycle(walk)]
+fn walk_while(
+    alloc: Global,
+    shape: &Shape,
+    turns: u32,
+    test: &Dx,
+    body: &[St],
+    from: State,
+) -> Result<Vec<State>, Mem>
+    requires kinded { DistKinded (shape_kinds shape.now) (dx_tree test.now) TruthKind }
+    requires sound { AreSound (shape_kinds shape.now) (map st_tree body.now) }
+    requires fits { Fits (product (shape_sizes shape.now)) (traced_of from).stores }
+    ensures walked { IfOk result (λ ss. map traced_of ss.items ≡ loop_traced turns (tried (shape_types shape.now) (dx_tree test.now)) (all_traced (shape_types shape.now) turns (sts (map st_tree body.now))) (traced_of from)) }
+    ensures fits { IfOk result (λ ss. AllFit (product (shape_sizes shape.now)) (map traced_of ss.items)) }
+{
+    let mut ended = Vec::new(alloc);
+    let mut visits = Vec::new(alloc);
+    visits.push(Visit::Asks(from, turns))?;
+    while let Some(visit) = visits.pop() {
+        match visit {
+            Visit::Left(state) => {
+                ended.push(state)?;
+            }
+            Visit::Asks(state, rest) => {
+                let states = leak(alloc, shape, test, state)?;
+                let mut next = turn(alloc, shape, turns, rest, body, states)?;
+                next.reverse();
+                visits.append(&mut next)?;
+            }
+        }
+    }
+    Ok(ended)
+}
+
+/// The next visits of states that have leaked the guard's value, with so many turns to come.
+#[cycle(walk)]
+fn turn(
+    alloc: Global,
+    shape: &Shape,
+    turns: u32,
+    rest: u32,
+    body: &[St],
+    states: Vec<State>,
+) -> Result<Vec<Visit>, Mem>
+    requires sound { AreSound (shape_kinds shape.now) (map st_tree body.now) }
+    requires fits { AllFit (product (shape_sizes shape.now)) (map traced_of states.items) }
+    ensures visits { IfOk result (λ vs. map visit_of vs.items ≡ flat_map (visits_next (all_traced (shape_types shape.now) turns (sts (map st_tree body.now))) rest) (map traced_of states.items)) }
+    ensures fits { IfOk result (λ vs. All (λ v. Fits (product (shape_sizes shape.now)) (visitor v).stores) (map visit_of vs.items)) }
+{
+    let mut visits = Vec::new(alloc);
+    for state in states {
+        if ends_true(&state) {
+            let mut asking = ask_again(alloc, shape, turns, rest, body, state)?;
+            visits.append(&mut asking)?;
+        } else {
+            visits.push(Visit::Left(state))?;
+        }
+    }
+    Ok(visits)
+}
+
+/// The visits of a state that goes through the body again; none where no turn is to come.
+#[cycle(walk)]
+fn ask_again(
+    alloc: Global,
+    shape: &Shape,
+    turns: u32,
+    rest: u32,
+    body: &[St],
+    state: State,
+) -> Result<Vec<Visit>, Mem>
+    requires sound { AreSound (shape_kinds shape.now) (map st_tree body.now) }
+    requires fits { Fits (product (shape_sizes shape.now)) (traced_of state).stores }
+    ensures visits { IfOk result (λ vs. map visit_of vs.items ≡ asks_again (all_traced (shape_types shape.now) turns (sts (map st_tree body.now))) rest (traced_of state)) }
+    ensures fits { IfOk result (λ vs. All (λ v. Fits (product (shape_sizes shape.now)) (visitor v).stores) (map visit_of vs.items)) }
+{
+    if rest == 0 {
+        return Ok(Vec::new(alloc));
+    }
+    let walked = walk_all(alloc, shape, turns, body, state)?;
+    let asking = all_ask(alloc, walked, rest - 1)?;
+    Ok(asking)
+}
+
+/// The states as visits that ask the guard, with so many turns to come.
+fn all_ask(alloc: Global, states: Vec<State>, rest: u32) -> Result<Vec<Visit>, Mem>
+    ensures { IfOk result (λ vs. map visit_of vs.items ≡ map (λ s. Asks s rest) (map traced_of states.items)) }
+{
+    let mut visits = Vec::new(alloc);
+    for state in states {
+        visits.push(Visit::Asks(state, rest))?;
+    }
+    Ok(visits)
+}
+
+/// What becomes of a state in statements, one after the other.
+#[cycle(walk)]
+fn walk_all(
+    alloc: Global,
+    shape: &Shape,
+    turns: u32,
+    statements: &[St],
+    from: State,
+) -> Result<Vec<State>, Mem>
+    requires sound { AreSound (shape_kinds shape.now) (map st_tree statements.now) }
+    requires fits { Fits (product (shape_sizes shape.now)) (traced_of from).stores }
+    ensures walked { IfOk result (λ ss. map traced_of ss.items ≡ all_traced (shape_types shape.now) turns (sts (map st_tree statements.now)) (traced_of from)) }
+    ensures fits { IfOk result (λ ss. AllFit (product (shape_sizes shape.now)) (map traced_of ss.items)) }
+{
+    let mut states = only(alloc, from)?;
+    for statement in statements {
+        states = walk_each(alloc, shape, turns, statement, states)?;
+    }
+    Ok(states)
+}
+
+/// What becomes of states in a statement, in their order.
+#[cycle(walk)]
+fn walk_each(
+    alloc: Global,
+    shape: &Shape,
+    turns: u32,
+    statement: &St,
+    states: Vec<State>,
+) -> Result<Vec<State>, Mem>
+    requires sound { IsSound (shape_kinds shape.now) (st_tree statement.now) }
+    requires fits { AllFit (product (shape_sizes shape.now)) (map traced_of states.items) }
+    ensures walked { IfOk result (λ ss. map traced_of ss.items ≡ flat_map (traced (shape_types shape.now) turns (st_tree statement.now)) (map traced_of states.items)) }
+    ensures fits { IfOk result (λ ss. AllFit (product (shape_sizes shape.now)) (map traced_of ss.items)) }
+{
+    let mut next = Vec::new(alloc);
+    for state in states {
+        let mut walked = walk(alloc, shape, turns, statement, state)?;
+        next.append(&mut walked)?;
+    }
+    Ok(next)
+}
+
+/// The first store of a program, with all weight, and nothing leaked.
+fn first(alloc: Global, scale: u128) -> Result<State, Mem>
+    ensures { IfOk result (λ s. traced_of s ≡ first_of scale) }
+{
+    let mut stores = BTreeMap::new(alloc);
+    stores.insert(0, scale)?;
+    Ok(State {
+        trace: Vec::new(alloc),
+        stores,
+    })
+}
+
+/// All ends of a checked program: its declarations from the first store, its carried copies, its statements.
+fn walk_checked(
+    alloc: Global,
+    program: &Program,
+    turns: u32,
+    scale: u128,
+) -> Result<Vec<State>, Mem>
+    requires checked { IsChecked (program_tree program.now) }
+    requires narrow { scale < 2 ^ 127 }
+    ensures states { IfOk result (λ ss. map traced_of ss.items ≡ program_traced turns scale (program_tree program.now)) }
+    ensures fits { IfOk result (λ ss. AllFit (product (shape_sizes program.now.shape)) (map traced_of ss.items)) }
+{
+    let decls = program.decls.as_slice();
+    let mut state = first(alloc, scale)?;
+    for (i, dist) in decls.iter().enumerate() {
+        state = assigned(alloc, &program.shape, i, dist, state)?;
+    }
+    let stores = copy(alloc, program, &state.stores)?;
+    let start = State {
+        trace: state.trace,
+        stores,
+    };
+    walk_all(alloc, &program.shape, turns, program.body.as_slice(), start)
+}
+
+/// All ends of a cleared program: its traces in ascending order, each with the stores behind it.
+pub fn walk_program(alloc: Global, c: &Cleared) -> Result<Vec<State>, Mem>
+    ensures states { IfOk result (λ ss. map traced_of ss.items ≡ program_traced (turns_of c.now) (whole_scale c.now) (program_tree (program_of c.now))) }
+    ensures fits { IfOk result (λ ss. AllFit (product (shape_sizes (program_of c.now).shape)) (map traced_of ss.items)) }
+{
+    walk_checked(alloc, c.program(), c.turns(), c.scale())
+}

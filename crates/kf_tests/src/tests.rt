@@ -7,6 +7,7 @@ mod answers;
 mod causes;
 mod choices;
 mod commands;
+mod examples;
 mod faults;
 mod plain;
 mod refusals;

@@ -1,0 +1,154 @@
+// The programs of examples/ and their hypers, worked out by hand. The texts are those of the files, from their first line on.
+use crate::tests::*;
+
+const PIN: &str = "# A PIN of two digits, compared with the guess 1, 1 until the first difference.
+var first : 0..2 := uniform 0..2;
+var second : 0..2 := uniform 0..2;
+about first, second;
+if first = 1 { observe second = 1; } else { skip; }
+";
+
+const PIN_HYPER: &str = "target first, second
+scale 9
+inners 3
+inner 0 outer 2/3
+  (0, 0) 1/6
+  (0, 1) 1/6
+  (0, 2) 1/6
+  (2, 0) 1/6
+  (2, 1) 1/6
+  (2, 2) 1/6
+inner 1 outer 2/9
+  (1, 0) 1/2
+  (1, 2) 1/2
+inner 2 outer 1/9
+  (1, 1) 1
+";
+
+const SURVEY: &str = "# Two people answer a survey: each tells the truth three times in four.
+var x : bool := flip 1/2;
+var y : bool := flip 1/2;
+about x, y;
+observe choose { x : 3, not x : 1 };
+observe choose { y : 3, not y : 1 };
+";
+
+const SURVEY_HYPER: &str = "target x, y
+scale 64
+inners 4
+inner 0 outer 1/4
+  (false, false) 1/16
+  (false, true) 3/16
+  (true, false) 3/16
+  (true, true) 9/16
+inner 1 outer 1/4
+  (false, false) 3/16
+  (false, true) 1/16
+  (true, false) 9/16
+  (true, true) 3/16
+inner 2 outer 1/4
+  (false, false) 3/16
+  (false, true) 9/16
+  (true, false) 1/16
+  (true, true) 3/16
+inner 3 outer 1/4
+  (false, false) 9/16
+  (false, true) 3/16
+  (true, false) 3/16
+  (true, true) 1/16
+";
+
+const DOORS: &str = "# Behind one of three doors stands a car. The player points at door 0; the
+# host opens another one without the car.
+var car : 0..2 := uniform 0..2;
+observe uniform ({1, 2} less {car});
+";
+
+const DOORS_HYPER: &str = "target car
+scale 6
+inners 2
+inner 0 outer 1/2
+  0 1/3
+  1 2/3
+inner 1 outer 1/2
+  0 1/3
+  2 2/3
+";
+
+const DINNER: &str = "# Three cryptographers dine: one of them has paid, or nobody has (0). Each
+# two neighbours toss a coin that only they see; each tells whether the two
+# coins differ, and lies if it was them who paid.
+var payer : 0..3 := uniform 0..3;
+var a : bool := flip 1/2;
+var b : bool := flip 1/2;
+var c : bool := flip 1/2;
+about payer;
+observe (a != b) != (payer = 1);
+observe (b != c) != (payer = 2);
+observe (c != a) != (payer = 3);
+";
+
+const DINNER_HYPER: &str = "target payer
+scale 32
+inners 2
+inner 0 outer 1/4
+  0 1
+inner 1 outer 3/4
+  1 1/3
+  2 1/3
+  3 1/3
+";
+
+const TWICE: &str = "# A bit is sent twice over a channel that turns it round once in four times.
+var x : bool := flip 1/2;
+observe choose { x : 3, not x : 1 };
+observe choose { x : 3, not x : 1 };
+";
+
+const TWICE_HYPER: &str = "target x
+scale 32
+inners 3
+inner 0 outer 3/8
+  false 1/2
+  true 1/2
+inner 1 outer 5/16
+  false 1/10
+  true 9/10
+inner 2 outer 5/16
+  false 9/10
+  true 1/10
+";
+
+const COUNTDOWN: &str = "# A loop whose length tells where it began.
+var n : 0..3 := uniform 0..3;
+about old n;
+while n > 0 { n := n - 1; }
+";
+
+const COUNTDOWN_HYPER: &str = "target old n
+scale 4
+inners 4
+inner 0 outer 1/4
+  0 1
+inner 1 outer 1/4
+  1 1
+inner 2 outer 1/4
+  2 1
+inner 3 outer 1/4
+  3 1
+";
+
+#[test]
+fn examples(rt: HostRuntime) -> Result<(), Fail> {
+    for (text, out) in [
+        (PIN, PIN_HYPER),
+        (SURVEY, SURVEY_HYPER),
+        (DOORS, DOORS_HYPER),
+        (DINNER, DINNER_HYPER),
+        (TWICE, TWICE_HYPER),
+        (COUNTDOWN, COUNTDOWN_HYPER),
+    ] {
+        ends_over_text(&rt, HYPER, text, End::answer(out))?;
+    }
+    Ok(())
+}

@@ -49,74 +49,11 @@ pub choice_holds : (P : Weighted → Type 0) (cs : List coded.Weighted) (i : ℕ
 choice_holds P cs i c within read all =
     each_at P (map weighted_tree cs) i (weighted_tree c) (recursion_from_All P (map weighted_tree cs) all) (mapped_read weighted_tree cs i c within read)
 
--- ---- the parts of a sound statement
-
-tree-Assign : (i : ℕ) (d : Dx) → st_tree (code.Assign i d) ≡ Assign i (dx_tree d)
-tree-Assign i d = search (rules, the_lemmas)
-
-tree-Observe : (d : Dx) → st_tree (code.Observe d) ≡ Observe (dx_tree d)
-tree-Observe d = search (rules, the_lemmas)
-
-tree-If : (d : Dx) (xs ys : StList) → st_tree (code.If d xs ys) ≡ If (dx_tree d) (sts (map st_tree (st_items xs))) (sts (map st_tree (st_items ys)))
-tree-If d xs ys = search (rules, the_lemmas)
-
-tree-While : (d : Dx) (xs : StList) → st_tree (code.While d xs) ≡ While (dx_tree d) (sts (map st_tree (st_items xs)))
-tree-While d xs = search (rules, the_lemmas)
-
-sts_list-sts : (ss : List StTree) → sts_list (sts ss) ≡ ss
-sts_list-sts [] = refl
-sts_list-sts (s ∷ ss) = ap (λ us. s ∷ us) (sts_list-sts ss)
+-- ---- the statements of a sound list
 
 module _ (ks : List KindTree) where
-  abbrev Parts : StTree → Type 0
-  Parts Skip = Unit {0}
-  Parts (Assign i d) = (k : KindTree) × ((slice_get ks i ≡ Some k) × DistKinded ks d k)
-  Parts (Observe d) = (k : KindTree) × DistKinded ks d k
-  Parts (If d xs ys) = DistKinded ks d TruthKind × (AreSound ks (sts_list xs) × AreSound ks (sts_list ys))
-  Parts (While d xs) = DistKinded ks d TruthKind × AreSound ks (sts_list xs)
-
-  parts : {s : StTree} → IsSound ks s → Parts s
-  parts skip = tt
-  parts (assign i {d} {k} at dist) = (k, (at, dist))
-  parts (observe {d} {k} dist) = (k, dist)
-  parts (if_else {d} {xs} {ys} guard one other) = (guard, (subst (AreSound ks) (sym (sts_list-sts xs)) one, subst (AreSound ks) (sym (sts_list-sts ys)) other))
-  parts (while {d} {xs} guard body) = (guard, subst (AreSound ks) (sym (sts_list-sts xs)) body)
-
   sound_first : {x : StTree} {xs : List StTree} → AreSound ks (x ∷ xs) → IsSound ks x × AreSound ks xs
   sound_first (more h hs) = (h, hs)
-
-  listed : (us : List St) (xs : StList) → us ≡ st_items xs → AreSound ks (sts_list (sts (map st_tree (st_items xs)))) → AreSound ks (map st_tree us)
-  listed us xs same h = subst (λ vs. AreSound ks (map st_tree vs)) (sym same) (subst (AreSound ks) (sts_list-sts (map st_tree (st_items xs))) h)
-
-  module _ (s : St) (sound : IsSound ks (st_tree s)) where
-    pub assign_parts : (i : ℕ) (d : Dx) → s ≡ code.Assign i d → (k : KindTree) × ((slice_get ks i ≡ Some k) × DistKinded ks (dx_tree d) k)
-    assign_parts i d is = parts (subst (IsSound ks) (ap st_tree is ∙ tree-Assign i d) sound)
-
-    pub observe_parts : (d : Dx) → s ≡ code.Observe d → (k : KindTree) × DistKinded ks (dx_tree d) k
-    observe_parts d is = parts (subst (IsSound ks) (ap st_tree is ∙ tree-Observe d) sound)
-
-    module _ (d : Dx) (xs ys : StList) (is : s ≡ code.If d xs ys) where
-      if_parts : Parts (If (dx_tree d) (sts (map st_tree (st_items xs))) (sts (map st_tree (st_items ys))))
-      if_parts = parts (subst (IsSound ks) (ap st_tree is ∙ tree-If d xs ys) sound)
-
-      pub if_guard : DistKinded ks (dx_tree d) TruthKind
-      if_guard = if_parts.0
-
-      pub yes_sound : (us : List St) → us ≡ st_items xs → AreSound ks (map st_tree us)
-      yes_sound us same = listed us xs same if_parts.1.0
-
-      pub no_sound : (us : List St) → us ≡ st_items ys → AreSound ks (map st_tree us)
-      no_sound us same = listed us ys same if_parts.1.1
-
-    module _ (d : Dx) (xs : StList) (is : s ≡ code.While d xs) where
-      while_parts : Parts (While (dx_tree d) (sts (map st_tree (st_items xs))))
-      while_parts = parts (subst (IsSound ks) (ap st_tree is ∙ tree-While d xs) sound)
-
-      pub while_guard : DistKinded ks (dx_tree d) TruthKind
-      while_guard = while_parts.0
-
-      pub body_sound : (us : List St) → us ≡ st_items xs → AreSound ks (map st_tree us)
-      body_sound us same = listed us xs same while_parts.1
 
   sound_at : (us : List St) (i : ℕ) (u : St) → AreSound ks (map st_tree us) → slice_get us i ≡ Some u → IsSound ks (st_tree u)
   sound_at [] i u h here = (cc)
@@ -139,21 +76,3 @@ slot_kinded shape i within =
     let t = get_or (shape_types shape) i Boolean in
     let here = slice_get-map kind_of (shape_types shape) i ∙ ap (option_map kind_of) (slice_get-get_or (shape_types shape) i Boolean within) in
     (kind_of t, subst (λ e. DistKinded (shape_kinds shape) e (kind_of t)) (sym (slot_tree i)) (kinded.sure 0 (kinded.slot i here)))
-
--- ---- the parts of a checked program
-
-module _ (program : Program) (checked : IsChecked (program_tree program)) where
-  pub decl_kinded : (xs : List Dx) (i : ℕ) (x : Dx) → xs ≡ dx_items program.decls → i < length xs → x ≡ get_or xs i x → (k : KindTree) × DistKinded (shape_kinds program.shape) (dx_tree x) k
-  decl_kinded xs i x all within read =
-      let ts = shape_types program.shape in
-      let here : slice_get xs i ≡ Some x = slice_get-get_or xs i x within ∙ ap (λ y. Some y) (sym read) in
-      let decl : slice_get (map dx_tree (dx_items program.decls)) i ≡ Some (dx_tree x) =
-      ap (λ ys. slice_get (map dx_tree ys) i) (sym all) ∙ (slice_get-map dx_tree xs i ∙ ap (option_map dx_tree) here) in
-      let long = length-map (dx_items program.decls) dx_tree in
-      let counted = checked.counted in
-      let same : length xs ≡ length (dx_items program.decls) = ap length all in
-      let t = get_or ts i Boolean in
-      (kind_of t, checked_decl (program_tree program) checked i (dx_tree x) t decl (slice_get-get_or ts i Boolean (omega arith)))
-
-  pub whole_sound : (us : List St) → us ≡ st_items program.body → AreSound (shape_kinds program.shape) (map st_tree us)
-  whole_sound us same = subst (λ ss. AreSound (shape_kinds program.shape) (map st_tree ss)) (sym same) (checked_body (program_tree program) checked)

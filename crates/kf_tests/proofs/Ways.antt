@@ -1,31 +1,26 @@
 -- What the plain program needs to know of shapes, choices and statements.
-use Rattle.std.proofs.Common.{◌≡◌, ℕ, zero, suc, ◌+◌, ◌*◌, ◌<◌, All, List, [], ◌∷◌, length, map, drop, get_or, slice_get, slice_index, Some, refl, sym, ap, ◌∙◌, subst, rules, arith}
+use Rattle.std.proofs.Common.{◌≡◌, ℕ, zero, suc, ◌+◌, ◌*◌, ◌<◌, All, List, [], ◌∷◌, length, map, drop, get_or, slice_get, slice_index, Some, sym, ap, ◌∙◌, subst, rules, arith}
 use Rattle.std.proofs.lemmas.List.{length-map}
 use Rattle.std.proofs.lemmas.List.Elements.{recursion_from_All}
 use Rattle.std.proofs.lemmas.Option.{slice_get-map, slice_get-get_or}
 use Rattle.std.specs.Option.{option_map}
 use Rattle.kf_value.proofs.ListLemmas.{each_at, mapped_read}
-use Rattle.kf_value.specs.Kinds.{KindTree, TruthKind}
+use Rattle.kf_value.specs.Kinds.{KindTree}
 use Rattle.kf_value.specs.Types.{product, count}
 use Rattle.kf_value.specs.Shapes.{shape_types, shape_sizes}
 use Rattle.kf_value.specs.declared.shape.Shape.{Shape}
 use Rattle.kf_value.specs.Types.{Boolean}
 use Rattle.kf_core.specs.Exs.{Slot}
-use Rattle.kf_core.specs.Dxs.{dx_at, dx_tree, dx_items, Sure}
+use Rattle.kf_core.specs.Dxs.{dx_at, dx_tree, Sure}
 use Rattle.kf_core.specs.Checked as kinded
 use Rattle.kf_core.specs.declared.dx.Dx.{Dx}
 use Rattle.kf_core.specs.declared.dx.DxNode.TheVariants as node
 use Rattle.kf_core.specs.declared.ex.Ex.TheVariants as ex
 use Rattle.kf_core.specs.declared.ex.Ex.{the_lemmas as ex_lemmas}
-use Rattle.kf_core.specs.declared.program.Program.{Program}
-use Rattle.kf_core.specs.declared.st.St.{St, the_lemmas}
-use Rattle.kf_core.specs.declared.st.St.TheVariants as code
-use Rattle.kf_core.specs.declared.st.StList.{StList}
-use Rattle.kf_core.specs.Sts.{StTree, Skip, Assign, Observe, If, While, sts, sts_list, st_tree, st_items}
-use Rattle.kf_core.specs.Programs.{program_tree}
+use Rattle.kf_core.specs.declared.st.St.{St}
+use Rattle.kf_core.specs.Sts.{StTree, st_tree}
 use Rattle.kf_core.specs.Checked.{DistKinded, IsSound, AreSound, IsChecked, kind_of, skip, assign, observe, if_else, while, none, more}
 use Rattle.kf_core.specs.Choices.{Weighted}
-use Rattle.kf_core.proofs.Wider.{checked_decl, checked_body}
 use Rattle.kf_eval.specs.Choices.{weighted_tree}
 use Rattle.kf_eval.specs.declared.choice.Weighted as coded
 use Rattle.kf_eval.specs.Kinds.{shape_kinds}

@@ -10,6 +10,7 @@ mod commands;
 mod examples;
 mod faults;
 mod plain;
+mod plain_traces;
 mod refusals;
 mod slow;
 mod types;

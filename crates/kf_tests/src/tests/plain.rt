@@ -15,23 +15,37 @@ ghost use Rattle.kf_eval.specs.Kinds.{shape_kinds};
 
 use crate::tests::*;
 use kf_core::{Dx, DxNode, Ex, Program, St};
-use kf_eval::{Choice, ChoiceError, choices};
+use kf_eval::{Choice, ChoiceError, Weighted, choices, is_true};
 use kf_frac::lcm;
-use kf_support::{Halt, clear};
-use kf_value::{Shape, Value};
+use kf_support::{Cleared, Halt, clear};
+use kf_value::{Shape, Value, print_value};
 
-// Where a way is, and by which scale it came there.
-#[derive(Clone, Copy)]
-struct Way {
-    store: u64,
-    scale: u128,
+// Where a way is, by which scale and with which weight it came there, and the text of what it leaked.
+#[derive(Drop)]
+pub(super) struct Way {
+    pub(super) store: u64,
+    pub(super) scale: u128,
+    pub(super) weight: u128,
+    pub(super) trace: Vec<u8>,
+}
+
+impl Way {
+    // An equal way.
+    fn copy(&self, alloc: Global) -> Result<Way, AllocError> {
+        Ok(Way {
+            store: self.store,
+            scale: self.scale,
+            weight: self.weight,
+            trace: self.trace.as_slice().to_vec(alloc)?,
+        })
+    }
 }
 
 // The ways that end, and whether one stops at a fault.
 #[derive(Drop)]
-struct Found {
-    ends: Vec<Way>,
-    stops: bool,
+pub(super) struct Found {
+    pub(super) ends: Vec<Way>,
+    pub(super) stops: bool,
 }
 
 fn nothing(alloc: Global) -> Found {
@@ -42,7 +56,7 @@ fn nothing(alloc: Global) -> Found {
 }
 
 // The number of variables.
-fn variables_of(shape: &Shape) -> usize
+pub(super) fn variables_of(shape: &Shape) -> usize
     ensures { result ≡ length (shape_types shape.now) }
 {
     shape.types().as_slice().len()
@@ -60,7 +74,7 @@ fn stores_of(shape: &Shape) -> Option<u64>
 }
 
 // Whether it is the number of a store.
-fn is_store(shape: &Shape, store: u64) -> bool
+pub(super) fn is_store(shape: &Shape, store: u64) -> bool
     ensures { result ≡ true → store < product (shape_sizes shape.now) }
 {
     match stores_of(shape) {
@@ -84,19 +98,33 @@ fn chosen(alloc: Global, shape: &Shape, dist: &Dx, store: u64) -> Result<Option<
     }
 }
 
-fn is_true(value: &Value) -> bool {
-    matches!(value, Value::Bool(true))
+// The way behind a choice of one value among all: the weight grows by that of the value, the scale by the total.
+fn behind(alloc: Global, way: &Way, weighted: &Weighted, total: u128) -> Result<Way, Fail> {
+    let Some(scale) = way.scale.checked_mul(total) else {
+        return Err(Fail::new("the scale is too large"));
+    };
+    let Some(weight) = way.weight.checked_mul(weighted.weight) else {
+        return Err(Fail::new("the weight is too large"));
+    };
+    Ok(Way {
+        store: way.store,
+        scale,
+        weight,
+        trace: way.trace.as_slice().to_vec(alloc)?,
+    })
 }
 
-// The way behind a choice.
-fn behind(way: Way, total: u128) -> Result<Way, Fail> {
-    match way.scale.checked_mul(total) {
-        Some(scale) => Ok(Way {
-            store: way.store,
-            scale,
-        }),
-        None => Err(Fail::new("the scale is too large")),
-    }
+// Adds the text of a leaked value.
+pub(super) fn leak(alloc: Global, value: &Value, trace: &mut Vec<u8>) -> Result<(), Fail> {
+    print_value(alloc, value, trace)?;
+    Ok(trace.push(b';')?)
+}
+
+// The way behind a choice whose value is leaked.
+fn leaking(alloc: Global, way: &Way, weighted: &Weighted, total: u128) -> Result<Way, Fail> {
+    let mut after = behind(alloc, way, weighted, total)?;
+    leak(alloc, &weighted.value, &mut after.trace)?;
+    Ok(after)
 }
 
 // The store where a variable has the value, or none where it isn't of its type.
@@ -118,7 +146,7 @@ fn assigned(
     shape: &Shape,
     slot: usize,
     dist: &Dx,
-    way: Way,
+    way: &Way,
     found: &mut Found,
 ) -> Result<(), Fail>
     requires { (k : KindTree) × DistKinded (shape_kinds shape.now) (dx_tree dist.now) k }
@@ -127,10 +155,13 @@ fn assigned(
         found.stops = true;
         return Ok(());
     };
-    let Way { store, scale } = behind(way, choice.total)?;
     for weighted in choice.items.as_slice() {
-        match moved(shape, slot, store, &weighted.value)? {
-            Some(store) => found.ends.push(Way { store, scale })?,
+        let mut after = behind(alloc, way, weighted, choice.total)?;
+        match moved(shape, slot, way.store, &weighted.value)? {
+            Some(store) => {
+                after.store = store;
+                found.ends.push(after)?;
+            }
             None => found.stops = true,
         }
     }
@@ -142,7 +173,7 @@ fn observed(
     alloc: Global,
     shape: &Shape,
     dist: &Dx,
-    way: Way,
+    way: &Way,
     found: &mut Found,
 ) -> Result<(), Fail>
     requires { (k : KindTree) × DistKinded (shape_kinds shape.now) (dx_tree dist.now) k }
@@ -151,9 +182,36 @@ fn observed(
         found.stops = true;
         return Ok(());
     };
-    let way = behind(way, choice.total)?;
-    for _weighted in choice.items.as_slice() {
-        found.ends.push(way)?;
+    for weighted in choice.items.as_slice() {
+        found
+            .ends
+            .push(leaking(alloc, way, weighted, choice.total)?)?;
+    }
+    Ok(())
+}
+
+// Adds the ways from one on which a guard is true; those on which it is false are found.
+fn guarded_one(
+    alloc: Global,
+    shape: &Shape,
+    guard: &Dx,
+    way: &Way,
+    taken: &mut Vec<Way>,
+    found: &mut Found,
+) -> Result<(), Fail>
+    requires { DistKinded (shape_kinds shape.now) (dx_tree guard.now) TruthKind }
+{
+    let Some(choice) = chosen(alloc, shape, guard, way.store)? else {
+        found.stops = true;
+        return Ok(());
+    };
+    for weighted in choice.items.as_slice() {
+        let after = leaking(alloc, way, weighted, choice.total)?;
+        if is_true(&weighted.value) {
+            taken.push(after)?;
+        } else {
+            found.ends.push(after)?;
+        }
     }
     Ok(())
 }
@@ -170,18 +228,7 @@ fn guarded(
 {
     let mut taken = Vec::new(alloc);
     for way in ways {
-        let Some(choice) = chosen(alloc, shape, guard, way.store)? else {
-            found.stops = true;
-            continue;
-        };
-        let way = behind(*way, choice.total)?;
-        for weighted in choice.items.as_slice() {
-            if is_true(&weighted.value) {
-                taken.push(way)?;
-            } else {
-                found.ends.push(way)?;
-            }
-        }
+        guarded_one(alloc, shape, guard, way, &mut taken, found)?;
     }
     Ok(taken)
 }
@@ -193,26 +240,27 @@ fn follow(
     shape: &Shape,
     turns: u32,
     statement: &St,
-    way: Way,
+    way: &Way,
     found: &mut Found,
 ) -> Result<(), Fail>
     requires { IsSound (shape_kinds shape.now) (st_tree statement.now) }
 {
     match statement {
-        St::Skip => Ok(found.ends.push(way)?),
+        St::Skip => Ok(found.ends.push(way.copy(alloc)?)?),
         St::Assign { slot, dist } => {
             assigned(alloc, shape, usize::from(*slot), dist, way, found)
         }
         St::Observe(dist) => observed(alloc, shape, dist, way, found),
         St::If { guard, yes, no } => {
             let mut left = nothing(alloc);
-            let taken = guarded(alloc, shape, guard, &[way], &mut left)?;
+            let mut taken = Vec::new(alloc);
+            guarded_one(alloc, shape, guard, way, &mut taken, &mut left)?;
             found.stops = found.stops || left.stops;
             for way in taken.as_slice() {
-                follow_all(alloc, shape, turns, yes.as_slice(), *way, found)?;
+                follow_all(alloc, shape, turns, yes.as_slice(), way, found)?;
             }
             for way in left.ends.as_slice() {
-                follow_all(alloc, shape, turns, no.as_slice(), *way, found)?;
+                follow_all(alloc, shape, turns, no.as_slice(), way, found)?;
             }
             Ok(())
         }
@@ -230,17 +278,17 @@ fn follow_turns(
     turns: u32,
     guard: &Dx,
     body: &[St],
-    way: Way,
+    way: &Way,
     found: &mut Found,
 ) -> Result<(), Fail>
     requires guard { DistKinded (shape_kinds shape.now) (dx_tree guard.now) TruthKind }
     requires body { AreSound (shape_kinds shape.now) (map st_tree body.now) }
 {
-    let mut ways = vec![in alloc; way]?;
+    let mut ways = vec![in alloc; way.copy(alloc)?]?;
     for _turn in 0..turns {
         let mut next = nothing(alloc);
         for way in guarded(alloc, shape, guard, &ways, found)?.as_slice() {
-            follow_all(alloc, shape, turns, body, *way, &mut next)?;
+            follow_all(alloc, shape, turns, body, way, &mut next)?;
         }
         found.stops = found.stops || next.stops;
         ways = next.ends;
@@ -257,21 +305,21 @@ fn follow_all(
     shape: &Shape,
     turns: u32,
     statements: &[St],
-    way: Way,
+    way: &Way,
     found: &mut Found,
 ) -> Result<(), Fail>
     requires { AreSound (shape_kinds shape.now) (map st_tree statements.now) }
 {
-    let mut ways = vec![in alloc; way]?;
+    let mut ways = vec![in alloc; way.copy(alloc)?]?;
     for statement in statements {
         let mut next = nothing(alloc);
         for way in ways.as_slice() {
-            follow(alloc, shape, turns, statement, *way, &mut next)?;
+            follow(alloc, shape, turns, statement, way, &mut next)?;
         }
         found.stops = found.stops || next.stops;
         ways = next.ends;
     }
-    found.ends.extend_from_slice(&ways)?;
+    found.ends.append(&mut ways)?;
     Ok(())
 }
 
@@ -281,12 +329,17 @@ fn declared(alloc: Global, program: &Program) -> Result<Found, Fail>
 {
     let shape = &program.shape;
     let mut found = nothing(alloc);
-    found.ends.push(Way { store: 0, scale: 1 })?;
+    found.ends.push(Way {
+        store: 0,
+        scale: 1,
+        weight: 1,
+        trace: Vec::new(alloc),
+    })?;
     for (slot, dist) in program.decls.as_slice().iter().enumerate() {
         let mut next = nothing(alloc);
         next.stops = found.stops;
         for way in found.ends.as_slice() {
-            assigned(alloc, shape, slot, dist, *way, &mut next)?;
+            assigned(alloc, shape, slot, dist, way, &mut next)?;
         }
         found = next;
     }
@@ -315,7 +368,7 @@ fn copied(alloc: Global, program: &Program, from: Found) -> Result<Found, Fail> 
         let mut next = nothing(alloc);
         next.stops = found.stops;
         for way in found.ends.as_slice() {
-            assigned(alloc, &program.shape, declared + j, &value, *way, &mut next)?;
+            assigned(alloc, &program.shape, declared + j, &value, way, &mut next)?;
         }
         found = next;
     }
@@ -323,7 +376,7 @@ fn copied(alloc: Global, program: &Program, from: Found) -> Result<Found, Fail> 
 }
 
 // All ways of a program, where each loop has at most so many turns.
-fn ways_of(alloc: Global, program: &Program, turns: u32) -> Result<Found, Fail>
+pub(super) fn ways_of(alloc: Global, program: &Program, turns: u32) -> Result<Found, Fail>
     requires { IsChecked (program_tree program.now) }
 {
     let starts = copied(alloc, program, declared(alloc, program)?)?;
@@ -335,7 +388,7 @@ fn ways_of(alloc: Global, program: &Program, turns: u32) -> Result<Found, Fail>
             &program.shape,
             turns,
             program.body.as_slice(),
-            *way,
+            way,
             &mut found,
         )?;
     }
@@ -361,23 +414,37 @@ fn lcm_with(one: u128, other: u128) -> Result<u128, Fail> {
     }
 }
 
-// The scale by which a program is cleared, or none where it has a fault.
-fn cleared_scale(alloc: Global, program: Program, turns: u32) -> Result<Option<u128>, Fail>
+// The program as it is cleared, or none where it has a fault.
+pub(super) fn cleared_program(
+    alloc: Global,
+    program: Program,
+    turns: u32,
+) -> Result<Option<Cleared>, Fail>
     requires { IsChecked (program_tree program) }
 {
     if turns < 1 || turns > 65535 {
         return Err(Fail::new("there are too few or too many turns"));
     }
     match clear(alloc, program, turns) {
-        Ok(cleared) => Ok(Some(cleared.scale())),
+        Ok(cleared) => Ok(Some(cleared)),
         Err(Halt::Fault { .. }) => Ok(None),
         Err(Halt::Scale) => Err(Fail::new("the scale is too large")),
         Err(Halt::Mem) => Err(Fail::new("want of memory")),
     }
 }
 
+// The scale by which a program is cleared, or none where it has a fault.
+fn cleared_scale(alloc: Global, program: Program, turns: u32) -> Result<Option<u128>, Fail>
+    requires { IsChecked (program_tree program) }
+{
+    match cleared_program(alloc, program, turns)? {
+        Some(cleared) => Ok(Some(cleared.scale())),
+        None => Ok(None),
+    }
+}
+
 // The program of a text that isn't too long.
-fn short_program(alloc: Global, text: &str) -> Result<Program, Fail>
+pub(super) fn short_program(alloc: Global, text: &str) -> Result<Program, Fail>
     ensures { IfOk result (λ p. IsChecked (program_tree p)) }
 {
     if text.len() > 1000 {
@@ -397,7 +464,7 @@ fn plain_scale(alloc: Global, text: &str, turns: u32) -> Result<Option<u128>, Fa
 }
 
 // How many turns a loop may have, and a text.
-fn distributions() -> [(u32, &'static str); 9] {
+pub(super) fn distributions() -> [(u32, &'static str); 9] {
     [
         (
             1,
@@ -435,7 +502,7 @@ fn distributions() -> [(u32, &'static str); 9] {
     ]
 }
 
-fn branches() -> [(u32, &'static str); 5] {
+pub(super) fn branches() -> [(u32, &'static str); 5] {
     [
         (
             1,
@@ -460,7 +527,7 @@ fn branches() -> [(u32, &'static str); 5] {
     ]
 }
 
-fn loops() -> [(u32, &'static str); 6] {
+pub(super) fn loops() -> [(u32, &'static str); 6] {
     [
         (
             3,

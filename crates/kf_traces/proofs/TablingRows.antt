@@ -20,8 +20,8 @@ use Rattle.kf_core.specs.Runs.{program_runs}
 use Rattle.kf_core.specs.Scale.{scale_of}
 use Rattle.kf_core.specs.Support.{program_pass}
 use Rattle.kf_hyper.specs.Columns.{IsBelow, IsColumn, weight_at, total}
-use Rattle.kf_hyper.specs.Traces.{Row, IsTable}
-use Rattle.kf_traces.specs.Laws.{sum_of, trace_order, target_weight, TracesJoin, TracesTell, AreTraces}
+use Rattle.kf_hyper.specs.Traces.{Row, IsTable, trace_order}
+use Rattle.kf_traces.specs.Laws.{sum_of, target_weight, TracesJoin, TracesTell, AreTraces}
 use Rattle.kf_traces.specs.Rows.{AreRowsOf}
 use Rattle.kf_traces.specs.Traced.{Weights, Traced, program_traced}
 use Rattle.kf_traces.specs.Views.{Fits, AllFit}

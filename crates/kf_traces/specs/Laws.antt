@@ -3,8 +3,7 @@ use Rattle.std.specs.Prelude.{◌≡◌, ℕ, ◌*◌, ◌/◌, ◌<◌, ◌≤�
 use Rattle.std.specs.List.{All}
 use Rattle.std.specs.List.Sorted.{IsStrictlySortedBy}
 use Rattle.std.specs.Cmp.Lexicographic.{pointwise}
-use Rattle.std.specs.declared.cmp.Ordering.{Ordering}
-use Rattle.kf_value.specs.Values.{ValueTree, order, lexicographic}
+use Rattle.kf_value.specs.Values.{ValueTree}
 use Rattle.kf_ops.specs.Values.{is_equal}
 use Rattle.kf_core.specs.Checked.{IsChecked}
 use Rattle.kf_core.specs.Programs.{ProgramTree}
@@ -12,11 +11,8 @@ use Rattle.kf_core.specs.Runs.{Run, Halted, program_runs}
 use Rattle.kf_core.specs.Support.{program_pass}
 use Rattle.kf_core.specs.Scale.{scale_of}
 use Rattle.kf_core.specs.Joint.{target_number, joint_of, weight_of}
+use Rattle.kf_hyper.specs.Traces.{trace_order}
 use Rattle.kf_traces.specs.Traced.{Weights, Traced, program_traced}
-
--- the order of traces
-abbrev pub trace_order : List ValueTree → List ValueTree → Ordering
-trace_order t u = lexicographic (map order t) u
 
 -- all weight that these stores have
 abbrev pub sum_of : Weights → ℕ

@@ -1,4 +1,4 @@
--- What the grammar sees to: operators have as many arguments as they take, and lists that may not be short are not.
+-- For bodies: what the grammar sees to: operators have as many arguments as they take, and lists that may not be short are not.
 use Rattle.std.specs.Prelude.{ℕ, suc, ◌≤◌, List, [], ◌∷◌, length}
 use Rattle.kf_ast.specs.TypeForms.{TypeForm, TypeShape, TypeForms, type_at, Boolean, Range, TupleOf, no_types, more_types}
 use Rattle.kf_ast.specs.TypeForms as form

@@ -1,9 +1,6 @@
--- Expressions, each node with its place, as plain trees.
+-- Believed: expressions, each node with its place.
 use Rattle.std.specs.Prelude.{ℕ, Bool, List, [], ◌∷◌}
-use Rattle.kf_ast.specs.declared.expr.Expr.{Expr, fold-Expr, Expr-F}
-use Rattle.kf_ast.specs.declared.expr.ExprNode.{ExprNode-F}
-use Rattle.kf_ast.specs.declared.expr.ExprList.{ExprList, ExprList-F, out-ExprList}
-use Rattle.kf_ast.specs.Names.{NameTree, name_tree}
+use Rattle.kf_ast.specs.Names.{NameTree}
 
 mutual
   -- a place and what stands there
@@ -26,28 +23,6 @@ mutual
 abbrev pub exprs : List ExprTree → ExprTrees
 exprs [] = no_exprs
 exprs (x ∷ xs) = more_exprs x (exprs xs)
-
--- an expression of the program as a tree
-abbrev pub node_step : ExprNode-F ExprShape ExprTree (List ExprTree) → ExprShape
-node_step (ExprNode-F.Number n) = Number n
-node_step (ExprNode-F.Truth b) = Truth b
-node_step (ExprNode-F.Name n) = Name (name_tree n)
-node_step (ExprNode-F.Apply row xs) = Apply row (exprs xs)
-node_step (ExprNode-F.Tuple xs) = Tuple (exprs xs)
-node_step (ExprNode-F.SetOf xs) = SetOf (exprs xs)
-node_step (ExprNode-F.Part x k) = Part x.value k
-
-abbrev pub expr_step : Expr-F ExprShape ExprTree (List ExprTree) → ExprTree
-expr_step x = expr_at x.at x.node
-
-abbrev pub list_step : ExprList-F ExprShape ExprTree (List ExprTree) → List ExprTree
-list_step l = l.items.items
-
-abbrev pub expr_tree : Expr → ExprTree
-expr_tree = fold-Expr ExprShape ExprTree (List ExprTree) node_step expr_step list_step
-
-abbrev pub expr_items : ExprList → List Expr
-expr_items l = (out-ExprList l).items.items
 
 abbrev pub place : ExprTree → ℕ
 place (expr_at at shape) = at

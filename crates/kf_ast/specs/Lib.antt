@@ -1,7 +1,10 @@
-pub mod Built
-pub mod Dists
-pub mod Exprs
+-- Believed
 pub mod Names
-pub mod Sources
-pub mod Stmts
 pub mod TypeForms
+pub mod Exprs
+pub mod Dists
+pub mod Stmts
+pub mod Sources
+-- For bodies
+pub mod Views
+pub mod Built

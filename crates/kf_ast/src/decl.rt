@@ -1,5 +1,5 @@
 ghost use Rattle.std.specs.Prelude.{◌≡◌};
-ghost use Rattle.kf_ast.specs.Sources.{decl_items, target_items};
+ghost use Rattle.kf_ast.specs.Views.{decl_items, target_items};
 
 use crate::{Dist, StmtList, TyTree};
 use kf_value::Name;

@@ -1,5 +1,5 @@
 ghost use Rattle.std.specs.Prelude.{◌≡◌};
-ghost use Rattle.kf_ast.specs.Dists.{case_items};
+ghost use Rattle.kf_ast.specs.Views.{case_items};
 
 use crate::Expr;
 

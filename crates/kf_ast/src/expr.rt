@@ -1,5 +1,5 @@
 ghost use Rattle.std.specs.Prelude.{◌≡◌};
-ghost use Rattle.kf_ast.specs.Exprs.{expr_items};
+ghost use Rattle.kf_ast.specs.Views.{expr_items};
 
 use crate::Ident;
 

@@ -1,5 +1,5 @@
 ghost use Rattle.std.specs.Prelude.{◌≡◌};
-ghost use Rattle.kf_ast.specs.Stmts.{stmt_items};
+ghost use Rattle.kf_ast.specs.Views.{stmt_items};
 
 use crate::{Dist, Ident};
 

@@ -1,5 +1,5 @@
 ghost use Rattle.std.specs.Prelude.{◌≡◌};
-ghost use Rattle.kf_ast.specs.TypeForms.{ty_items};
+ghost use Rattle.kf_ast.specs.Views.{ty_items};
 
 /// A type as it is written.
 #[cycle(ty)]

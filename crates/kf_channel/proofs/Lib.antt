@@ -1,4 +1,5 @@
 mod Cells
+mod Listing
 mod Noisy
 mod Parts
 mod Secrets

@@ -5,12 +5,12 @@ use Rattle.std.proofs.lemmas.List.Sums.{sum_by-cons}
 use Rattle.std.proofs.lemmas.List.Elements.{All-head, All-tail}
 use Prim.Native.Nat.{◌∣◌}
 use Rattle.kf_frac.specs.Divisors.{gcd_of}
-use Rattle.kf_frac.specs.Fractions.{reduced_num, reduced_den}
+use Rattle.kf_frac.specs.Fractions.{reduced_num, reduced_den, parts_of}
 use Rattle.kf_frac.proofs.CommonDivisors.{gcd_is}
 use Rattle.kf_frac.proofs.LowestTerms.{reduced_num_abs, reduced_den_times}
 use Rattle.kf_hyper.specs.Columns.{weight_at}
 use Rattle.kf_hyper.specs.Traces.{Row, value_weight}
-use Rattle.kf_channel.specs.Channels.{parts_of, RowsSumToOne}
+use Rattle.kf_channel.specs.Laws.{RowsSumToOne}
 
 cross : (d g a q : ℕ) → (d * g) * (a * q) ≡ (q * d) * (a * g)
 cross d g a q =
@@ -19,7 +19,7 @@ cross d g a q =
 
 module _ (whole n : ℕ) where
   -- so many n-ths, as often as the whole is, are the part, n times
-  each : (part : ℕ) → reduced_den (pos part) whole ∣ n → whole * parts_of n (record { part = part; whole = whole }) ≡ n * part
+  each : (part : ℕ) → reduced_den (pos part) whole ∣ n → whole * parts_of n part whole ≡ n * part
   each part divides =
       let g : ℕ = gcd_of part whole in
       let a : ℕ = unsigned_abs (reduced_num (pos part) whole) in
@@ -31,7 +31,7 @@ module _ (whole n : ℕ) where
 
   module _ (x : ℕ) where
     abbrev parts : Row → ℕ
-    parts r = parts_of n (record { part = weight_at r.column x; whole = whole })
+    parts r = parts_of n (weight_at r.column x) whole
 
     summed : (rows : List Row) → All (λ r. reduced_den (pos (weight_at r.column x)) whole ∣ n) rows → whole * sum_by parts rows ≡ n * value_weight rows x
     summed [] all = mul-zero whole ∙ sym (mul-zero n)

@@ -1,2 +1,6 @@
+-- Believed
 pub mod Channels
+-- For bodies
+pub mod Laws
+pub mod Shapes
 pub mod Views

@@ -1,8 +1,9 @@
 ghost use Rattle.std.specs.Prelude.{map};
 ghost use Rattle.std.proofs.Props.{props};
-ghost use Rattle.kf_value.specs.Targets.{target_size, item_of};
-ghost use Rattle.kf_hyper.specs.Traces.{row_of};
-ghost use Rattle.kf_channel.specs.Channels.{IsChannel};
+ghost use Rattle.kf_value.specs.Numbers.{target_size};
+ghost use Rattle.kf_value.specs.TypeViews.{item_of};
+ghost use Rattle.kf_hyper.specs.Tables.{table_row};
+ghost use Rattle.kf_channel.specs.Shapes.{IsChannel};
 
 use kf_hyper::{Column, TraceRowList};
 use kf_value::Target;
@@ -18,7 +19,7 @@ pub struct Channel {
     secrets: Column,
     // each trace with the weights of the secrets that show it
     rows: TraceRowList,
-    pub ghost channel: { IsChannel (target_size (map item_of target.items)) (map row_of rows) secrets } by { Prim.hlevel props },
+    pub ghost channel: { IsChannel (target_size (map item_of target.items)) (map table_row rows) secrets } by { Prim.hlevel props },
 }
 
 mod making;

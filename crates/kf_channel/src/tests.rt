@@ -1,10 +1,10 @@
 // A channel worked out by hand.
 ghost use Rattle.std.specs.Prelude.{◌≡◌, ◌∷◌, [], IfOk};
-ghost use Rattle.kf_value.specs.Targets.{target_size};
+ghost use Rattle.kf_value.specs.Numbers.{target_size};
 ghost use Rattle.kf_value.specs.Values.{Whole};
 ghost use Rattle.kf_value.specs.Views.{items_of};
 ghost use Rattle.kf_hyper.specs.Columns.{IsColumn};
-ghost use Rattle.kf_hyper.specs.Traces.{row_of};
+ghost use Rattle.kf_hyper.specs.Tables.{table_row};
 
 use super::*;
 use kf_hyper::{Column, Entry, EntryList, TraceRow, TraceRowList, TraceTable};
@@ -35,7 +35,7 @@ fn entry(value: u64, weight: u128) -> Entry
 // The trace of one number, with the weights behind it.
 fn row(alloc: Global, shown: i64, entries: &[Entry]) -> Result<TraceRow, Mem>
     requires { IsColumn entries.now }
-    ensures { IfOk result (λ r. row_of r ≡ record { trace = Whole shown ∷ []; column = entries.now }) }
+    ensures { IfOk result (λ r. table_row r ≡ record { trace = Whole shown ∷ []; column = entries.now }) }
 {
     let trace = ValueList::new(vec![in alloc; Value::Int(shown)]?);
     let column = Column::new(EntryList::new(entries.to_vec(alloc)?));

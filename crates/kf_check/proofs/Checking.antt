@@ -8,33 +8,24 @@ use Rattle.kf_value.specs.Types.{TypeTree, Boolean}
 use Rattle.kf_value.specs.Targets.{Item}
 use Rattle.kf_ops.specs.Fitting.{Takes}
 use Rattle.kf_ast.specs.Names.{name}
-use Rattle.kf_ast.specs.TypeForms.{TypeForm}
-use Rattle.kf_ast.specs.Dists.{DistTree}
 use Rattle.kf_ast.specs.Stmts.{StmtTree, stmts}
 use Rattle.kf_ast.specs.Sources.{DeclTree, declared, ItemTree, source}
 use Rattle.kf_ast.specs.Built.{AreDeclsBuilt, AreStmtsBuilt, AreListedBuilt}
 use Rattle.kf_core.specs.Dxs.{DxTree}
-use Rattle.kf_core.specs.Sts.{StTree, sts, sts_list}
+use Rattle.kf_core.specs.Views.{sts_list}
 use Rattle.kf_core.specs.Programs.{ProgramTree}
-use Rattle.kf_core.specs.Checked.{kind_of, DistKinded, AreSound, declared_kinds, IsReadFrom, IsChecked}
-use Rattle.kf_check.specs.Kinds.{JudgesDist}
+use Rattle.kf_core.specs.Checked.{DistKinded, AreSound, declared_kinds, IsReadFrom, IsChecked}
+use Rattle.kf_value.specs.Kinds.{kind_of}
 use Rattle.kf_check.specs.Statements.{JudgesStmts}
-use Rattle.kf_check.specs.Sources.{Variable, types_of, known_of, JudgesDecl, JudgesDecls, JudgesItems}
-use Rattle.kf_check.specs.Sources as rule
-use Rattle.kf_check.specs.Translation.{IsVariable, AreDecls, AreItems, IsTarget, AreSts, names_of}
-use Rattle.kf_check.specs.Translation as becomes
+use Rattle.kf_check.specs.Sources.{Variable, types_of, known_of, JudgesDecls, JudgesItems}
+use Rattle.kf_check.specs.Translation.{place_of, dx_of, st_of, sts_of, decl_of, AreItems, IsTarget, names_of}
+use Rattle.kf_check.specs.Translation as aims
 use Rattle.kf_check.specs.Laws.{IsWellBuilt}
-use Rattle.kf_check.proofs.Kinding.{names_in, kinds_in, Differ, Agree, agree, asked, dist_kinded, all_sound, slice_get-some}
-use Rattle.kf_check.proofs.Declared.{grown, counted, slice_get-left, slice_get-right, variables_differ, known_differ, names_of_known, kinds_of_known, named_first, types_first}
+use Rattle.kf_check.specs.Variables.{AreCopied}
+use Rattle.kf_check.specs.Picks.{names_in}
+use Rattle.kf_check.proofs.Kinding.{kinds_in, Differ, Agree, agree, place_found, dist_kinded, all_sound, slice_get-some, sts_list-sts, sts_of_all}
+use Rattle.kf_check.proofs.Declared.{grown, counted, good_decl, slice_get-left, slice_get-right, variables_differ, known_differ, names_of_known, kinds_of_known, named_first, types_first}
 use Rattle.kf_check.proofs.SlotsApart.{target_apart, place_is}
-
-pub sts_list-sts : (ys : List StTree) → sts_list (sts ys) ≡ ys
-sts_list-sts [] = refl
-sts_list-sts (y ∷ ys) = ap (λ zs. y ∷ zs) (sts_list-sts ys)
-
--- the types of the copies of these variables
-abbrev pub AreCopied : List Variable → List ℕ → List TypeTree → Type 0
-AreCopied vs copies types = map Some types ≡ map (slice_get (types_of vs)) copies
 
 pub listed_built : (xs : List StmtTree) → AreListedBuilt Takes xs → AreStmtsBuilt Takes (stmts xs)
 listed_built [] b = tt
@@ -44,12 +35,10 @@ listed_built (x ∷ xs) b = (b.0, listed_built xs b.1)
 
 -- where variables are the first of others, a name of them stands for the same in both
 agree_first : (vs more : List Variable) → Differ (names_of (vs ++ more)) → Agree (known_of vs) (names_of (vs ++ more)) (map kind_of (types_of vs))
-agree_first vs more apart n i j k h v =
-    let same : i ≡ j = apart n i j (named_first vs more n i k h) v in
-    subst (λ ks. slice_get ks j ≡ Some k) (kinds_of_known vs) (subst (λ m. slice_get (kinds_in (known_of vs)) m ≡ Some k) same (slice_get-some (λ v. v.kind) (known_of vs) i (record { name = n; kind = k }) h))
-
-pub decl_dist : {vs : List Variable} {n : List ℕ} {at : ℕ} {y : TypeForm} {d : DistTree} (v : Variable) → JudgesDecl vs (declared (name n at) y d) (Ok v) → JudgesDist (known_of vs) d (Ok (kind_of v.type))
-decl_dist v (rule.decl at t u y few low asks) = asked (kind_of t) (Ok (kind_of t)) asks refl
+agree_first vs more apart n i k h =
+    let same = place_found (names_of (vs ++ more)) apart n i (named_first vs more n i k h) in
+    subst (λ ks. slice_get ks (place_of (names_of (vs ++ more)) n) ≡ Some k) (kinds_of_known vs)
+    (subst (λ m. slice_get (kinds_in (known_of vs)) m ≡ Some k) (sym same) (slice_get-some (λ v. v.kind) (known_of vs) i (record { name = n; kind = k }) h))
 
 module _ (names : List (List ℕ)) (apart : Differ names) where
   first_kinded : (vs ws more : List Variable) (v : Variable) (e e' : DxTree) (t : TypeTree) → names ≡ names_of ws → ws ≡ vs ++ v ∷ more → Some e' ≡ Some e → slice_get (types_of ws) (length vs + 0) ≡ Some t
@@ -65,20 +54,17 @@ module _ (names : List (List ℕ)) (apart : Differ names) where
       let first : take (length vs + 0) (types_of ws) ≡ types_of vs = ap (λ n. take n (types_of ws)) none ∙ ap (λ us. take (length vs) (types_of us)) whole ∙ ap (λ ts. take (length vs) ts) (map-append (λ v. v.type) vs (v ∷ more)) ∙ types_first vs (types_of (v ∷ more)) in
       subst (λ ts. DistKinded (map kind_of ts) e (kind_of t)) (sym first) (subst (λ u. DistKinded (map kind_of (types_of vs)) e (kind_of u)) type (subst (λ f. DistKinded (map kind_of (types_of vs)) f (kind_of v.type)) dist (kinded alike)))
 
-  decls_kinded : {vs ws : List Variable} {ds : List DeclTree} {es : List DxTree} → JudgesDecls vs ds (Ok ws) → names ≡ names_of ws → AreDeclsBuilt Takes ds → AreDecls names ds es
-      → (i : ℕ) (e : DxTree) (t : TypeTree) → slice_get es i ≡ Some e → slice_get (types_of ws) (length vs + i) ≡ Some t → DistKinded (map kind_of (take (length vs + i) (types_of ws))) e (kind_of t)
-  decls_kinded rule.none same b becomes.none i e t h g = absurd (cc)
-  decls_kinded {vs} {ws} (rule.more v j js) same b (becomes.more n at {e = e'} d es) zero e t h g =
-      let rest = grown js in
-      first_kinded vs ws rest.0 v e e' t same (rest.1 ∙ append_assoc vs (v ∷ []) rest.0) h g (λ alike. dist_kinded (known_of vs) names (map kind_of (types_of vs)) alike (decl_dist v j) b.1 d)
-  decls_kinded {vs} {ws} (rule.more v j js) same b (becomes.more n at d es) (suc i) e t h g =
-      let longer : length (vs ++ v ∷ []) ≡ length vs + 1 = length-append vs (v ∷ []) in
-      let shift : length (vs ++ v ∷ []) + i ≡ length vs + suc i = omega arith in
-      subst (λ m. DistKinded (map kind_of (take m (types_of ws))) e (kind_of t)) shift (decls_kinded js same b.2 es i e t h (ap (slice_get (types_of ws)) shift ∙ g))
-
-decls_length : {names : List (List ℕ)} {ds : List DeclTree} {es : List DxTree} → AreDecls names ds es → length es ≡ length ds
-decls_length becomes.none = refl
-decls_length (becomes.more n at d es) = let rest = decls_length es in omega arith
+  decls_kinded : (vs ws : List Variable) (ds : List DeclTree) → JudgesDecls vs ds (Ok ws) → names ≡ names_of ws → AreDeclsBuilt Takes ds
+      → (i : ℕ) (e : DxTree) (t : TypeTree) → slice_get (map (decl_of names) ds) i ≡ Some e → slice_get (types_of ws) (length vs + i) ≡ Some t → DistKinded (map kind_of (take (length vs + i) (types_of ws))) e (kind_of t)
+  decls_kinded vs ws [] js same b i e t h g = absurd (cc)
+  decls_kinded vs ws (declared (name n at) y d ∷ ds) js same b zero e t h g =
+      let rest = grown (vs ++ js.0 ∷ []) ws ds js.2 in
+      first_kinded vs ws rest.0 js.0 e (dx_of names d) t same (rest.1 ∙ append_assoc vs (js.0 ∷ []) rest.0) h g
+      (λ alike. dist_kinded (known_of vs) names (map kind_of (types_of vs)) alike d (kind_of (js.0).type) (good_decl vs n at y d js.0 js.1).drawn b.1)
+  decls_kinded vs ws (declared (name n at) y d ∷ ds) js same b (suc i) e t h g =
+      let longer : length (vs ++ js.0 ∷ []) ≡ length vs + 1 = length-append vs (js.0 ∷ []) in
+      let shift : length (vs ++ js.0 ∷ []) + i ≡ length vs + suc i = omega arith in
+      subst (λ m. DistKinded (map kind_of (take m (types_of ws))) e (kind_of t)) shift (decls_kinded (vs ++ js.0 ∷ []) ws ds js.2 same b.2 i e t h (ap (slice_get (types_of ws)) shift ∙ g))
 
 -- ---- targets
 
@@ -88,9 +74,9 @@ map_at f (x ∷ xs) zero y h = (x, refl, (cc))
 map_at f (x ∷ xs) (suc i) y h = map_at f xs i y h
 
 items_length : {vs : List Variable} {copies : ℕ} {items : List ItemTree} {cs : List ℕ} {is : List Item} {slots : List ℕ} → AreItems vs copies items cs is slots → length is ≡ length slots
-items_length becomes.none = refl
-items_length (becomes.final at i h rest) = let ih = items_length rest in omega arith
-items_length (becomes.initial at i h rest) = let ih = items_length rest in omega arith
+items_length aims.none = refl
+items_length (aims.final at i h rest) = let ih = items_length rest in omega arith
+items_length (aims.initial at i h rest) = let ih = items_length rest in omega arith
 
 module _ (vs : List Variable) (p : ProgramTree) (some : length p.decls ≡ length vs) (first : (i : ℕ) (v : Variable) → slice_get vs i ≡ Some v → slice_get p.types i ≡ Some v.type) where
   final_read : (i : ℕ) (v : Variable) → slice_get vs i ≡ Some v → IsReadFrom p (record { initial = false; name = v.name; ty = v.type }) i
@@ -111,24 +97,24 @@ module _ (vs : List Variable) (p : ProgramTree) (some : length p.decls ≡ lengt
   items_read : {copies : ℕ} {items : List ItemTree} {cs : List ℕ} {is : List Item} {slots : List ℕ} → AreItems vs copies items cs is slots
       → ((m c : ℕ) → slice_get cs m ≡ Some c → slice_get p.types (length vs + (copies + m)) ≡ slice_get p.types c)
       → (j slot : ℕ) (item : Item) → slice_get is j ≡ Some item → slice_get slots j ≡ Some slot → IsReadFrom p item slot
-  items_read becomes.none later j slot item h g = absurd (cc)
-  items_read (becomes.final at i {n} {t} found rest) later zero slot item h g = found_read _ item i slot (final_read i (record { name = n; type = t }) found) h g
-  items_read (becomes.final at i found rest) later (suc j) slot item h g = items_read rest later j slot item h g
-  items_read {copies} (becomes.initial at i {n} {t} found rest) later zero slot item h g = found_read _ item (length vs + copies) slot (initial_read copies i (record { name = n; type = t }) found (later 0 i refl)) h g
-  items_read {copies} (becomes.initial at i found rest) later (suc j) slot item h g =
+  items_read aims.none later j slot item h g = absurd (cc)
+  items_read (aims.final at i {n} {t} found rest) later zero slot item h g = found_read _ item i slot (final_read i (record { name = n; type = t }) found) h g
+  items_read (aims.final at i found rest) later (suc j) slot item h g = items_read rest later j slot item h g
+  items_read {copies} (aims.initial at i {n} {t} found rest) later zero slot item h g = found_read _ item (length vs + copies) slot (initial_read copies i (record { name = n; type = t }) found (later 0 i refl)) h g
+  items_read {copies} (aims.initial at i found rest) later (suc j) slot item h g =
       items_read rest (λ m c e. (let shift : length vs + ((copies + 1) + m) ≡ length vs + (copies + suc m) = omega arith in ap (slice_get p.types) shift) ∙ later (suc m) c e) j slot item h g
 
   target_read : {items : List ItemTree} {cs : List ℕ} {is : List Item} {slots : List ℕ} → IsTarget vs items cs is slots
       → ((m c : ℕ) → slice_get cs m ≡ Some c → slice_get p.types (length vs + m) ≡ slice_get p.types c)
       → (j slot : ℕ) (item : Item) → slice_get is j ≡ Some item → slice_get slots j ≡ Some slot → IsReadFrom p item slot
-  target_read becomes.all later j slot item h g =
+  target_read aims.all later j slot item h g =
       let ours = map_at (λ v. record { initial = false; name = v.name; ty = v.type }) vs j item h in
       found_read _ item j slot (final_read j ours.0 ours.1) (ap Some ours.2) (ap Some (place_is (length vs) j slot g))
-  target_read (becomes.about are) later j slot item h g = items_read are (λ m c e. (let shift : length vs + (0 + m) ≡ length vs + m = omega arith in ap (slice_get p.types) shift) ∙ later m c e) j slot item h g
+  target_read (aims.about are) later j slot item h g = items_read are (λ m c e. (let shift : length vs + (0 + m) ≡ length vs + m = omega arith in ap (slice_get p.types) shift) ∙ later m c e) j slot item h g
 
 target_length : {vs : List Variable} {items : List ItemTree} {cs : List ℕ} {is : List Item} {slots : List ℕ} → IsTarget vs items cs is slots → length is ≡ length slots
-target_length {vs} becomes.all = length-map vs (λ v. record { initial = false; name = v.name; ty = v.type }) ∙ sym (length-range_with_len 0 (length vs))
-target_length (becomes.about are) = items_length are
+target_length {vs} aims.all = length-map vs (λ v. record { initial = false; name = v.name; ty = v.type }) ∙ sym (length-range_with_len 0 (length vs))
+target_length (aims.about are) = items_length are
 
 -- ---- carried copies
 
@@ -192,35 +178,37 @@ module _ (vs : List Variable) (types : List TypeTree) (p : ProgramTree) (as_many
       omega arith
 
   module _ (ds : List DeclTree) (js : JudgesDecls [] ds (Ok vs)) where
-    dists_kinded : AreDeclsBuilt Takes ds → AreDecls (names_of vs) ds p.decls → (i : ℕ) (d : DxTree) (t : TypeTree) → slice_get p.decls i ≡ Some d → slice_get p.types i ≡ Some t → DistKinded (map kind_of (take i p.types)) d (kind_of t)
+    dists_kinded : AreDeclsBuilt Takes ds → p.decls ≡ map (decl_of (names_of vs)) ds → (i : ℕ) (d : DxTree) (t : TypeTree) → slice_get p.decls i ≡ Some d → slice_get p.types i ≡ Some t → DistKinded (map kind_of (take i p.types)) d (kind_of t)
     dists_kinded built decls i d t h g =
         let within : i < length vs = subst (λ n. i < n) as_many (slice_get_within p.decls i d h) in
         let zeroth : 0 + i ≡ i = omega arith in
-        let ours : DistKinded (map kind_of (take (0 + i) (types_of vs))) d (kind_of t) = decls_kinded (names_of vs) (variables_differ js) js refl built decls i d t h (ap (slice_get (types_of vs)) zeroth ∙ sym (inside i within) ∙ g) in
+        let ours : DistKinded (map kind_of (take (0 + i) (types_of vs))) d (kind_of t) =
+        decls_kinded (names_of vs) (variables_differ vs ds js) [] vs ds js refl built i d t (ap (λ es. slice_get es i) (sym decls) ∙ h) (ap (slice_get (types_of vs)) zeroth ∙ sym (inside i within) ∙ g) in
         subst (λ ts. DistKinded (map kind_of ts) d (kind_of t)) (ap (λ n. take n (types_of vs)) zeroth ∙ sym (taken i within)) ours
 
-    body_sound : (xs : List StmtTree) → AreListedBuilt Takes xs → JudgesStmts (known_of vs) (stmts xs) None → AreSts (names_of vs) (stmts xs) (sts p.body) → AreSound (declared_kinds p) p.body
+    body_sound : (xs : List StmtTree) → AreListedBuilt Takes xs → JudgesStmts (known_of vs) (stmts xs) (Ok tt) → p.body ≡ map (st_of (names_of vs)) xs → AreSound (declared_kinds p) p.body
     body_sound xs built ss body =
-        let alike : Agree (known_of vs) (names_in (known_of vs)) (kinds_in (known_of vs)) = agree (known_of vs) (known_differ vs (variables_differ js)) in
+        let alike : Agree (known_of vs) (names_in (known_of vs)) (kinds_in (known_of vs)) = agree (known_of vs) (known_differ vs (variables_differ vs ds js)) in
         let ours : Agree (known_of vs) (names_of vs) (declared_kinds p) =
         subst (λ ts. Agree (known_of vs) (names_of vs) (map kind_of ts)) (sym all_types)
         (subst (λ ks. Agree (known_of vs) (names_of vs) ks) (kinds_of_known vs) (subst (λ ns. Agree (known_of vs) ns (kinds_in (known_of vs))) (names_of_known vs) alike)) in
-        subst (λ ys. AreSound (declared_kinds p) ys) (sts_list-sts p.body) (all_sound (known_of vs) (names_of vs) (declared_kinds p) ours ss (listed_built xs built) body)
-
--- as many distributions as variables
-pub decls_many : {names : List (List ℕ)} {vs : List Variable} {ds : List DeclTree} {es : List DxTree} → JudgesDecls [] ds (Ok vs) → AreDecls names ds es → length es ≡ length vs
-decls_many js are = let a = decls_length are in let b = counted js in omega arith
+        let whole : sts_list (sts_of (names_of vs) (stmts xs)) ≡ p.body = sym (ap sts_list (sts_of_all (names_of vs) xs)) ∙ sts_list-sts (map (st_of (names_of vs)) xs) ∙ sym body in
+        subst (λ ys. AreSound (declared_kinds p) ys) whole (all_sound (known_of vs) (names_of vs) (declared_kinds p) ours (stmts xs) tt ss (listed_built xs built))
 
 -- the program of a source whose declarations, target and statements break no rule is checked
 pub checked : (ds : List DeclTree) (items : List ItemTree) (xs : List StmtTree) (vs : List Variable) (types : List TypeTree) (p : ProgramTree) → IsWellBuilt (source ds items xs)
-    → JudgesDecls [] ds (Ok vs) → JudgesItems vs [] (types_of vs) items None → JudgesStmts (known_of vs) (stmts xs) None → p.types ≡ types_of vs ++ types → AreCopied vs p.copies types
-    → AreDecls (names_of vs) ds p.decls → IsTarget vs items p.copies p.target p.target_slots → AreSts (names_of vs) (stmts xs) (sts p.body) → IsChecked p
-checked ds items xs vs types p built js ls ss whole copied decls target body = let many = decls_many js decls in record {
-  counted = all_counted vs types p many whole copied;
-  declared = dists_kinded vs types p many whole copied ds js built.0 decls;
-  copied = copied_from vs types p many whole copied;
-  sound = body_sound vs types p many whole copied ds js xs built.1 ss body;
-  targeted = target_length target;
-  read = target_read vs p many (first_type vs types p many whole copied) target (copy_read vs types p many whole copied);
-  apart = target_apart ls target;
-}
+    → JudgesDecls [] ds (Ok vs) → JudgesItems vs [] (types_of vs) items (Ok p.types) → JudgesStmts (known_of vs) (stmts xs) (Ok tt) → p.types ≡ types_of vs ++ types → AreCopied vs p.copies types
+    → p.decls ≡ map (decl_of (names_of vs)) ds → IsTarget vs items p.copies p.target p.target_slots → p.body ≡ map (st_of (names_of vs)) xs → IsChecked p
+checked ds items xs vs types p built js ls ss whole copied decls target body =
+    let all = counted [] vs ds js in
+    let listed : length p.decls ≡ length ds = ap length decls ∙ length-map ds (decl_of (names_of vs)) in
+    let many : length p.decls ≡ length vs = omega arith in
+    record {
+      counted = all_counted vs types p many whole copied;
+      declared = dists_kinded vs types p many whole copied ds js built.0 decls;
+      copied = copied_from vs types p many whole copied;
+      sound = body_sound vs types p many whole copied ds js xs built.1 ss body;
+      targeted = target_length target;
+      read = target_read vs p many (first_type vs types p many whole copied) target (copy_read vs types p many whole copied);
+      apart = target_apart vs (types_of vs) target p.types ls;
+    }

@@ -3,7 +3,8 @@ use Rattle.std.proofs.Common.{◌≡◌, ℕ, true, List, [], ◌∷◌, ◌++�
 use Rattle.std.specs.List.{All, list_all}
 use Rattle.std.proofs.lemmas.List.Elements.{All-nil, All-cons, All-append}
 use Rattle.std.proofs.lemmas.List.Folds.{list_all-append}
-use Rattle.kf_value.specs.Types.{TypeTree, HasSize, well_formed}
+use Rattle.kf_value.specs.Types.{TypeTree}
+use Rattle.kf_value.specs.Sizes.{HasSize, well_formed}
 use Rattle.kf_check.specs.Sources.{Variable, types_of}
 use Rattle.kf_check.specs.Variables.{AreDeclared, AreCopied}
 use Rattle.kf_check.proofs.DeclFacts.{facts_of}

@@ -1,22 +1,20 @@
 -- A turn of the loop over carried copies.
-use Rattle.std.proofs.Common.{◌≡◌, ℕ, ◌<◌, List, [], ◌∷◌, ◌++◌, map, length, slice_get, get_or, Some, refl, sym, ap, ◌∙◌, append_assoc, append-nil}
+use Rattle.std.proofs.Common.{◌≡◌, ℕ, ◌<◌, List, [], ◌∷◌, ◌++◌, map, length, slice_get, get_or, Some, sym, ap, ◌∙◌, append_assoc}
 use Rattle.std.specs.Option.{option_map}
 use Rattle.std.proofs.lemmas.List.{map-append}
 use Rattle.std.proofs.lemmas.Option.{slice_get-get_or, slice_get-map}
-use Rattle.kf_value.specs.Types.{TypeTree, type_tree}
+use Rattle.kf_value.specs.Types.{TypeTree}
+use Rattle.kf_value.specs.TypeViews.{type_tree}
 use Rattle.kf_value.specs.declared.ty.Ty.{Ty}
 use Rattle.kf_check.specs.declared.variables.Variable as code
 use Rattle.kf_check.specs.Sources.{Variable, types_of}
-use Rattle.kf_check.specs.Variables.{variable_of, AreCopied}
+use Rattle.kf_check.specs.Variables.{variable_of}
 
 -- the types of the copies that are done stand behind those that there were
 pub record CopiedBefore (vs : List Variable) (whole left : List ℕ) (first types : List TypeTree) : Type 0 where
   pub added : List TypeTree
   pub joined : types ≡ first ++ added
   pub done : map Some added ++ map (slice_get (types_of vs)) left ≡ map (slice_get (types_of vs)) whole
-
-pub copied_none : (vs : List Variable) (whole : List ℕ) (first : List TypeTree) → CopiedBefore vs whole whole first first
-copied_none vs whole first = record { added = []; joined = sym (append-nil first); done = refl }
 
 type_at : (ws : List code.Variable) (c : ℕ) (v : code.Variable) → c < length ws → v ≡ get_or ws c v → slice_get (types_of (map variable_of ws)) c ≡ Some (type_tree v.ty)
 type_at ws c v within read =
@@ -32,6 +30,3 @@ copied_more ws whole left first types c before v within read t same =
       done = ap (λ os. os ++ map (slice_get (types_of (map variable_of ws))) left) (map-append Some before.added (type_tree t ∷ []))
           ∙ (append_assoc (map Some before.added) (Some (type_tree t) ∷ []) (map (slice_get (types_of (map variable_of ws))) left) ∙ (ap (λ o. map Some before.added ++ (o ∷ map (slice_get (types_of (map variable_of ws))) left)) here ∙ before.done));
     }
-
-pub copied_all : (vs : List Variable) (whole : List ℕ) (first types : List TypeTree) → CopiedBefore vs whole [] first types → (added : List TypeTree) × (types ≡ first ++ added) × AreCopied vs whole added
-copied_all vs whole first types h = (h.added, h.joined, sym (append-nil (map Some h.added)) ∙ h.done)

@@ -1,17 +1,20 @@
 -- The variables of declarations: their names differ, and earlier ones keep their places.
-use Rattle.std.proofs.Common.{◌≡◌, ℕ, suc, zero, List, [], ◌∷◌, ◌++◌, length, map, take, slice_get, Some, Ok, append-nil, append_assoc, length-append, ◌+◌, refl, sym, ap, ◌∙◌, subst, arith, ◌⊎◌, inl, inr, ⊎_elim}
+use Rattle.std.proofs.Common.{◌≡◌, ℕ, suc, zero, List, [], ◌∷◌, ◌++◌, length, map, take, slice_get, Some, Ok, ◌*◌, ◌^◌, ◌<◌, ◌≤◌, append-nil, append_assoc, length-append, ◌+◌, refl, sym, ap, ◌∙◌, subst, arith, ◌⊎◌, inl, inr, ⊎_elim}
 use Rattle.std.proofs.lemmas.List.{length-map, map-append}
 use Rattle.std.proofs.lemmas.List.Elements.{All-head, All-tail}
 use Rattle.std.proofs.Math.Seq.{take-append_seam}
-use Rattle.kf_value.specs.Kinds.{KindTree}
-use Rattle.kf_value.specs.Types.{TypeTree}
-use Rattle.kf_ast.specs.Sources.{DeclTree}
-use Rattle.kf_core.specs.Checked.{kind_of}
-use Rattle.kf_check.specs.Kinds.{IsKnown, IsUnknown}
-use Rattle.kf_check.specs.Translation.{IsVariable, names_of}
+use Rattle.kf_value.specs.Kinds.{KindTree, kind_of}
+use Rattle.kf_value.specs.Types.{TypeTree, count, product}
+use Rattle.kf_ast.specs.Names.{name}
+use Rattle.kf_ast.specs.TypeForms.{TypeForm}
+use Rattle.kf_ast.specs.Dists.{DistTree}
+use Rattle.kf_ast.specs.Sources.{DeclTree, declared}
+use Rattle.kf_check.specs.Kinds.{IsKnown, IsUnknown, JudgesDist}
+use Rattle.kf_check.specs.Translation.{names_of}
+use Rattle.kf_check.specs.Types.{greatest_size, JudgesType}
 use Rattle.kf_check.specs.Sources.{Variable, types_of, known_of, JudgesDecl, JudgesDecls}
-use Rattle.kf_check.specs.Sources as rule
-use Rattle.kf_check.proofs.Kinding.{names_in, kinds_in, Differ, slice_get-some}
+use Rattle.kf_check.specs.Picks.{names_in}
+use Rattle.kf_check.proofs.Kinding.{IsVariable, kinds_in, Differ, slice_get-some, same_ok, asked}
 
 pub slice_get-push : {A : Type 0} (xs : List A) (x : A) (i : ℕ) (y : A) → slice_get (xs ++ x ∷ []) i ≡ Some y → (slice_get xs i ≡ Some y) ⊎ ((i ≡ length xs) × (x ≡ y))
 slice_get-push [] x zero y h = inr (refl, (cc))
@@ -49,35 +52,50 @@ differ-push names m apart new n i j h g = by (slice_get-push names m i n h) (sli
     by (inr h) (inl g) = absurd (new j (g ∙ ap Some (sym h.1)))
     by (inr h) (inr g) = h.0 ∙ sym g.0
 
-declared_new : {vs : List Variable} {d : DeclTree} (v : Variable) → JudgesDecl vs d (Ok v) → IsUnknown (known_of vs) v.name
-declared_new v (rule.decl at t u y full wide asks) = u
+-- they still differ with a new name more
+pub differ-new : (vs : List Variable) (v : Variable) → IsUnknown (known_of vs) v.name → Differ (names_of vs) → Differ (names_of (vs ++ v ∷ []))
+differ-new vs v new apart = subst Differ (sym (names-push vs v)) (differ-push (names_of vs) v.name apart (unknown_new vs v.name new))
 
-pub differ-grows : {vs : List Variable} {d : DeclTree} (v : Variable) → JudgesDecl vs d (Ok v) → Differ (names_of vs) → Differ (names_of (vs ++ v ∷ []))
-differ-grows {vs} v j apart = subst Differ (sym (names-push vs v)) (differ-push (names_of vs) v.name apart (unknown_new vs v.name (declared_new v j)))
+-- what holds of a declaration that breaks no rule, and of its variable
+pub record GoodDecl (vs : List Variable) (n : List ℕ) (y : TypeForm) (d : DistTree) (v : Variable) : Type 0 where
+  pub named : v.name ≡ n
+  pub new : IsUnknown (known_of vs) v.name
+  pub typed : JudgesType greatest_size y (Ok v.type)
+  pub few : length (types_of vs) < 32
+  pub narrow : product (map count (types_of vs)) * count v.type ≤ 2 ^ 63
+  pub drawn : JudgesDist (known_of vs) d (Ok (kind_of v.type))
 
-differ-declared : {vs ws : List Variable} {ds : List DeclTree} → JudgesDecls vs ds (Ok ws) → Differ (names_of vs) → Differ (names_of ws)
-differ-declared rule.none apart = apart
-differ-declared (rule.more v j js) apart = differ-declared js (differ-grows v j apart)
+pub good_decl : (vs : List Variable) (n : List ℕ) (at : ℕ) (y : TypeForm) (d : DistTree) (v : Variable) → JudgesDecl vs (declared (name n at) y d) (Ok v) → GoodDecl vs n y d v
+good_decl vs n at y d v h =
+    let t = h.2.0 in
+    let room = h.2.2.1 in
+    let is : v ≡ record { name = n; type = t } = same_ok v (record { name = n; type = t }) h.2.2.2.2 in
+    let good : GoodDecl vs n y d (record { name = n; type = t }) = record { named = refl; new = h.1.0; typed = h.2.1; few = room.1.0; narrow = room.2.0; drawn = asked (known_of vs) (kind_of t) h.2.2.2.0 d h.2.2.2.1 } in
+    subst (GoodDecl vs n y d) (sym is) good
+
+pub differ-declared : (vs ws : List Variable) (ds : List DeclTree) → JudgesDecls vs ds (Ok ws) → Differ (names_of vs) → Differ (names_of ws)
+differ-declared vs ws [] h apart = subst (λ us. Differ (names_of us)) (sym (same_ok ws vs h)) apart
+differ-declared vs ws (declared (name n at) y d ∷ ds) h apart = differ-declared (vs ++ h.0 ∷ []) ws ds h.2 (differ-new vs h.0 (good_decl vs n at y d h.0 h.1).new apart)
 
 pub none_differ : Differ (names_of [])
 none_differ n i j h g = (cc)
 
 -- the variables of a source's declarations have different names
-pub variables_differ : {vs : List Variable} {ds : List DeclTree} → JudgesDecls [] ds (Ok vs) → Differ (names_of vs)
-variables_differ js = differ-declared js none_differ
+pub variables_differ : (vs : List Variable) (ds : List DeclTree) → JudgesDecls [] ds (Ok vs) → Differ (names_of vs)
+variables_differ vs ds js = differ-declared [] vs ds js none_differ
 
 pub known_differ : (vs : List Variable) → Differ (names_of vs) → Differ (names_in (known_of vs))
 known_differ vs apart = subst Differ (sym (names_of_known vs)) apart
 
 -- declarations add variables behind those that there are
-pub grown : {vs ws : List Variable} {ds : List DeclTree} → JudgesDecls vs ds (Ok ws) → (more : List Variable) × (ws ≡ vs ++ more)
-grown (rule.none {vs}) = ([], sym (append-nil vs))
-grown (rule.more {vs = vs} v j js) = let rest = grown js in (v ∷ rest.0, rest.1 ∙ append_assoc vs (v ∷ []) rest.0)
+pub grown : (vs ws : List Variable) (ds : List DeclTree) → JudgesDecls vs ds (Ok ws) → (more : List Variable) × (ws ≡ vs ++ more)
+grown vs ws [] h = ([], same_ok ws vs h ∙ sym (append-nil vs))
+grown vs ws (d ∷ ds) h = let rest = grown (vs ++ h.0 ∷ []) ws ds h.2 in (h.0 ∷ rest.0, rest.1 ∙ append_assoc vs (h.0 ∷ []) rest.0)
 
 -- there are as many as declarations
-pub counted : {vs ws : List Variable} {ds : List DeclTree} → JudgesDecls vs ds (Ok ws) → length ws ≡ length vs + length ds
-counted rule.none = omega arith
-counted (rule.more {vs = vs} v j js) = let rest = counted js in let longer = length-append vs (v ∷ []) in omega arith
+pub counted : (vs ws : List Variable) (ds : List DeclTree) → JudgesDecls vs ds (Ok ws) → length ws ≡ length vs + length ds
+counted vs ws [] h = let same = ap length (same_ok ws vs h) in omega arith
+counted vs ws (d ∷ ds) h = let rest = counted (vs ++ h.0 ∷ []) ws ds h.2 in let longer = length-append vs (h.0 ∷ []) in omega arith
 
 pub slice_get-left : {A : Type 0} (xs ys : List A) (i : ℕ) (x : A) → slice_get xs i ≡ Some x → slice_get (xs ++ ys) i ≡ Some x
 slice_get-left [] ys i x h = absurd (cc)

@@ -1,5 +1,5 @@
 -- The rules of distributions, as the code meets them.
-use Rattle.std.proofs.Common.{◌≡◌, ◌≢◌, ℕ, ◌<◌, ◌≤◌, ◌⊎◌, List, [], ◌∷◌, ◌++◌, length, map, get_or, take, Result, Ok, Err, sym, ap, subst, rules, arith}
+use Rattle.std.proofs.Common.{◌≡◌, ◌≢◌, ℕ, ◌<◌, ◌≤◌, ◌⊎◌, List, [], ◌∷◌, ◌++◌, length, map, get_or, take, Result, Ok, Err, inl, inr, refl, sym, ap, ◌∙◌, subst, rules, arith}
 use Rattle.std.specs.Result.{IsErrAnd}
 use Rattle.kf_value.specs.Kinds.{KindTree, TruthKind, WholeKind, SetKind}
 use Rattle.kf_value.specs.Views.{kind_tree}
@@ -7,29 +7,34 @@ use Rattle.kf_ast.specs.declared.dist.Case.{Case}
 use Rattle.kf_ast.specs.declared.dist.Dist.{Dist}
 use Rattle.kf_ast.specs.declared.dist.DistNode.TheVariants as node
 use Rattle.kf_ast.specs.declared.expr.Expr.{Expr, the_lemmas as expr_lemmas}
-use Rattle.kf_ast.specs.Exprs.{expr_tree, place}
-use Rattle.kf_ast.specs.Dists.{case_tree, DistTree, dist_at, dist_tree, dist_shape, Sure, UniformSet, UniformRange, Choose, Flip}
+use Rattle.kf_ast.specs.Exprs.{place}
+use Rattle.kf_ast.specs.Views.{expr_tree, case_tree, dist_tree, dist_shape}
+use Rattle.kf_ast.specs.Dists.{DistTree, dist_at, Sure, UniformSet, Choose, Flip}
 use Rattle.kf_ast.specs.Built.{IsBuilt, AreCasesBuilt}
 use Rattle.kf_ops.specs.Fitting.{Takes}
 use Rattle.kf_core.specs.declared.dx.DxCase.{DxCase}
 use Rattle.kf_core.specs.declared.dx.Dx.{Dx}
-use Rattle.kf_core.specs.Exs.{ExTree, ex_tree}
-use Rattle.kf_core.specs.Dxs.{DxTree, dx_at, dx_tree, dx_case_tree}
+use Rattle.kf_core.specs.Exs.{ExTree}
+use Rattle.kf_core.specs.Views.{ex_tree, dx_tree, dx_case_tree}
+use Rattle.kf_core.specs.Dxs.{DxTree, dx_at}
 use Rattle.kf_core.specs.Dxs as dx
 use Rattle.kf_check.specs.declared.errors.TypeError.{TypeError}
 use Rattle.kf_check.specs.declared.errors.TypeError.TheVariants as broken
 use Rattle.kf_check.specs.declared.typed.TypedDx.{TypedDx}
-use Rattle.kf_check.specs.Kinds.{Known, Judges, JudgesCase, JudgesCases, JudgesDist, AsksDist}
-use Rattle.kf_check.specs.Kinds as rule
-use Rattle.kf_check.specs.Translation.{IsEx, AreCases, IsDx}
-use Rattle.kf_check.specs.Translation as becomes
-use Rattle.kf_check.specs.Picks.{HasNoElement}
-use Rattle.kf_check.specs.Answers.{AnswersCase, AnswersDx, AnswersAskedDx, names_in}
+use Rattle.kf_check.specs.Kinds.{Known, Judges, JudgesPair, JudgesCases, JudgesDist, AsksDist}
+use Rattle.kf_check.specs.Translation.{ex_of, dx_of, dx_case_of}
+use Rattle.kf_check.proofs.Judging.{past}
+use Rattle.kf_check.specs.Picks.{HasNoElement, names_in}
+use Rattle.kf_check.specs.Answers.{AnswersCase, AnswersDx, AnswersAskedDx}
 use Rattle.kf_check.proofs.Each.{Each, around}
 use Rattle.kf_check.proofs.Each as each
 
 expr_place : (x : Expr) → place (expr_tree x) ≡ x.at
 expr_place x = search (rules, expr_lemmas)
+
+not_chance : (num den : ℕ) → (den ≡ 0) ⊎ (den < num) → (1 ≤ den) × (num ≤ den) → ⊥
+not_chance num den (inl e) h = let some = h.0 in omega arith
+not_chance num den (inr e) h = let low = h.1 in omega arith
 
 module _ (known : List Known) where
   -- an error is passed on
@@ -43,15 +48,19 @@ module _ (known : List Known) where
   fails_asked k d (Err f) e h told = let P : TypeError → Type 0 = λ g. g ≢ broken.Mem → AsksDist known k d (Err g) in subst P (sym h) told
 
   pub fails_case : (k : KindTree) (c : Case) (r : Result DxCase TypeError) (e : TypeError) → IsErrAnd r (λ f. f ≡ e)
-      → (e ≢ broken.Mem → JudgesCase known k (case_tree c) (Err e)) → AnswersCase known k (case_tree c) r
+      → (e ≢ broken.Mem → JudgesPair known k (expr_tree c.value) (expr_tree c.weight) (Err e)) → AnswersCase known k (case_tree c) r
   fails_case k c (Ok t) e h told = absurd h
-  fails_case k c (Err f) e h told = let P : TypeError → Type 0 = λ g. g ≢ broken.Mem → JudgesCase known k (case_tree c) (Err g) in subst P (sym h) told
+  fails_case k c (Err f) e h told = let P : TypeError → Type 0 = λ g. g ≢ broken.Mem → JudgesPair known k (expr_tree c.value) (expr_tree c.weight) (Err g) in subst P (sym h) told
 
   -- a distribution that was made of its parts
-  pub made : (d : DistTree) (r : TypedDx) (k : KindTree) (y : DxTree) → kind_tree r.kind ≡ k → dx_tree r.dx ≡ y → JudgesDist known d (Ok k) → IsDx (names_in known) d y
+  pub made : (d : DistTree) (r : TypedDx) (k : KindTree) (y : DxTree) → kind_tree r.kind ≡ k → dx_tree r.dx ≡ y → JudgesDist known d (Ok k) → y ≡ dx_of (names_in known) d
       → AnswersDx known d (Ok r)
   made d r k y kind dist judged is =
-      (let P : KindTree → Type 0 = λ j. JudgesDist known d (Ok j) in subst P (sym kind) judged, let P : DxTree → Type 0 = λ z. IsDx (names_in known) d z in subst P (sym dist) is)
+      (let P : KindTree → Type 0 = λ j. JudgesDist known d (Ok j) in subst P (sym kind) judged, dist ∙ is)
+
+  -- a tree that is shown to be another
+  as_shown : (d e : DistTree) → d ≡ e → (r : Result KindTree TypeError) → JudgesDist known e r → JudgesDist known d r
+  as_shown d e same r h = subst (λ z. JudgesDist known z r) (sym same) h
 
   -- ---- one value for certain
   module _ (d : Dist) (x : Expr) (is : d.node ≡ node.Sure x) where
@@ -59,10 +68,10 @@ module _ (known : List Known) where
     is_sure = ap (λ n. dist_at d.at (dist_shape n)) is
 
     pub sure_judged : (r : Result KindTree TypeError) → Judges known (expr_tree x) r → JudgesDist known (dist_tree d) r
-    sure_judged r h = rw is_sure (rule.sure d.at h)
+    sure_judged r h = as_shown (dist_tree d) _ is_sure r h
 
-    pub sure_becomes : (y : ExTree) → IsEx (names_in known) (expr_tree x) y → IsDx (names_in known) (dist_tree d) (dx_at d.at (dx.Sure y))
-    sure_becomes y h = rw is_sure (becomes.sure d.at h)
+    pub sure_becomes : (y : ExTree) → y ≡ ex_of (names_in known) (expr_tree x) → dx_at d.at (dx.Sure y) ≡ dx_of (names_in known) (dist_tree d)
+    sure_becomes y h = ap (λ z. dx_at d.at (dx.Sure z)) h ∙ sym (ap (dx_of (names_in known)) is_sure)
 
   -- ---- each element of a set
   module _ (d : Dist) (x : Expr) (is : d.node ≡ node.UniformSet x) where
@@ -70,20 +79,18 @@ module _ (known : List Known) where
     is_set = ap (λ n. dist_at d.at (dist_shape n)) is
 
     pub set_broken : (e : TypeError) → Judges known (expr_tree x) (Err e) → JudgesDist known (dist_tree d) (Err e)
-    set_broken e h = rw is_set (rule.in_uniform_set d.at h)
+    set_broken e h = as_shown (dist_tree d) _ is_set (Err e) (inl h)
 
     pub set_clashes : (j : KindTree) → Judges known (expr_tree x) (Ok j) → HasNoElement j → JudgesDist known (dist_tree d) (Err (broken.Clash x.at))
     set_clashes j h none =
         let P : ℕ → Type 0 = λ n. JudgesDist known (dist_tree d) (Err (broken.Clash n)) in
-        subst P (expr_place x) (rw is_set (rule.no_set d.at j h none))
+        subst P (expr_place x) (as_shown (dist_tree d) _ is_set (Err (broken.Clash (place (expr_tree x)))) (inr (j, h, (none, refl))))
 
     pub set_judged : (j k : KindTree) → Judges known (expr_tree x) (Ok j) → j ≡ SetKind k → JudgesDist known (dist_tree d) (Ok k)
-    set_judged j k h set =
-        let P : KindTree → Type 0 = λ i. Judges known (expr_tree x) (Ok i) in
-        rw is_set (rule.uniform_set d.at (subst P set h))
+    set_judged j k h set = as_shown (dist_tree d) _ is_set (Ok k) (j, h, set)
 
-    pub set_becomes : (y : ExTree) → IsEx (names_in known) (expr_tree x) y → IsDx (names_in known) (dist_tree d) (dx_at d.at (dx.UniformSet y))
-    set_becomes y h = rw is_set (becomes.uniform_set d.at h)
+    pub set_becomes : (y : ExTree) → y ≡ ex_of (names_in known) (expr_tree x) → dx_at d.at (dx.UniformSet y) ≡ dx_of (names_in known) (dist_tree d)
+    set_becomes y h = ap (λ z. dx_at d.at (dx.UniformSet z)) h ∙ sym (ap (dx_of (names_in known)) is_set)
 
   -- ---- a flip
   module _ (d : Dist) (num den : ℕ) (is : d.node ≡ node.Flip num den) where
@@ -91,74 +98,51 @@ module _ (known : List Known) where
     is_flip = ap (λ n. dist_at d.at (dist_shape n)) is
 
     pub bad_flip : (den ≡ 0) ⊎ (den < num) → JudgesDist known (dist_tree d) (Err (broken.BadFlip d.at))
-    bad_flip h = rw is_flip (rule.bad_flip d.at num den h)
+    bad_flip h = as_shown (dist_tree d) _ is_flip (Err (broken.BadFlip d.at)) (λ k q. not_chance num den h q.0, refl)
 
     pub flip_judged : 1 ≤ den → num ≤ den → JudgesDist known (dist_tree d) (Ok TruthKind)
-    flip_judged some few = rw is_flip (rule.flip d.at num den some few)
+    flip_judged some few = as_shown (dist_tree d) _ is_flip (Ok TruthKind) ((some, few), refl)
 
-    pub flip_becomes : IsDx (names_in known) (dist_tree d) (dx_at d.at (dx.Flip num den))
-    flip_becomes = rw is_flip (becomes.flip d.at num den)
+    pub flip_becomes : dx_at d.at (dx.Flip num den) ≡ dx_of (names_in known) (dist_tree d)
+    flip_becomes = sym (ap (dx_of (names_in known)) is_flip)
 
-  -- ---- whole numbers from one to another
-  module _ (x y : Expr) (at : ℕ) where
-    pub lower_clashes : (j i : KindTree) → Judges known (expr_tree x) (Ok j) → Judges known (expr_tree y) (Ok i) → (j ≡ WholeKind → ⊥)
-        → JudgesDist known (dist_at at (UniformRange (expr_tree x) (expr_tree y))) (Err (broken.Clash x.at))
-    lower_clashes j i low high differ =
-        let P : ℕ → Type 0 = λ n. JudgesDist known (dist_at at (UniformRange (expr_tree x) (expr_tree y))) (Err (broken.Clash n)) in
-        subst P (expr_place x) (rule.lower_clash at j i low high differ)
+  -- ---- two expressions of which kinds are asked
+  module _ (k : KindTree) (x y : Expr) (j i : KindTree) (first : Judges known (expr_tree x) (Ok j)) (second : Judges known (expr_tree y) (Ok i)) where
+    pub first_clashes : (j ≡ k → ⊥) → JudgesPair known k (expr_tree x) (expr_tree y) (Err (broken.Clash x.at))
+    first_clashes differ =
+        let P : ℕ → Type 0 = λ n. JudgesPair known k (expr_tree x) (expr_tree y) (Err (broken.Clash n)) in
+        subst P (expr_place x) (inr (j, first, inr (i, second, inl (λ z q. differ q.0, refl))))
 
-    pub upper_clashes : (j i : KindTree) → Judges known (expr_tree x) (Ok j) → j ≡ WholeKind → Judges known (expr_tree y) (Ok i) → (i ≡ WholeKind → ⊥)
-        → JudgesDist known (dist_at at (UniformRange (expr_tree x) (expr_tree y))) (Err (broken.Clash y.at))
-    upper_clashes j i low whole high differ =
-        let P : ℕ → Type 0 = λ n. JudgesDist known (dist_at at (UniformRange (expr_tree x) (expr_tree y))) (Err (broken.Clash n)) in
-        let Q : KindTree → Type 0 = λ k. Judges known (expr_tree x) (Ok k) in
-        subst P (expr_place y) (rule.upper_clash at i (subst Q whole low) high differ)
+    pub second_clashes : j ≡ k → (i ≡ WholeKind → ⊥) → JudgesPair known k (expr_tree x) (expr_tree y) (Err (broken.Clash y.at))
+    second_clashes same differ =
+        let P : ℕ → Type 0 = λ n. JudgesPair known k (expr_tree x) (expr_tree y) (Err (broken.Clash n)) in
+        subst P (expr_place y) (inr (j, first, inr (i, second, inr (k, (same, refl), inl (λ z q. differ q.0, refl)))))
 
-    pub range_judged : (j i : KindTree) → Judges known (expr_tree x) (Ok j) → j ≡ WholeKind → Judges known (expr_tree y) (Ok i) → i ≡ WholeKind
-        → JudgesDist known (dist_at at (UniformRange (expr_tree x) (expr_tree y))) (Ok WholeKind)
-    range_judged j i low whole high whole' =
-        let P : KindTree → Type 0 = λ k. Judges known (expr_tree x) (Ok k) in
-        let Q : KindTree → Type 0 = λ k. Judges known (expr_tree y) (Ok k) in
-        rule.uniform_range at (subst P whole low) (subst Q whole' high)
+    pub pair_judged : j ≡ k → i ≡ WholeKind → JudgesPair known k (expr_tree x) (expr_tree y) (Ok k)
+    pair_judged same whole = (j, first, (i, second, (k, (same, refl), (WholeKind, (whole, refl), refl))))
 
   -- ---- the cases of a `choose` whose values are of this kind
   module _ (k : KindTree) where
     abbrev pub IsCase : Case → DxCase → Type 0
-    IsCase c t = JudgesCase known k (case_tree c) (Ok k) × IsEx (names_in known) (expr_tree c.value) (ex_tree t.value) × IsEx (names_in known) (expr_tree c.weight) (ex_tree t.weight)
-
-    module _ (c : Case) (j i : KindTree) (value : Judges known (expr_tree c.value) (Ok j)) (weight : Judges known (expr_tree c.weight) (Ok i)) where
-      pub value_clashes : (j ≡ k → ⊥) → JudgesCase known k (case_tree c) (Err (broken.Clash c.value.at))
-      value_clashes differ =
-          let P : ℕ → Type 0 = λ n. JudgesCase known k (case_tree c) (Err (broken.Clash n)) in
-          subst P (expr_place c.value) (rule.value_clash j i value weight differ)
-
-      module _ (same : j ≡ k) where
-        asked : Judges known (expr_tree c.value) (Ok k)
-        asked = let P : KindTree → Type 0 = λ l. Judges known (expr_tree c.value) (Ok l) in subst P same value
-
-        pub weight_clashes : (i ≡ WholeKind → ⊥) → JudgesCase known k (case_tree c) (Err (broken.Clash c.weight.at))
-        weight_clashes differ =
-            let P : ℕ → Type 0 = λ n. JudgesCase known k (case_tree c) (Err (broken.Clash n)) in
-            subst P (expr_place c.weight) (rule.weight_clash i asked weight differ)
-
-        pub case_judged : i ≡ WholeKind → JudgesCase known k (case_tree c) (Ok k)
-        case_judged whole = let P : KindTree → Type 0 = λ l. Judges known (expr_tree c.weight) (Ok l) in rule.case asked (subst P whole weight)
+    IsCase c t = JudgesPair known k (expr_tree c.value) (expr_tree c.weight) (Ok k) × (ex_tree t.value ≡ ex_of (names_in known) (expr_tree c.value)) × (ex_tree t.weight ≡ ex_of (names_in known) (expr_tree c.weight))
 
     pub cases_judged : {cs : List Case} {ts : List DxCase} → Each IsCase cs ts → JudgesCases known k (map case_tree cs) (Ok k)
-    cases_judged each.none = rule.none
-    cases_judged (each.more h hs) = rule.more h.0 (cases_judged hs)
+    cases_judged each.none = refl
+    cases_judged (each.more h hs) = (k, h.0, cases_judged hs)
 
-    pub cases_become : {cs : List Case} {ts : List DxCase} → Each IsCase cs ts → AreCases (names_in known) (map case_tree cs) (map dx_case_tree ts)
-    cases_become each.none = becomes.none
-    cases_become (each.more h hs) = becomes.more h.1 h.2 (cases_become hs)
+    pub cases_become : {cs : List Case} {ts : List DxCase} → Each IsCase cs ts → map dx_case_tree ts ≡ map (dx_case_of (names_in known)) (map case_tree cs)
+    cases_become each.none = refl
+    cases_become (each.more {x = c} {y = t} {ys = ts} h hs) =
+        ap (λ a. dx.case_of a (ex_tree t.weight) ∷ map dx_case_tree ts) h.1 ∙ ap (λ b. dx.case_of (ex_of (names_in known) (expr_tree c.value)) b ∷ map dx_case_tree ts) h.2
+        ∙ ap (λ ds. dx.case_of (ex_of (names_in known) (expr_tree c.value)) (ex_of (names_in known) (expr_tree c.weight)) ∷ ds) (cases_become hs)
 
-    first_broken : {ps : List Case} {ts : List DxCase} (c : Case) (rest : List Case) (e : TypeError) → Each IsCase ps ts → JudgesCase known k (case_tree c) (Err e)
+    first_broken : {ps : List Case} {ts : List DxCase} (c : Case) (rest : List Case) (e : TypeError) → Each IsCase ps ts → JudgesPair known k (expr_tree c.value) (expr_tree c.weight) (Err e)
         → JudgesCases known k (map case_tree (ps ++ c ∷ rest)) (Err e)
-    first_broken c rest e each.none h = rule.at_first h
-    first_broken c rest e (each.more r rs) h = rule.past_first r.0 (first_broken c rest e rs h)
+    first_broken c rest e each.none h = inl h
+    first_broken c rest e (each.more r rs) h = inr (k, r.0, first_broken c rest e rs h)
 
     pub cases_broken : (cs : List Case) (ts : List DxCase) (i : ℕ) (c : Case) (e : TypeError) → i < length cs → c ≡ get_or cs i c → Each IsCase (take i cs) ts
-        → JudgesCase known k (case_tree c) (Err e) → JudgesCases known k (map case_tree cs) (Err e)
+        → JudgesPair known k (expr_tree c.value) (expr_tree c.weight) (Err e) → JudgesCases known k (map case_tree cs) (Err e)
     cases_broken cs ts i c e within read before h =
         let P : List Case → Type 0 = λ ds. JudgesCases known k (map case_tree ds) (Err e) in
         subst P (sym (around cs i c within read)) (first_broken c _ e before h)
@@ -166,12 +150,12 @@ module _ (known : List Known) where
   pub choose_judged : (at : ℕ) (cs : List Case) (d : Case) (k : KindTree) (r : Result KindTree TypeError) → 1 ≤ length cs → Judges known (expr_tree (get_or cs 0 d).value) (Ok k)
       → JudgesCases known k (map case_tree cs) r → JudgesDist known (dist_at at (Choose (map case_tree cs))) r
   choose_judged at [] d k r some h hs = absurd (omega arith)
-  choose_judged at (c ∷ cs) d k r some h hs = rule.choose at k h hs
+  choose_judged at (c ∷ cs) d k r some h hs = past (Judges known (expr_tree c.value)) (λ k. JudgesCases known k (map case_tree (c ∷ cs))) k r h hs
 
   pub choose_broken : (at : ℕ) (cs : List Case) (d : Case) (e : TypeError) → 1 ≤ length cs → Judges known (expr_tree (get_or cs 0 d).value) (Err e)
       → JudgesDist known (dist_at at (Choose (map case_tree cs))) (Err e)
   choose_broken at [] d e some h = absurd (omega arith)
-  choose_broken at (c ∷ cs) d e some h = rule.in_first_value at h
+  choose_broken at (c ∷ cs) d e some h = inl h
 
 -- a case of a list of well-built ones
 case_built_behind : (ps : List Case) (c : Case) (rest : List Case) → AreCasesBuilt Takes (map case_tree (ps ++ c ∷ rest)) → IsBuilt Takes (expr_tree c.value) × IsBuilt Takes (expr_tree c.weight)

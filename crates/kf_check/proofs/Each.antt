@@ -46,11 +46,3 @@ pub apart : {A B C : Type 0} (f : A → C) (g : B → C) (xs : List A) (ys : Lis
 apart f g xs ys i x y within read within' read' differ same =
     let both : Some (f x) ≡ Some (g y) = sym (mapped_read f xs i x within read) ∙ (ap (λ zs. slice_get zs i) same ∙ mapped_read g ys i y within' read') in
     differ (cc)
-
--- one more place at which they agree
-pub agree_turn : {A B C : Type 0} (f : A → C) (g : B → C) (xs : List A) (ys : List B) (i : ℕ) (x : A) (y : B) → i < length xs → x ≡ get_or xs i x → i < length ys → y ≡ get_or ys i y
-    → map f (take i xs) ≡ map g (take i ys) → f x ≡ g y → map f (take (i + 1) xs) ≡ map g (take (i + 1) ys)
-agree_turn f g xs ys i x y within read within' read' before same =
-    let left = taken f xs i x within read in
-    let right = taken g ys i y within' read' in
-    left ∙ (ap (λ zs. zs ++ f x ∷ []) before ∙ (ap (λ z. map g (take i ys) ++ z ∷ []) same ∙ sym right))

@@ -3,16 +3,17 @@ use Rattle.std.proofs.Common.{◌≡◌, ℕ, Bool, Box, Global, map, rules}
 use Rattle.kf_value.specs.declared.value.Value.{Value}
 use Rattle.kf_value.specs.Views.{value_tree}
 use Rattle.kf_ast.specs.declared.decl.Ident.{Ident}
-use Rattle.kf_ast.specs.Names.{name_tree}
+use Rattle.kf_ast.specs.Views.{name_tree, expr_tree, expr_items}
 use Rattle.kf_ast.specs.declared.expr.Expr.{Expr, the_lemmas as expr_lemmas}
 use Rattle.kf_ast.specs.declared.expr.ExprNode.TheVariants as node
 use Rattle.kf_ast.specs.declared.expr.ExprList.{ExprList}
-use Rattle.kf_ast.specs.Exprs.{ExprTree, expr_at, Number, Truth, Name, Apply, Tuple, Part, exprs, expr_tree, expr_items}
+use Rattle.kf_ast.specs.Exprs.{ExprTree, expr_at, Number, Truth, Name, Apply, Tuple, Part, exprs}
 use Rattle.kf_ast.specs.Exprs as Exprs
 use Rattle.kf_core.specs.declared.ex.Ex.{Ex, the_lemmas as ex_lemmas}
 use Rattle.kf_core.specs.declared.ex.Ex.TheVariants as ex
 use Rattle.kf_core.specs.declared.ex.ExList.{ExList}
-use Rattle.kf_core.specs.Exs.{ExTree, exs, ex_tree, ex_items}
+use Rattle.kf_core.specs.Exs.{ExTree, exs}
+use Rattle.kf_core.specs.Views.{ex_tree, ex_items}
 use Rattle.kf_core.specs.Exs as Exs
 
 pub expr_tree-Number : (x : Expr) (n : ℕ) → x.node ≡ node.Number n → expr_tree x ≡ expr_at x.at (Number n)

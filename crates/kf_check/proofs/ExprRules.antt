@@ -1,31 +1,30 @@
 -- The rules of expressions, as the code meets them.
-use Rattle.std.proofs.Common.{◌≡◌, ◌≢◌, ℕ, suc, ◌<◌, ◌≤◌, List, [], ◌∷◌, ◌++◌, length, map, get_or, take, Result, Ok, Err, refl, sym, ap, ◌∙◌, subst, arith}
+use Rattle.std.proofs.Common.{◌≡◌, ◌≢◌, ℕ, suc, ◌<◌, ◌≤◌, List, [], ◌∷◌, ◌++◌, length, map, get_or, take, Result, Ok, Err, inl, inr, refl, sym, ap, ◌∙◌, subst}
 use Rattle.std.proofs.lemmas.List.{length-map}
-use Rattle.std.specs.Option.{option_map}
 use Rattle.std.specs.Result.{IsErrAnd}
-use Rattle.std.proofs.lemmas.Option.{slice_get-map}
 use Rattle.kf_value.specs.declared.kind.Kind.{Kind}
 use Rattle.kf_value.specs.Kinds.{KindTree, TupleKind, SetKind, kind_parts}
 use Rattle.kf_value.specs.declared.kind.KindList.{KindList}
 use Rattle.kf_value.specs.Views.{kind_tree, kind_trees, kind_items}
 use Rattle.kf_ast.specs.declared.decl.Ident.{Ident}
-use Rattle.kf_ast.specs.Names.{name_tree}
+use Rattle.kf_ast.specs.Views.{name_tree, expr_tree}
 use Rattle.kf_ast.specs.declared.expr.Expr.{Expr}
-use Rattle.kf_ast.specs.Exprs.{ExprTree, ExprTrees, expr_at, Name, Apply, Tuple, SetOf, Part, exprs, expr_tree}
+use Rattle.kf_ast.specs.Exprs.{ExprTree, ExprTrees, no_exprs, more_exprs, expr_at, Name, Apply, Tuple, SetOf, Part, exprs}
 use Rattle.kf_ast.specs.Built.{expr_count, IsBuilt, AreBuilt}
 use Rattle.kf_ops.specs.Fitting.{Takes}
 use Rattle.kf_core.specs.declared.ex.Ex.{Ex}
-use Rattle.kf_core.specs.Exs.{ExTree, exs, ex_tree}
+use Rattle.kf_core.specs.Exs.{ExTree, more_exs, exs}
+use Rattle.kf_core.specs.Views.{ex_tree}
 use Rattle.kf_core.specs.Exs as ex
 use Rattle.kf_check.specs.declared.errors.TypeError.{TypeError}
 use Rattle.kf_check.specs.declared.errors.TypeError.TheVariants as broken
 use Rattle.kf_check.specs.declared.typed.TypedEx.{TypedEx}
-use Rattle.kf_check.specs.Kinds.{Known, IsKnown, IsUnknown, Judges, JudgesAll}
-use Rattle.kf_check.specs.Kinds as rule
-use Rattle.kf_check.specs.Translation.{IsEx, AreExs}
-use Rattle.kf_check.specs.Translation as becomes
-use Rattle.kf_check.specs.Picks.{IsCommon, HasNoCommon, IsPart, HasNoPart, IsResult, HasNoResult}
-use Rattle.kf_check.specs.Answers.{AnswersEx, names_in}
+use Rattle.kf_check.specs.Kinds.{Known, IsUnknown, IsCommon, IsPart, IsResult, Judges, JudgesAll}
+use Rattle.kf_check.specs.Translation.{ex_of, exs_of}
+use Rattle.kf_check.proofs.Kinding.{same_ok}
+use Rattle.kf_check.proofs.LawsKinds.{not_unknown}
+use Rattle.kf_check.specs.Picks.{names_in, IsFound, HasNoCommon, HasNoPart, HasNoResult}
+use Rattle.kf_check.specs.Answers.{AnswersEx}
 use Rattle.kf_check.proofs.Each.{Each, around}
 use Rattle.kf_check.proofs.Each as each
 
@@ -35,20 +34,20 @@ module _ (known : List Known) where
   HasItsKind x k = Judges known (expr_tree x) (Ok (kind_tree k))
 
   abbrev pub Becomes : Expr → Ex → Type 0
-  Becomes x y = IsEx (names_in known) (expr_tree x) (ex_tree y)
+  Becomes x y = ex_tree y ≡ ex_of (names_in known) (expr_tree x)
 
   pub all_judged : {xs : List Expr} {ks : List Kind} → Each HasItsKind xs ks → JudgesAll known (exprs (map expr_tree xs)) (Ok (map kind_tree ks))
-  all_judged each.none = rule.none
-  all_judged (each.more h hs) = rule.more h (all_judged hs)
+  all_judged each.none = refl
+  all_judged (each.more {y = k} {ys = ks} h hs) = (kind_tree k, h, (map kind_tree ks, all_judged hs, refl))
 
-  pub all_become : {xs : List Expr} {ys : List Ex} → Each Becomes xs ys → AreExs (names_in known) (exprs (map expr_tree xs)) (exs (map ex_tree ys))
-  all_become each.none = becomes.none
-  all_become (each.more h hs) = becomes.more h (all_become hs)
+  pub all_become : {xs : List Expr} {ys : List Ex} → Each Becomes xs ys → exs (map ex_tree ys) ≡ exs_of (names_in known) (exprs (map expr_tree xs))
+  all_become each.none = refl
+  all_become (each.more {x = x} {ys = ys} h hs) = ap (λ y. more_exs y (exs (map ex_tree ys))) h ∙ ap (λ zs. more_exs (ex_of (names_in known) (expr_tree x)) zs) (all_become hs)
 
   first_broken : {ps : List Expr} {ks : List Kind} (x : Expr) (rest : List Expr) (e : TypeError) → Each HasItsKind ps ks → Judges known (expr_tree x) (Err e)
       → JudgesAll known (exprs (map expr_tree (ps ++ x ∷ rest))) (Err e)
-  first_broken x rest e each.none h = rule.at_first h
-  first_broken x rest e (each.more {y = k} r rs) h = rule.past_first (kind_tree k) r (first_broken x rest e rs h)
+  first_broken x rest e each.none h = inl h
+  first_broken x rest e (each.more {y = k} r rs) h = inr (kind_tree k, r, inl (first_broken x rest e rs h))
 
   pub all_broken : (xs : List Expr) (ks : List Kind) (i : ℕ) (x : Expr) (e : TypeError) → i < length xs → x ≡ get_or xs i x → Each HasItsKind (take i xs) ks
       → Judges known (expr_tree x) (Err e) → JudgesAll known (exprs (map expr_tree xs)) (Err e)
@@ -56,12 +55,12 @@ module _ (known : List Known) where
       let P : List Expr → Type 0 = λ ys. JudgesAll known (exprs (map expr_tree ys)) (Err e) in
       subst P (sym (around xs i x within read)) (first_broken x _ e before h)
 
-  pub counted : {xs : ExprTrees} {ks : List KindTree} → JudgesAll known xs (Ok ks) → expr_count xs ≡ length ks
-  counted rule.none = refl
-  counted (rule.more h hs) = ap suc (counted hs)
+  pub counted : (xs : ExprTrees) (ks : List KindTree) → JudgesAll known xs (Ok ks) → expr_count xs ≡ length ks
+  counted no_exprs ks h = ap length (sym (same_ok ks [] h))
+  counted (more_exprs x xs) ks h = ap suc (counted xs h.2.0 h.2.1) ∙ ap length (sym (same_ok ks (h.0 ∷ h.2.0) h.2.2))
 
-  pub reread : {xs : ExprTrees} (l : KindList) (s : List Kind) → s ≡ kind_items l → JudgesAll known xs (Ok (kind_trees l)) → JudgesAll known xs (Ok (map kind_tree s))
-  reread {xs} l s same h = let P : List Kind → Type 0 = λ ks. JudgesAll known xs (Ok (map kind_tree ks)) in subst P (sym same) h
+  pub reread : (xs : ExprTrees) (l : KindList) (s : List Kind) → s ≡ kind_items l → JudgesAll known xs (Ok (kind_trees l)) → JudgesAll known xs (Ok (map kind_tree s))
+  reread xs l s same h = let P : List Kind → Type 0 = λ ks. JudgesAll known xs (Ok (map kind_tree ks)) in subst P (sym same) h
 
   -- an error is passed on
   pub fails : (x : ExprTree) (r : Result TypedEx TypeError) (e : TypeError) → IsErrAnd r (λ f. f ≡ e) → (e ≢ broken.Mem → Judges known x (Err e)) → AnswersEx known x r
@@ -73,13 +72,17 @@ module _ (known : List Known) where
 
   -- a name is that of a variable or of none
   module _ (x : Ident) (text : List ℕ) (reads : text ≡ x.text) where
-    pub variable_found : (at i : ℕ) (k : KindTree) → IsKnown known text i k → Judges known (expr_at at (Name (name_tree x))) (Ok k) × IsEx (names_in known) (expr_at at (Name (name_tree x))) (ex.Slot i)
+    pub variable_found : (at i : ℕ) (k : KindTree) → IsFound known text i k → Judges known (expr_at at (Name (name_tree x))) (Ok k) × (ex.Slot i ≡ ex_of (names_in known) (expr_at at (Name (name_tree x))))
     variable_found at i k h =
-        let here : IsKnown known x.text i k = subst (λ t. IsKnown known t i k) reads h in
-        (rule.variable at x.at i here, becomes.variable at x.at i (slice_get-map (λ v. v.name) known i ∙ ap (option_map (λ v. v.name)) here))
+        let here : IsFound known x.text i k = subst (λ t. IsFound known t i k) reads h in
+        ((i, here.0), ap ex.Slot (sym here.1))
 
     pub variable_unknown : (at : ℕ) → IsUnknown known text → Judges known (expr_at at (Name (name_tree x))) (Err (broken.Unknown x.at))
-    variable_unknown at h = rule.unknown at x.at (subst (IsUnknown known) reads h)
+    variable_unknown at h = let unheard = subst (IsUnknown known) reads h in (λ k g. not_unknown known x.text g.0 k g.1 unheard, refl)
+
+  -- a tree that is shown to be another
+  as_shown : (x y : ExprTree) → x ≡ y → (r : Result KindTree TypeError) → Judges known y r → Judges known x r
+  as_shown x y same r h = subst (λ z. Judges known z r) (sym same) h
 
   module _ (x : ExprTree) (at row : ℕ) (xs items : List Expr) (shown : x ≡ expr_at at (Apply row (exprs (map expr_tree items)))) (same : xs ≡ items) where
     applied : x ≡ expr_at at (Apply row (exprs (map expr_tree xs)))
@@ -89,39 +92,32 @@ module _ (known : List Known) where
     apply_built h = subst (IsBuilt Takes) applied h
 
     pub apply_takes : (ks : List KindTree) → IsBuilt Takes x → JudgesAll known (exprs (map expr_tree xs)) (Ok ks) → Takes row (length ks)
-    apply_takes ks built h = subst (Takes row) (counted h) (apply_built built).0
+    apply_takes ks built h = subst (Takes row) (counted (exprs (map expr_tree xs)) ks h) (apply_built built).0
 
     pub apply_broken : (e : TypeError) → JudgesAll known (exprs (map expr_tree xs)) (Err e) → Judges known x (Err e)
-    apply_broken e h = rw applied (rule.in_apply at row h)
+    apply_broken e h = as_shown x _ applied (Err e) (inl h)
 
     pub apply_clashes : (ks : List KindTree) → IsBuilt Takes x → JudgesAll known (exprs (map expr_tree xs)) (Ok ks) → HasNoResult row ks → Judges known x (Err (broken.Clash at))
-    apply_clashes ks built h none =
-        let takes = (apply_built built).0 in
-        rw applied (rule.apply_clash at row ks takes.0 h takes.1 (λ any fit. none takes.0 any takes.1 fit))
+    apply_clashes ks built h none = as_shown x _ applied (Err (broken.Clash at)) (inr (ks, h, (λ k q. none q.0 q.1 q.2 q.3, refl)))
 
     pub apply_judged : (ks : List KindTree) (k : KindTree) → JudgesAll known (exprs (map expr_tree xs)) (Ok ks) → IsResult row ks k → Judges known x (Ok k)
-    apply_judged ks k h result =
-        let P : KindTree → Type 0 = λ j. Judges known x (Ok j) in
-        subst P (sym result.4) (rw applied (rule.apply at row ks result.0 result.1 h result.2 result.3))
+    apply_judged ks k h result = as_shown x _ applied (Ok k) (ks, h, result)
 
-    pub apply_becomes : (ys : List Ex) → AreExs (names_in known) (exprs (map expr_tree xs)) (exs (map ex_tree ys)) → IsEx (names_in known) x (ex.Apply row (exs (map ex_tree ys)))
-    apply_becomes ys h = rw applied (becomes.apply at row h)
+    pub apply_becomes : (ys : List Ex) → exs (map ex_tree ys) ≡ exs_of (names_in known) (exprs (map expr_tree xs)) → ex.Apply row (exs (map ex_tree ys)) ≡ ex_of (names_in known) x
+    apply_becomes ys h = ap (λ zs. ex.Apply row zs) h ∙ sym (ap (ex_of (names_in known)) applied)
 
   module _ (x : ExprTree) (at : ℕ) (xs items : List Expr) (shown : x ≡ expr_at at (Tuple (exprs (map expr_tree items)))) (same : xs ≡ items) where
     in_tuple : x ≡ expr_at at (Tuple (exprs (map expr_tree xs)))
     in_tuple = shown ∙ ap (λ ys. expr_at at (Tuple (exprs (map expr_tree ys)))) (sym same)
 
-    pub tuple_built : IsBuilt Takes x → AreBuilt Takes (exprs (map expr_tree xs))
-    tuple_built h = (subst (IsBuilt Takes) in_tuple h).1
-
     pub tuple_broken : (e : TypeError) → JudgesAll known (exprs (map expr_tree xs)) (Err e) → Judges known x (Err e)
-    tuple_broken e h = rw in_tuple (rule.in_tuple at h)
+    tuple_broken e h = as_shown x _ in_tuple (Err e) (inl h)
 
     pub tuple_judged : (ks : List KindTree) → JudgesAll known (exprs (map expr_tree xs)) (Ok ks) → Judges known x (Ok (TupleKind (kind_parts ks)))
-    tuple_judged ks h = rw in_tuple (rule.tuple at h)
+    tuple_judged ks h = as_shown x _ in_tuple (Ok (TupleKind (kind_parts ks))) (ks, h, refl)
 
-    pub tuple_becomes : (ys : List Ex) → AreExs (names_in known) (exprs (map expr_tree xs)) (exs (map ex_tree ys)) → IsEx (names_in known) x (ex.Tuple (exs (map ex_tree ys)))
-    tuple_becomes ys h = rw in_tuple (becomes.tuple at h)
+    pub tuple_becomes : (ys : List Ex) → exs (map ex_tree ys) ≡ exs_of (names_in known) (exprs (map expr_tree xs)) → ex.Tuple (exs (map ex_tree ys)) ≡ ex_of (names_in known) x
+    tuple_becomes ys h = ap ex.Tuple h ∙ sym (ap (ex_of (names_in known)) in_tuple)
 
   module _ (x : ExprTree) (at : ℕ) (xs items : List Expr) (shown : x ≡ expr_at at (SetOf (exprs (map expr_tree items)))) (same : xs ≡ items) where
     in_set : x ≡ expr_at at (SetOf (exprs (map expr_tree xs)))
@@ -131,41 +127,32 @@ module _ (known : List Known) where
     set_built h = subst (IsBuilt Takes) in_set h
 
     pub set_some : (ks : List KindTree) → IsBuilt Takes x → JudgesAll known (exprs (map expr_tree xs)) (Ok ks) → 1 ≤ length ks
-    set_some ks built h = let P : ℕ → Type 0 = λ n. 1 ≤ n in subst P (counted h) (set_built built).0
+    set_some ks built h = let P : ℕ → Type 0 = λ n. 1 ≤ n in subst P (counted (exprs (map expr_tree xs)) ks h) (set_built built).0
 
     pub set_broken : (e : TypeError) → JudgesAll known (exprs (map expr_tree xs)) (Err e) → Judges known x (Err e)
-    set_broken e h = rw in_set (rule.in_set at h)
+    set_broken e h = as_shown x _ in_set (Err e) (inl h)
 
     pub set_clashes : (ks : List KindTree) → 1 ≤ length ks → JudgesAll known (exprs (map expr_tree xs)) (Ok ks) → HasNoCommon ks → Judges known x (Err (broken.Clash at))
-    set_clashes [] some h none = absurd (omega arith)
-    set_clashes (k ∷ ks) some h none = rw in_set (rule.set_clash at k ks h (λ all. none k (refl, all)))
+    set_clashes ks some h none = as_shown x _ in_set (Err (broken.Clash at)) (inr (ks, h, inl (none, refl)))
 
     pub set_judged : (ks : List KindTree) (k : KindTree) → JudgesAll known (exprs (map expr_tree xs)) (Ok ks) → IsCommon ks k → Judges known x (Ok (SetKind k))
-    set_judged [] k h common = absurd common
-    set_judged (j ∷ ks) k h common =
-        let P : KindTree → Type 0 = λ i. Judges known x (Ok (SetKind i)) in
-        subst P common.0 (rw in_set (rule.set at j ks h common.1))
+    set_judged ks k h common = as_shown x _ in_set (Ok (SetKind k)) (ks, h, (k, common, refl))
 
-    pub set_becomes : (ys : List Ex) → AreExs (names_in known) (exprs (map expr_tree xs)) (exs (map ex_tree ys)) → IsEx (names_in known) x (ex.SetOf (exs (map ex_tree ys)))
-    set_becomes ys h = rw in_set (becomes.set at h)
+    pub set_becomes : (ys : List Ex) → exs (map ex_tree ys) ≡ exs_of (names_in known) (exprs (map expr_tree xs)) → ex.SetOf (exs (map ex_tree ys)) ≡ ex_of (names_in known) x
+    set_becomes ys h = ap ex.SetOf h ∙ sym (ap (ex_of (names_in known)) in_set)
 
   module _ (x : ExprTree) (at n : ℕ) (y : ExprTree) (shown : x ≡ expr_at at (Part y n)) where
-    pub part_built : IsBuilt Takes x → IsBuilt Takes y
-    part_built h = subst (IsBuilt Takes) shown h
-
     pub part_broken : (e : TypeError) → Judges known y (Err e) → Judges known x (Err e)
-    part_broken e h = rw shown (rule.in_part at n h)
+    part_broken e h = as_shown x _ shown (Err e) (inl h)
 
     pub part_clashes : (j : KindTree) → Judges known y (Ok j) → HasNoPart j n → Judges known x (Err (broken.Clash at))
-    part_clashes j h none = rw shown (rule.part_clash at n j h (λ ks k is there. none k (ks, is, there)))
+    part_clashes j h none = as_shown x _ shown (Err (broken.Clash at)) (inr (j, h, (none, refl)))
 
     pub part_judged : (j k : KindTree) → Judges known y (Ok j) → IsPart j n k → Judges known x (Ok k)
-    part_judged j k h part =
-        let P : KindTree → Type 0 = λ i. Judges known y (Ok i) in
-        rw shown (rule.part at n part.0 (subst P part.1 h) part.2)
+    part_judged j k h part = as_shown x _ shown (Ok k) (j, h, part)
 
-    pub part_becomes : (z : ExTree) → IsEx (names_in known) y z → IsEx (names_in known) x (ex.Part z n)
-    part_becomes z h = rw shown (becomes.part at n h)
+    pub part_becomes : (z : ExTree) → z ≡ ex_of (names_in known) y → ex.Part z n ≡ ex_of (names_in known) x
+    part_becomes z h = ap (λ w. ex.Part w n) h ∙ sym (ap (ex_of (names_in known)) shown)
 
 -- an element of a list of well-built expressions
 built_behind : (ps : List Expr) (x : Expr) (rest : List Expr) → AreBuilt Takes (exprs (map expr_tree (ps ++ x ∷ rest))) → IsBuilt Takes (expr_tree x)

@@ -1,11 +1,11 @@
 -- What checking an item of a target gives, and a turn of the loop over items.
-use Rattle.std.proofs.Common.{◌≡◌, ℕ, ◌*◌, ◌^◌, ◌+◌, ◌<◌, ◌≤◌, Bool, true, false, List, [], ◌∷◌, ◌++◌, map, length, get_or, slice_get, Option, Some, None, Ok, Err, refl, sym, ap, ◌∙◌, subst, arith, append_assoc, append-nil, length-append, inl, inr, ⊎_elim, Contains}
+use Rattle.std.proofs.Common.{◌≡◌, ℕ, ◌*◌, ◌+◌, ◌<◌, ◌≤◌, Bool, true, false, List, [], ◌∷◌, ◌++◌, map, length, get_or, slice_get, Some, Ok, Err, Result, refl, sym, ap, ◌∙◌, subst, arith, append_assoc, append-nil, length-append, inl, inr, ⊎_elim, Contains}
 use Rattle.std.proofs.lemmas.List.{map-append, length-map}
 use Rattle.std.proofs.Math.Nat.{mul_assoc}
 use Rattle.std.proofs.lemmas.List.Elements.{Contains-append_left, Contains-append_right, Contains-append_cases}
 use Rattle.std.proofs.lemmas.Option.{slice_get-get_or, slice_get-map, slice_get_within}
 use Rattle.std.specs.Option.{option_map}
-use Rattle.kf_value.specs.Kinds.{KindTree}
+use Rattle.kf_value.specs.Kinds.{KindTree, kind_of}
 use Rattle.kf_value.specs.Types.{TypeTree, count, product}
 use Rattle.kf_value.specs.Targets.{Item}
 use Rattle.kf_ast.specs.Names.{name}
@@ -14,14 +14,15 @@ use Rattle.kf_check.specs.declared.errors.TypeError.{TypeError}
 use Rattle.kf_check.specs.declared.errors.TypeError.TheVariants as broken
 use Rattle.kf_check.specs.declared.variables.Variable as code
 use Rattle.kf_check.specs.Kinds.{Known, IsKnown, IsUnknown}
-use Rattle.kf_check.specs.Sources.{Variable, types_of, known_of, IsFull, IsWideWith, JudgesItems}
-use Rattle.kf_check.specs.Sources as rule
+use Rattle.kf_check.specs.Sources.{Variable, types_of, known_of, Carries, JudgesItem, JudgesItems}
 use Rattle.kf_check.specs.Translation.{AreItems}
 use Rattle.kf_check.specs.Translation as becomes
-use Rattle.kf_check.specs.Variables.{variable_of}
+use Rattle.kf_check.specs.Variables.{variable_of, AreCopied}
 use Rattle.kf_check.specs.SourceAnswers.{AnswersGrowth, Stands, HasSame}
-use Rattle.kf_check.proofs.LawsItems.{declared_at, at_in}
-use Rattle.kf_check.proofs.Checking.{AreCopied}
+use Rattle.kf_check.proofs.Judging.{past}
+use Rattle.kf_check.proofs.DeclTurns.{no_room, has_room}
+use Rattle.kf_check.proofs.LawsKinds.{not_unknown}
+use Rattle.kf_check.proofs.LawsItems.{declared_at, known_at, in_at, at_in}
 use Rattle.kf_check.proofs.Kinding.{slice_get-some}
 
 -- ---- the same items
@@ -52,9 +53,15 @@ module _ (ws : List code.Variable) (n : List ℕ) (i : ℕ) (k : KindTree) (know
 pub known_here : (known ks : List Known) (text n : List ℕ) (i : ℕ) (k : KindTree) → known ≡ ks → text ≡ n → IsKnown known text i k → IsKnown ks n i k
 known_here known ks text n i k agree reads h = subst (λ js. IsKnown js n i k) agree (subst (λ m. IsKnown known m i k) reads h)
 
-pub item_unknown : (vs : List Variable) (stood : List ItemTree) (ts : List TypeTree) (old : Bool) (at : ℕ) (known : List Known) (text n : List ℕ) → known ≡ known_of vs → text ≡ n → IsUnknown known text → (others : List ItemTree)
-    → JudgesItems vs stood ts (item old (name n at) ∷ others) (Some (broken.Unknown at))
-item_unknown vs stood ts old at known text n agree reads u others = rule.unknown old at (subst (λ ks. IsUnknown ks n) agree (subst (IsUnknown known) reads u))
+-- an item of no declared variable
+unseen : (vs : List Variable) (n : List ℕ) → IsUnknown (known_of vs) n → (t : TypeTree) → Contains vs (record { name = n; type = t }) → ⊥
+unseen vs n u t h =
+    let found = in_at vs (record { name = n; type = t }) h in
+    not_unknown (known_of vs) n found.0 (kind_of t) (known_at vs n found.0 t found.1) u
+
+pub item_unknown : (vs : List Variable) (stood : List ItemTree) (ts : List TypeTree) (old : Bool) (at : ℕ) (known : List Known) (text n : List ℕ) → known ≡ known_of vs → text ≡ n → IsUnknown known text
+    → JudgesItem vs stood ts (item old (name n at)) (Err (broken.Unknown at))
+item_unknown vs stood ts old at known text n agree reads u = inl (unseen vs n (subst (λ ks. IsUnknown ks n) agree (subst (IsUnknown known) reads u)), refl)
 
 -- ---- one item
 
@@ -62,57 +69,48 @@ module _ (vs : List Variable) (stood before : List ItemTree) (same : HasSame sto
   apart : (old : Bool) → ¬ Stands before old n → (at' : ℕ) → ¬ Contains stood (item old (name n at'))
   apart old new at' h = new (at', (same (item old (name n at'))).0 h)
 
-  pub item_twice : (old : Bool) (i : ℕ) (k : KindTree) → IsKnown (known_of vs) n i k → Stands before old n → (others : List ItemTree) → JudgesItems vs stood ts (item old (name n at) ∷ others) (Some (broken.Twice at))
-  item_twice old i k known h others = rule.twice old at h.0 i k known ((same (item old (name n h.0))).1 h.1)
+  module _ (i : ℕ) (k : KindTree) (known : IsKnown (known_of vs) n i k) where
+    pub item_twice : (old : Bool) → Stands before old n → JudgesItem vs stood ts (item old (name n at)) (Err (broken.Twice at))
+    item_twice old h =
+        let found = declared_at vs n i k known in
+        inr (found.0, at_in vs (record { name = n; type = found.0 }) i found.1, inl (λ s q. q.0 h.0 ((same (item old (name n h.0))).1 h.1), refl))
 
-  module _ (i : ℕ) (k : KindTree) (known : IsKnown (known_of vs) n i k) (v : Variable) (found : slice_get vs i ≡ Some v) (called : v.name ≡ n) where
-    here : slice_get vs i ≡ Some (record { name = n; type = v.type })
-    here = found ∙ ap (λ m. Some (record { name = m; type = v.type })) called
+    module _ (v : Variable) (found : slice_get vs i ≡ Some v) (called : v.name ≡ n) where
+      here : slice_get vs i ≡ Some (record { name = n; type = v.type })
+      here = found ∙ ap (λ m. Some (record { name = m; type = v.type })) called
 
-    pub item_final : (copies : ℕ) → ¬ Stands before false n
-        → ((others : List ItemTree) (r : Option TypeError) → JudgesItems vs (item false (name n at) ∷ stood) (ts ++ []) others r → JudgesItems vs stood ts (item false (name n at) ∷ others) r)
-        × AreItems vs copies (item false (name n at) ∷ []) [] (record { initial = false; name = v.name; ty = v.type } ∷ []) (i ∷ [])
-    item_final copies new = (
-      λ others r j. rule.final at i k known (apart false new) (subst (λ us. JudgesItems vs (item false (name n at) ∷ stood) us others r) (append-nil ts) j),
-      subst (λ m. AreItems vs copies (item false (name n at) ∷ []) [] (record { initial = false; name = m; ty = v.type } ∷ []) (i ∷ [])) (sym called) (becomes.final at i here becomes.none),
-    )
+      there : Contains vs (record { name = n; type = v.type })
+      there = at_in vs (record { name = n; type = v.type }) i here
 
-    pub final_answer : (old : Bool) → old ≡ false → (x : Item) → x ≡ record { initial = old; name = v.name; ty = v.type } → (copies : ℕ) → ¬ Stands before old n
-        → ((others : List ItemTree) (r : Option TypeError) → JudgesItems vs (item old (name n at) ∷ stood) (ts ++ []) others r → JudgesItems vs stood ts (item old (name n at) ∷ others) r)
-        × AreItems vs copies (item old (name n at) ∷ []) [] (x ∷ []) (i ∷ [])
-    final_answer false is x e copies new = rw e (item_final copies new)
-    final_answer true is x e copies new = absurd (cc)
+      pub final_answer : (old : Bool) → old ≡ false → (x : Item) → x ≡ record { initial = old; name = v.name; ty = v.type } → (copies : ℕ) → ¬ Stands before old n
+          → JudgesItem vs stood ts (item old (name n at)) (Ok (ts ++ [])) × AreItems vs copies (item old (name n at) ∷ []) [] (x ∷ []) (i ∷ [])
+      final_answer false is x e copies new = rw e (
+        (v.type, there, (v.type, (apart false new, refl), ap Ok (append-nil ts))),
+        subst (λ m. AreItems vs copies (item false (name n at) ∷ []) [] (record { initial = false; name = m; ty = v.type } ∷ []) (i ∷ [])) (sym called) (becomes.final at i here becomes.none),
+      )
+      final_answer true is x e copies new = absurd (cc)
 
-    module _ (new : ¬ Stands before true n) (place stores : ℕ) (many : place ≡ length ts) (counted : stores ≡ product (map count ts)) where
-      pub item_fails : (e : TypeError) → AnswersGrowth place stores (count v.type) at (Err e) → (others : List ItemTree) → JudgesItems vs stood ts (item true (name n at) ∷ others) (Some e)
-      item_fails e (inl h) others = rw h.1 (rule.too_many at i k known (apart true new) (subst (λ m. 32 ≤ m) many h.0))
-      item_fails e (inr h) others =
-          let free : ¬ IsFull ts = λ full. (let low = h.0 in omega arith) in
-          rw h.2 (rule.too_wide at v.type (at_in vs (record { name = n; type = v.type }) i here) (apart true new) free (subst (λ s. 2 ^ 63 < s * count v.type) counted h.1))
+      module _ (old : Bool) (is : old ≡ true) (new : ¬ Stands before old n) (place stores : ℕ) (many : place ≡ length ts) (counted : stores ≡ product (map count ts)) where
+        pub initial_fails : (e : TypeError) → AnswersGrowth place stores (count v.type) at (Err e) → JudgesItem vs stood ts (item old (name n at)) (Err e)
+        initial_fails e growth = inr (v.type, there, inr (v.type, (apart old new, refl), carries old is))
+          where
+            carries : (old : Bool) → old ≡ true → Carries old ts v.type at (Err e)
+            carries true is = inl (no_room ts v.type at place stores many counted e growth)
+            carries false is = absurd (cc)
 
-      pub item_initial : (grown : ℕ) → AnswersGrowth place stores (count v.type) at (Ok grown) → (copies : ℕ) → place ≡ length vs + copies
-          → ((others : List ItemTree) (r : Option TypeError) → JudgesItems vs (item true (name n at) ∷ stood) (ts ++ v.type ∷ []) others r → JudgesItems vs stood ts (item true (name n at) ∷ others) r)
-          × AreItems vs copies (item true (name n at) ∷ []) (i ∷ []) (record { initial = true; name = v.name; ty = v.type } ∷ []) (place ∷ [])
-      item_initial grown growth copies behind =
-          let free : ¬ IsFull ts = λ full. (let low = growth.0 in omega arith) in
-          let narrow : ¬ IsWideWith ts v.type = λ wide. (let low = subst (λ s. s * count v.type ≤ 2 ^ 63) counted growth.1 in omega arith) in (
-            λ others r j. rule.initial at v.type (at_in vs (record { name = n; type = v.type }) i here) (apart true new) free narrow j,
-            subst (λ p. AreItems vs copies (item true (name n at) ∷ []) (i ∷ []) (record { initial = true; name = v.name; ty = v.type } ∷ []) (p ∷ [])) (sym behind)
-                (subst (λ m. AreItems vs copies (item true (name n at) ∷ []) (i ∷ []) (record { initial = true; name = m; ty = v.type } ∷ []) ((length vs + copies) ∷ [])) (sym called) (becomes.initial at i here becomes.none)),
-          )
+        pub initial_answer : (grown : ℕ) → AnswersGrowth place stores (count v.type) at (Ok grown) → (copies : ℕ) → place ≡ length vs + copies → (x : Item) → x ≡ record { initial = old; name = v.name; ty = v.type }
+            → JudgesItem vs stood ts (item old (name n at)) (Ok (ts ++ x.ty ∷ [])) × AreItems vs copies (item old (name n at) ∷ []) (i ∷ []) (x ∷ []) (place ∷ [])
+        initial_answer grown growth copies behind x e = rw e ((v.type, there, (v.type, (apart old new, refl), carries old is)), read old is)
+          where
+            carries : (old : Bool) → old ≡ true → Carries old ts v.type at (Ok (ts ++ v.type ∷ []))
+            carries true is = (v.type, has_room ts v.type at place stores many counted grown growth, refl)
+            carries false is = absurd (cc)
 
-    -- the same of an item that is read as `old`
-    pub initial_fails : (old : Bool) → old ≡ true → ¬ Stands before old n → (place stores : ℕ) → place ≡ length ts → stores ≡ product (map count ts) → (e : TypeError) → AnswersGrowth place stores (count v.type) at (Err e) → (others : List ItemTree)
-        → JudgesItems vs stood ts (item old (name n at) ∷ others) (Some e)
-    initial_fails true is new place stores many counted e growth others = item_fails new place stores many counted e growth others
-    initial_fails false is new place stores many counted e growth others = absurd (cc)
-
-    pub initial_answer : (old : Bool) → old ≡ true → ¬ Stands before old n → (place stores : ℕ) → place ≡ length ts → stores ≡ product (map count ts) → (grown : ℕ) → AnswersGrowth place stores (count v.type) at (Ok grown)
-        → (copies : ℕ) → place ≡ length vs + copies → (x : Item) → x ≡ record { initial = old; name = v.name; ty = v.type }
-        → ((others : List ItemTree) (r : Option TypeError) → JudgesItems vs (item old (name n at) ∷ stood) (ts ++ x.ty ∷ []) others r → JudgesItems vs stood ts (item old (name n at) ∷ others) r)
-        × AreItems vs copies (item old (name n at) ∷ []) (i ∷ []) (x ∷ []) (place ∷ [])
-    initial_answer true is new place stores many counted grown growth copies behind x e = rw e (item_initial new place stores many counted grown growth copies behind)
-    initial_answer false is new place stores many counted grown growth copies behind x e = absurd (cc)
+            read : (old : Bool) → old ≡ true → AreItems vs copies (item old (name n at) ∷ []) (i ∷ []) (record { initial = old; name = v.name; ty = v.type } ∷ []) (place ∷ [])
+            read true is =
+                subst (λ p. AreItems vs copies (item true (name n at) ∷ []) (i ∷ []) (record { initial = true; name = v.name; ty = v.type } ∷ []) (p ∷ [])) (sym behind)
+                (subst (λ m. AreItems vs copies (item true (name n at) ∷ []) (i ∷ []) (record { initial = true; name = m; ty = v.type } ∷ []) ((length vs + copies) ∷ [])) (sym called) (becomes.initial at i here becomes.none))
+            read false is = absurd (cc)
 
 -- ---- the loop
 
@@ -141,7 +139,7 @@ pub record ItemsBefore (vs : List Variable) (whole done left : List ItemTree) (c
   pub same : HasSame stood done
   pub carried : List TypeTree
   pub copied : AreCopied vs copies carried
-  pub judged : (r : Option TypeError) → JudgesItems vs stood (types_of vs ++ carried) left r → JudgesItems vs [] (types_of vs) whole r
+  pub judged : (r : Result (List TypeTree) TypeError) → JudgesItems vs stood (types_of vs ++ carried) left r → JudgesItems vs [] (types_of vs) whole r
   pub translated : (cs : List ℕ) (js : List Item) (ss : List ℕ) → AreItems vs (length copies) left cs js ss → AreItems vs 0 whole (copies ++ cs) (is ++ js) (slots ++ ss)
   pub counted : stores ≡ product (map count (types_of vs ++ carried))
   pub few : length vs + length copies ≤ 32
@@ -169,11 +167,11 @@ module _ (vs : List Variable) (whole done left : List ItemTree) (copies : List �
       let ours : length copies ≡ length before.carried = sym (length-map copies (slice_get (types_of vs))) ∙ ap length (sym before.copied) ∙ length-map before.carried Some in
       omega arith
 
-  pub items_fail : (e : TypeError) → ((others : List ItemTree) → JudgesItems vs before.stood (types_of vs ++ before.carried) (i ∷ others) (Some e)) → JudgesItems vs [] (types_of vs) whole (Some e)
-  items_fail e h = before.judged (Some e) (h left)
+  pub items_fail : (e : TypeError) → JudgesItem vs before.stood (types_of vs ++ before.carried) i (Err e) → JudgesItems vs [] (types_of vs) whole (Err e)
+  items_fail e h = before.judged (Err e) (inl h)
 
   pub items_more : (opt : List ℕ) (x : Item) (s after : ℕ)
-      → ((others : List ItemTree) (r : Option TypeError) → JudgesItems vs (i ∷ before.stood) ((types_of vs ++ before.carried) ++ map (λ c. x.ty) opt) others r → JudgesItems vs before.stood (types_of vs ++ before.carried) (i ∷ others) r)
+      → JudgesItem vs before.stood (types_of vs ++ before.carried) i (Ok ((types_of vs ++ before.carried) ++ map (λ c. x.ty) opt))
       × AreItems vs (length copies) (i ∷ []) opt (x ∷ []) (s ∷ [])
       → after ≡ stores * product (map (λ c. count x.ty) opt) → length vs + (length copies + length opt) ≤ 32
       → ItemsBefore vs whole (done ++ i ∷ []) left (copies ++ opt) (is ++ x ∷ []) (slots ++ s ∷ []) after
@@ -187,7 +185,7 @@ module _ (vs : List Variable) (whole done left : List ItemTree) (copies : List �
         same = same_more before.stood done i before.same;
         carried = before.carried ++ more;
         copied = map-append Some before.carried more ∙ (ap (λ os. os ++ map Some more) before.copied ∙ (ap (λ os. map (slice_get (types_of vs)) copies ++ os) (one_copied x h.1) ∙ sym (map-append (slice_get (types_of vs)) copies opt)));
-        judged = λ r j. before.judged r (h.0 left r (subst (λ ts. JudgesItems vs (i ∷ before.stood) ts left r) joined j));
+        judged = λ r j. before.judged r (past (JudgesItem vs before.stood (types_of vs ++ before.carried) i) (λ us. JudgesItems vs (i ∷ before.stood) us left) ((types_of vs ++ before.carried) ++ more) r h.0 (subst (λ ts. JudgesItems vs (i ∷ before.stood) ts left r) joined j));
         translated = λ cs js ss are.
             let ours = before.translated (opt ++ cs) (x ∷ js) (s ∷ ss) (join_items (length (copies ++ opt)) h.1 longer are) in
             subst (λ a. AreItems vs 0 whole a ((is ++ x ∷ []) ++ js) ((slots ++ s ∷ []) ++ ss)) (sym (append_assoc copies opt cs))
@@ -198,10 +196,10 @@ module _ (vs : List Variable) (whole done left : List ItemTree) (copies : List �
         few = omega arith;
       }
 
-pub items_all : (vs : List Variable) (whole done : List ItemTree) (copies : List ℕ) (is : List Item) (slots : List ℕ) (stores : ℕ) → ItemsBefore vs whole done [] copies is slots stores
-    → JudgesItems vs [] (types_of vs) whole None × AreItems vs 0 whole copies is slots
+pub items_all : (vs : List Variable) (whole done : List ItemTree) (copies : List ℕ) (is : List Item) (slots : List ℕ) (stores : ℕ) → (h : ItemsBefore vs whole done [] copies is slots stores)
+    → JudgesItems vs [] (types_of vs) whole (Ok (types_of vs ++ h.carried)) × AreItems vs 0 whole copies is slots
 items_all vs whole done copies is slots stores h = (
-  h.judged None rule.none,
+  h.judged (Ok (types_of vs ++ h.carried)) refl,
   subst (λ a. AreItems vs 0 whole a is slots) (append-nil copies)
       (subst (λ a. AreItems vs 0 whole (copies ++ []) a slots) (append-nil is) (subst (λ a. AreItems vs 0 whole (copies ++ []) (is ++ []) a) (append-nil slots) (h.translated [] [] [] becomes.none))),
 )

@@ -1,7 +1,7 @@
 -- Kinds of lists, and when they are the same.
 use Rattle.std.specs.Prelude.{IsTrue, ◌↔◌}
 use Rattle.std.proofs.Common.{◌≡◌, ℤ, Box, Global, Bool, List, [], ◌∷◌, map, refl, sym, ap, ◌∙◌}
-use Rattle.kf_value.specs.Kinds.{KindTree, KindTrees, TupleKind, SetKind, no_kind, more_kinds, kind_parts}
+use Rattle.kf_value.specs.Kinds.{KindTree, KindTrees, TupleKind, SetKind, no_kind, more_kinds, kind_parts, kind_of, kinds_of}
 use Rattle.kf_value.specs.Types.{TypeTree, type_parts}
 use Rattle.kf_value.specs.declared.ty.Ty.{Ty}
 use Rattle.kf_value.specs.declared.ty.Ty.TheVariants as ty
@@ -9,10 +9,9 @@ use Rattle.kf_value.specs.declared.ty.TyList.{TyList}
 use Rattle.kf_value.specs.declared.kind.Kind.{Kind}
 use Rattle.kf_value.specs.declared.kind.Kind.TheVariants as kind
 use Rattle.kf_value.specs.declared.kind.KindList.{KindList}
-use Rattle.kf_value.specs.Types.{type_tree}
+use Rattle.kf_value.specs.TypeViews.{type_tree}
 use Rattle.kf_value.specs.Views.{kind_tree, kind_trees, type_items, type_trees}
 use Rattle.kf_value.proofs.Trees.{type_tree-Bool, type_tree-Int, type_tree-Tuple, type_tree-Set}
-use Rattle.kf_core.specs.Checked.{kind_of, kinds_of}
 use Rattle.kf_check.proofs.Nodes.{kind_tree-Bool, kind_tree-Int, kind_tree-Tuple, kind_tree-Set}
 
 pub kinds_of-type_parts : (ts : List TypeTree) → kinds_of (type_parts ts) ≡ kind_parts (map kind_of ts)

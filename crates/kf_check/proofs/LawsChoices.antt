@@ -1,35 +1,7 @@
--- Questions that can be settled, and what follows in either case.
-use Rattle.std.proofs.Common.{◌≡◌, ℕ, suc, zero, ◌≤◌, List, [], ◌∷◌, All, Ok, Err, Result, refl, sym, ap, arith}
+-- Questions that can be settled.
+use Rattle.std.proofs.Common.{◌≡◌, ℕ, suc, zero, ◌≤◌, List, [], ◌∷◌, All, refl, arith}
 use Rattle.std.proofs.lemmas.List.Elements.{All-head, All-tail, All-nil, All-cons}
 use Rattle.kf_value.specs.Kinds.{KindTree, KindTrees, TruthKind, WholeKind, TupleKind, SetKind, no_kind, more_kinds}
-
--- one value where it holds, the other where it doesn't
-abbrev pub decided : {P A : Type 0} → Dec P → A → A → A
-decided (yes h) a b = a
-decided (no n) a b = b
-
-pub is_yes : {P A : Type 0} (d : Dec P) (a b : A) → P → decided d a b ≡ a
-is_yes (yes h) a b p = refl
-is_yes (no n) a b p = absurd (n p)
-
-pub is_no : {P A : Type 0} (d : Dec P) (a b : A) → (P → ⊥) → decided d a b ≡ b
-is_no (yes h) a b n = absurd (n h)
-is_no (no m) a b n = refl
-
-pub either_way : {P A : Type 0} (Q : A → Type 0) (d : Dec P) (a b : A) → (P → Q a) → ((P → ⊥) → Q b) → Q (decided d a b)
-either_way Q (yes h) a b f g = f h
-either_way Q (no n) a b f g = g n
-
--- an answer that is asked of another one, or the first broken rule
-abbrev pub after : {A B E : Type 0} → Result A E → (A → Result B E) → Result B E
-after (Ok x) f = f x
-after (Err e) f = Err e
-
-pub after_ok : {A B E : Type 0} {r : Result A E} (f : A → Result B E) (x : A) → Ok x ≡ r → after r f ≡ f x
-after_ok f x h = ap (λ s. after s f) (sym h)
-
-pub after_err : {A B E : Type 0} {r : Result A E} (f : A → Result B E) (e : E) → Err e ≡ r → after r f ≡ Err e
-after_err f e h = ap (λ s. after s f) (sym h)
 
 pub both : {P Q R : Type 0} → Dec P → Dec Q → (P → Q → R) → (R → P) → (R → Q) → Dec R
 both (yes p) (yes q) f g h = yes (f p q)

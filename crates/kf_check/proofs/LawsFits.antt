@@ -5,8 +5,7 @@ use Rattle.kf_value.specs.Kinds.{KindTree, TruthKind, WholeKind, SetKind}
 use Rattle.kf_ops.specs.declared.row.Pat.{Pat}
 use Rattle.kf_ops.specs.declared.row.Pat.TheVariants as pat
 use Rattle.kf_ops.specs.Rows.{Row, operators}
-use Rattle.kf_ops.specs.Fitting.{IsRow}
-use Rattle.kf_core.specs.Checked.{pattern_kind}
+use Rattle.kf_ops.specs.Places.{IsRow, pattern_kind}
 use Rattle.kf_check.specs.Kinds.{Fit}
 use Rattle.kf_check.proofs.LawsChoices.{same_kind, same_list}
 

@@ -1,195 +1,152 @@
--- A well-built source has a program, or a first broken rule.
-use Rattle.std.proofs.Common.{◌≡◌, ℕ, pos, true, false, ◌+◌, List, [], ◌∷◌, ◌++◌, length, map, slice_get, Option, Some, None, Ok, refl, sym, ap, ◌∙◌, subst, ◌⊎◌, inl, inr, append_assoc}
+-- A well-built source has a program, which is checked, or a first broken rule; and one program at most.
+use Rattle.std.proofs.Common.{◌≡◌, ℕ, ◌+◌, ◌≤◌, true, false, List, [], ◌∷◌, length, map, slice_get, Some, None, Ok, Err, Result, refl, sym, ap, ◌∙◌, subst, ◌⊎◌, inl, inr, arith}
 use Rattle.std.specs.List.{range_with_len}
-use Rattle.kf_value.specs.Values as value
-use Rattle.kf_value.specs.Kinds.{KindTree, TruthKind}
 use Rattle.kf_value.specs.Types.{TypeTree}
 use Rattle.kf_value.specs.Targets.{Item}
 use Rattle.kf_ast.specs.Names.{name}
-use Rattle.kf_ast.specs.Exprs.{ExprTree, ExprTrees}
-use Rattle.kf_ast.specs.Dists.{CaseTree, case_of, DistTree}
-use Rattle.kf_ast.specs.Stmts.{StmtTree, StmtTrees, stmts}
-use Rattle.kf_ast.specs.Sources.{DeclTree, declared, ItemTree, SourceTree, source}
-use Rattle.kf_core.specs.Exs.{ExTree, ExTrees, no_exs, more_exs}
-use Rattle.kf_core.specs.Exs as ex
-use Rattle.kf_core.specs.Dxs.{DxCaseTree, DxTree, dx_at}
-use Rattle.kf_core.specs.Dxs as dx
-use Rattle.kf_core.specs.Sts.{StTree, StTrees, no_sts, more_sts, sts, sts_list}
-use Rattle.kf_core.specs.Sts as st
+use Rattle.kf_ast.specs.Stmts.{StmtTree, stmts}
+use Rattle.kf_ast.specs.Sources.{DeclTree, ItemTree, item, SourceTree, source}
 use Rattle.kf_core.specs.Programs.{ProgramTree}
 use Rattle.kf_check.specs.declared.errors.TypeError.{TypeError}
-use Rattle.kf_check.specs.Kinds.{Known, IsKnown, Judges, JudgesAll, JudgesCases, JudgesDist}
-use Rattle.kf_check.specs.Kinds as rule
-use Rattle.kf_check.specs.Statements.{JudgesStmt, JudgesStmts, broken_in}
-use Rattle.kf_check.specs.Statements as rule_of
-use Rattle.kf_check.specs.Sources.{Variable, types_of, known_of, JudgesDecl, JudgesDecls, JudgesItems, JudgesSource, IsBroken}
-use Rattle.kf_check.specs.Sources as source_rule
-use Rattle.kf_check.specs.Translation.{IsVariable, IsEx, AreExs, AreCases, IsDx, IsSt, AreSts, AreDecls, AreItems, IsTarget, Typed, names_of}
-use Rattle.kf_check.specs.Translation as becomes
-use Rattle.kf_check.specs.Laws.{IsWellBuilt, TypedOrBroken}
-use Rattle.kf_check.proofs.Kinding.{asked, unbroken, case_kinds, slice_get-some, sts-sts_list}
-use Rattle.kf_check.proofs.Declared.{grown, named_at, named_first, types_first}
-use Rattle.kf_check.proofs.Checking.{AreCopied, decl_dist, checked}
-use Rattle.kf_check.proofs.LawsItems.{in_at, declared_at}
-use Rattle.kf_check.proofs.LawsSources.{judge_source, source_judged}
+use Rattle.kf_check.specs.declared.errors.TypeError.TheVariants as broken
+use Rattle.kf_check.specs.Statements.{JudgesStmts}
+use Rattle.kf_check.specs.Sources.{Variable, types_of, known_of, JudgesDecls, JudgesItems, JudgesSource, IsBroken}
+use Rattle.kf_check.specs.Translation.{AreItems, IsTarget, Typed, names_of, decl_of, st_of}
+use Rattle.kf_check.specs.Translation as aims
+use Rattle.kf_check.specs.Laws.{IsWellBuilt, TypedOrBroken, OneTyped, CheckedIfTyped}
+use Rattle.kf_check.proofs.Kinding.{Differ, slice_get-some}
+use Rattle.kf_check.proofs.Declared.{none_differ, variables_differ}
+use Rattle.kf_check.proofs.Checking.{checked, listed_built}
+use Rattle.kf_check.proofs.LawsItems.{in_at, one_type}
+use Rattle.kf_check.proofs.One.{one_decls, one_items}
+use Rattle.kf_check.proofs.Some.{some_decls, some_items, some_stmts}
+use Rattle.kf_check.proofs.Programs.{no_variable, broken_decls, broken_target, broken_body, target_types, typed}
 
--- each known name has a place
-abbrev Placed : List Known → List (List ℕ) → Type 0
-Placed known names = (n : List ℕ) (i : ℕ) (k : KindTree) → IsKnown known n i k → IsVariable names n i
+-- ---- a source has a program, or a first broken rule
 
-module _ (known : List Known) (names : List (List ℕ)) (placed : Placed known names) where
-  mutual
-    ex_of : {x : ExprTree} {k : KindTree} → Judges known x (Ok k) → (y : ExTree) × IsEx names x y
-    ex_of (rule.number at n) = (ex.Const (value.Whole (pos n)), becomes.number at n)
-    ex_of (rule.truth at b) = (ex.Const (value.Truth b), becomes.truth at b)
-    ex_of (rule.variable at at' {n} i {k} h) = (ex.Slot i, becomes.variable at at' i (placed n i k h))
-    ex_of (rule.apply at row ks r any js here fit) = let parts = exs_of js in (ex.Apply row parts.0, becomes.apply at row parts.1)
-    ex_of (rule.tuple at js) = let parts = exs_of js in (ex.Tuple parts.0, becomes.tuple at parts.1)
-    ex_of (rule.set at k ks js same) = let parts = exs_of js in (ex.SetOf parts.0, becomes.set at parts.1)
-    ex_of (rule.part at n ks j h) = let whole = ex_of j in (ex.Part whole.0 n, becomes.part at n whole.1)
-
-    exs_of : {xs : ExprTrees} {ks : List KindTree} → JudgesAll known xs (Ok ks) → (ys : ExTrees) × AreExs names xs ys
-    exs_of rule.none = (no_exs, becomes.none)
-    exs_of (rule.more j js) = let first = ex_of j in let rest = exs_of js in (more_exs first.0 rest.0, becomes.more first.1 rest.1)
-
-  cases_of : {k j : KindTree} {cs : List CaseTree} → JudgesCases known k cs (Ok j) → (ds : List DxCaseTree) × AreCases names cs ds
-  cases_of rule.none = ([], becomes.none)
-  cases_of (rule.more {c = case_of x y} c js) =
-      let ours = case_kinds c in
-      let first = ex_of ours.0 in
-      let weight = ex_of ours.1 in
-      let rest = cases_of js in
-      (dx.case_of first.0 weight.0 ∷ rest.0, becomes.more first.1 weight.1 rest.1)
-
-  dx_of : {d : DistTree} {k : KindTree} → JudgesDist known d (Ok k) → (e : DxTree) × IsDx names d e
-  dx_of (rule.sure at j) = let whole = ex_of j in (dx_at at (dx.Sure whole.0), becomes.sure at whole.1)
-  dx_of (rule.uniform_set at j) = let whole = ex_of j in (dx_at at (dx.UniformSet whole.0), becomes.uniform_set at whole.1)
-  dx_of (rule.uniform_range at j l) = let low = ex_of j in let high = ex_of l in (dx_at at (dx.UniformRange low.0 high.0), becomes.uniform_range at low.1 high.1)
-  dx_of (rule.choose at k j js) = let all = cases_of js in (dx_at at (dx.Choose all.0), becomes.choose at all.1)
-  dx_of (rule.flip at num den p q) = (dx_at at (dx.Flip num den), becomes.flip at num den)
-
-  mutual
-    st_of : {x : StmtTree} {o : Option TypeError} → JudgesStmt known x o → o ≡ None → (y : StTree) × IsSt names x y
-    st_of (rule_of.skip at) none = (st.Skip, becomes.skip at)
-    st_of (rule_of.unknown at at' u) none = absurd (cc)
-    st_of (rule_of.assign at at' i {n} k r h asks) none = let d = dx_of (asked k r asks none) in (st.Assign i d.0, becomes.assign at at' i (placed n i k h) d.1)
-    st_of (rule_of.observe at r j) none = let d = dx_of (unbroken r j none).1 in (st.Observe d.0, becomes.observe at d.1)
-    st_of (rule_of.in_if at asks) none = absurd (cc)
-    st_of (rule_of.in_yes at asks js) none = absurd (cc)
-    st_of (rule_of.if_else at asks js ls) none =
-        let d = dx_of (asked TruthKind (Ok TruthKind) asks refl) in
-        let first = sts_of js refl in
-        let second = sts_of ls none in
-        (st.If d.0 first.0 second.0, becomes.if_else at d.1 first.1 second.1)
-    st_of (rule_of.in_while at asks) none = absurd (cc)
-    st_of (rule_of.while at asks js) none = let d = dx_of (asked TruthKind (Ok TruthKind) asks refl) in let body = sts_of js none in (st.While d.0 body.0, becomes.while at d.1 body.1)
-
-    sts_of : {xs : StmtTrees} {o : Option TypeError} → JudgesStmts known xs o → o ≡ None → (ys : StTrees) × AreSts names xs ys
-    sts_of rule_of.none none = (no_sts, becomes.none)
-    sts_of (rule_of.more j js) none = let first = st_of j refl in let rest = sts_of js none in (more_sts first.0 rest.0, becomes.more first.1 rest.1)
-    sts_of (rule_of.at_first j) none = absurd (cc)
-
--- ---- declarations
-
-decls_of : (names : List (List ℕ)) {vs ws : List Variable} {ds : List DeclTree} → JudgesDecls vs ds (Ok ws) → names ≡ names_of ws → (es : List DxTree) × AreDecls names ds es
-decls_of names source_rule.none same = ([], becomes.none)
-decls_of names {vs} {ws} (source_rule.more {d = declared (name n at) y d} v j js) same =
-    let later = grown js in
-    let whole : ws ≡ vs ++ v ∷ later.0 = later.1 ∙ append_assoc vs (v ∷ []) later.0 in
-    let placed : Placed (known_of vs) names = subst (λ ns. Placed (known_of vs) ns) (sym (same ∙ ap names_of whole)) (named_first vs (v ∷ later.0)) in
-    let first = dx_of (known_of vs) names placed (decl_dist v j) in
-    let rest = decls_of names js same in
-    (first.0 ∷ rest.0, becomes.more n at first.1 rest.1)
-
--- ---- targets
-
--- the items of a target, with its carried copies and their types
+-- the items of a target, with its carried copies
 record Carried (vs : List Variable) (copies : ℕ) (items : List ItemTree) : Type 0 where
   places : List ℕ
-  types : List TypeTree
-  aims : List Item
+  found : List Item
   slots : List ℕ
-  are : AreItems vs copies items places aims slots
-  copied : AreCopied vs places types
+  are : AreItems vs copies items places found slots
 
-type_at : (vs : List Variable) (i : ℕ) (n : List ℕ) (t : TypeTree) → slice_get vs i ≡ Some (record { name = n; type = t }) → Some t ≡ slice_get (types_of vs) i
-type_at vs i n t h = sym (slice_get-some (λ v. v.type) vs i (record { name = n; type = t }) h)
+carried : (vs : List Variable) (copies : ℕ) (stood : List ItemTree) (ts : List TypeTree) (items : List ItemTree) (us : List TypeTree) → JudgesItems vs stood ts items (Ok us) → Carried vs copies items
+carried vs copies stood ts [] us j = record { places = []; found = []; slots = []; are = aims.none }
+carried vs copies stood ts (item false (name n at) ∷ others) us j =
+    let here = in_at vs (record { name = n; type = j.1.0 }) j.1.1 in
+    let rest = carried vs copies (item false (name n at) ∷ stood) j.0 others us j.2 in
+    record { places = rest.places; found = record { initial = false; name = n; ty = j.1.0 } ∷ rest.found; slots = here.0 ∷ rest.slots; are = aims.final at here.0 here.1 rest.are }
+carried vs copies stood ts (item true (name n at) ∷ others) us j =
+    let here = in_at vs (record { name = n; type = j.1.0 }) j.1.1 in
+    let rest = carried vs (copies + 1) (item true (name n at) ∷ stood) j.0 others us j.2 in
+    record { places = here.0 ∷ rest.places; found = record { initial = true; name = n; ty = j.1.0 } ∷ rest.found; slots = (length vs + copies) ∷ rest.slots; are = aims.initial at here.0 here.1 rest.are }
 
-items_of : {vs : List Variable} (copies : ℕ) {stood : List ItemTree} {ts : List TypeTree} {items : List ItemTree} {o : Option TypeError} → JudgesItems vs stood ts items o → o ≡ None → Carried vs copies items
-items_of copies source_rule.none none = record { places = []; types = []; aims = []; slots = []; are = becomes.none; copied = refl }
-items_of copies (source_rule.unknown old at u) none = absurd (cc)
-items_of copies (source_rule.twice old at at' i k h stands) none = absurd (cc)
-items_of {vs} copies (source_rule.final at i {n} k h fresh js) none =
-    let found = declared_at vs n i k h in
-    let rest = items_of copies js none in
-    record { places = rest.places; types = rest.types; aims = record { initial = false; name = n; ty = found.0 } ∷ rest.aims; slots = i ∷ rest.slots; are = becomes.final at i found.1 rest.are; copied = rest.copied }
-items_of copies (source_rule.too_many at i k h fresh many) none = absurd (cc)
-items_of copies (source_rule.too_wide at t h fresh few large) none = absurd (cc)
-items_of {vs} copies (source_rule.initial at {n} t h fresh few low js) none =
-    let found = in_at vs (record { name = n; type = t }) h in
-    let rest = items_of (copies + 1) js none in
-    record {
-      places = found.0 ∷ rest.places;
-      types = t ∷ rest.types;
-      aims = record { initial = true; name = n; ty = t } ∷ rest.aims;
-      slots = (length vs + copies) ∷ rest.slots;
-      are = becomes.initial at found.0 found.1 rest.are;
-      copied = ap (λ os. Some t ∷ os) rest.copied ∙ ap (λ o. o ∷ map (slice_get (types_of vs)) rest.places) (type_at vs found.0 n t found.1);
-    }
-
--- the target, with its carried copies and their types
+-- the target, with its carried copies
 record Aimed (vs : List Variable) (items : List ItemTree) : Type 0 where
   places : List ℕ
-  types : List TypeTree
-  aims : List Item
+  found : List Item
   slots : List ℕ
-  is : IsTarget vs items places aims slots
-  copied : AreCopied vs places types
+  is : IsTarget vs items places found slots
 
-target_of : (vs : List Variable) (items : List ItemTree) → Carried vs 0 items → Aimed vs items
-target_of vs [] c = record { places = []; types = []; aims = map (λ v. record { initial = false; name = v.name; ty = v.type }) vs; slots = range_with_len 0 (length vs); is = becomes.all; copied = refl }
-target_of vs (i ∷ items) c = record { places = c.places; types = c.types; aims = c.aims; slots = c.slots; is = becomes.about c.are; copied = c.copied }
+aimed : (vs : List Variable) (items : List ItemTree) → Carried vs 0 items → Aimed vs items
+aimed vs [] c = record { places = []; found = map (λ v. record { initial = false; name = v.name; ty = v.type }) vs; slots = range_with_len 0 (length vs); is = aims.all }
+aimed vs (i ∷ items) c = record { places = c.places; found = c.found; slots = c.slots; is = aims.about c.are }
 
--- ---- programs
+abbrev Ends : SourceTree → Type 0
+Ends s = ((p : ProgramTree) × Typed s p) ⊎ ((e : TypeError) × IsBroken s e)
 
-module _ (ds : List DeclTree) (items : List ItemTree) (xs : List StmtTree) (built : IsWellBuilt (source ds items xs)) (judged : JudgesSource (source ds items xs) None) (vs : List Variable)
-    (js : JudgesDecls [] ds (Ok vs)) (ls : JudgesItems vs [] (types_of vs) items None) (ss : JudgesStmts (known_of vs) (stmts xs) None) where
-  program_of : (es : List DxTree) (aim : Aimed vs items) (ys : StTrees) → AreDecls (names_of vs) ds es → AreSts (names_of vs) (stmts xs) ys → (p : ProgramTree) × Typed (source ds items xs) p
-  program_of es aim ys decls body =
-      let p : ProgramTree = record { types = types_of vs ++ aim.types; decls = es; copies = aim.places; body = sts_list ys; target = aim.aims; target_slots = aim.slots } in
-      let same : AreSts (names_of vs) (stmts xs) (sts (sts_list ys)) = subst (λ zs. AreSts (names_of vs) (stmts xs) zs) (sym (sts-sts_list ys)) body in (
-        p,
-        record {
-          decls = ds;
-          items = items;
-          body = xs;
-          is_source = refl;
-          variables = vs;
-          judged = judged;
-          types = types_first vs aim.types;
-          are_variables = js;
-          are_decls = decls;
-          is_target = aim.is;
-          are_statements = same;
-          checked = checked ds items xs vs aim.types p built js ls ss refl aim.copied decls aim.is same;
-        },
-      )
+module _ (ds : List DeclTree) (items : List ItemTree) (xs : List StmtTree) (built : IsWellBuilt (source ds items xs)) (some : 1 ≤ length ds) where
+  program : (vs : List Variable) (us : List TypeTree) → JudgesDecls [] ds (Ok vs) → JudgesItems vs [] (types_of vs) items (Ok us) → JudgesStmts (known_of vs) (stmts xs) (Ok tt) → Ends (source ds items xs)
+  program vs us js ls ss =
+      let aim = aimed vs items (carried vs 0 [] (types_of vs) items us ls) in
+      let p : ProgramTree = record { types = us; decls = map (decl_of (names_of vs)) ds; copies = aim.places; body = map (st_of (names_of vs)) xs; target = aim.found; target_slots = aim.slots } in
+      inl (p, typed items xs ds some vs js p ls ss refl aim.is refl)
 
-  program : (p : ProgramTree) × Typed (source ds items xs) p
-  program =
-      let decls = decls_of (names_of vs) js refl in
-      let body = sts_of (known_of vs) (names_of vs) (named_at vs) ss refl in
-      program_of decls.0 (target_of vs items (items_of 0 ls refl)) body.0 decls.1 body.1
+  body_ends : (vs : List Variable) (us : List TypeTree) → JudgesDecls [] ds (Ok vs) → JudgesItems vs [] (types_of vs) items (Ok us) → (r : Result (Unit {0}) TypeError) → JudgesStmts (known_of vs) (stmts xs) r → Ends (source ds items xs)
+  body_ends vs us js ls (Ok u) ss = program vs us js ls ss
+  body_ends vs us js ls (Err e) ss = inr (e, broken_body items xs ds some vs js us e ls ss)
 
-typed_where : {s : SourceTree} {o : Option TypeError} → JudgesSource s o → o ≡ None → JudgesSource s None → IsWellBuilt s → (p : ProgramTree) × Typed s p
-typed_where source_rule.no_variable none judged built = absurd (cc)
-typed_where (source_rule.in_declarations js) none judged built = absurd (cc)
-typed_where (source_rule.in_target vs js ls) none judged built = absurd (cc)
-typed_where (source_rule.statements {d = d} {ds = ds} {is = is} {xs = xs} vs js ls ss) none judged built = program (d ∷ ds) is xs built judged vs js ls (subst (λ o. JudgesStmts (known_of vs) (stmts xs) o) none ss)
+  target_ends : (vs : List Variable) → JudgesDecls [] ds (Ok vs) → (r : Result (List TypeTree) TypeError) → JudgesItems vs [] (types_of vs) items r → Ends (source ds items xs)
+  target_ends vs js (Ok us) ls = let last = some_stmts (known_of vs) (stmts xs) (listed_built xs built.1) in body_ends vs us js ls last.0 last.1
+  target_ends vs js (Err e) ls = inr (e, broken_target items xs ds some vs js e ls)
+
+  decls_end : (r : Result (List Variable) TypeError) → JudgesDecls [] ds r → Ends (source ds items xs)
+  decls_end (Ok vs) js = let next = some_items vs [] (types_of vs) items in target_ends vs js next.0 next.1
+  decls_end (Err e) js = inr (e, broken_decls items xs ds some e js)
 
 pub typed_or_broken : TypedOrBroken
-typed_or_broken s built = by (judge_source s) (source_judged s built)
-  where
-    by : (o : Option TypeError) → JudgesSource s o → ((p : ProgramTree) × Typed s p) ⊎ ((e : TypeError) × IsBroken s e)
-    by None j = inl (typed_where j refl j built)
-    by (Some e) j = inr (e, j)
+typed_or_broken (source [] items xs) built = inr (broken.NoVariable 0, no_variable items xs)
+typed_or_broken (source (d ∷ ds) items xs) built = let first = some_decls [] (d ∷ ds) built.0 in decls_end (d ∷ ds) items xs built (omega arith) first.0 first.1
+
+-- ---- a source has one program at most
+
+same_program : (p q : ProgramTree) → p.types ≡ q.types → p.decls ≡ q.decls → p.copies ≡ q.copies → p.body ≡ q.body → p.target ≡ q.target → p.target_slots ≡ q.target_slots → p ≡ q
+same_program p q types decls copies body target slots = λ i. record { types = types i; decls = decls i; copies = copies i; body = body i; target = target i; target_slots = slots i }
+
+module _ (vs : List Variable) (apart : Differ (names_of vs)) where
+  one_place : (n : List ℕ) (i j : ℕ) (t u : TypeTree) → slice_get vs i ≡ Some (record { name = n; type = t }) → slice_get vs j ≡ Some (record { name = n; type = u }) → i ≡ j
+  one_place n i j t u h g = apart n i j (slice_get-some (λ v. v.name) vs i (record { name = n; type = t }) h) (slice_get-some (λ v. v.name) vs j (record { name = n; type = u }) g)
+
+  one_aim : {copies : ℕ} {items : List ItemTree} {cs cs' : List ℕ} {is is' : List Item} {slots slots' : List ℕ} → AreItems vs copies items cs is slots → AreItems vs copies items cs' is' slots' → (cs ≡ cs') × (is ≡ is') × (slots ≡ slots')
+  one_aim aims.none aims.none = (refl, refl, refl)
+  one_aim (aims.final at i {n} {t} {is = is} {slots = slots} h rest) (aims.final at' j {t = u} {is = is'} {slots = slots'} g rest') =
+      let same = one_aim rest rest' in (
+        same.0,
+        ap (λ t. record { initial = false; name = n; ty = t } ∷ is) (one_type vs apart n i j t u h g) ∙ ap (λ is. record { initial = false; name = n; ty = u } ∷ is) same.1,
+        ap (λ i. i ∷ slots) (one_place n i j t u h g) ∙ ap (λ slots. j ∷ slots) same.2,
+      )
+  one_aim {copies} (aims.initial at i {n} {t} {cs = cs} {is = is} h rest) (aims.initial at' j {t = u} {is = is'} g rest') =
+      let same = one_aim rest rest' in (
+        ap (λ i. i ∷ cs) (one_place n i j t u h g) ∙ ap (λ cs. j ∷ cs) same.0,
+        ap (λ t. record { initial = true; name = n; ty = t } ∷ is) (one_type vs apart n i j t u h g) ∙ ap (λ is. record { initial = true; name = n; ty = u } ∷ is) same.1,
+        ap (λ slots. (length vs + copies) ∷ slots) same.2,
+      )
+
+  one_target : {items : List ItemTree} {cs cs' : List ℕ} {is is' : List Item} {slots slots' : List ℕ} → IsTarget vs items cs is slots → IsTarget vs items cs' is' slots' → (cs ≡ cs') × (is ≡ is') × (slots ≡ slots')
+  one_target aims.all aims.all = (refl, refl, refl)
+  one_target (aims.about is) (aims.about js) = one_aim is js
+
+-- programs of the same declarations, target and statements
+same_typed : (ds : List DeclTree) (items : List ItemTree) (xs : List StmtTree) (vs : List Variable) (p q : ProgramTree) → JudgesDecls [] ds (Ok vs)
+    → JudgesItems vs [] (types_of vs) items (Ok p.types) → JudgesItems vs [] (types_of vs) items (Ok q.types) → p.decls ≡ map (decl_of (names_of vs)) ds → q.decls ≡ map (decl_of (names_of vs)) ds
+    → IsTarget vs items p.copies p.target p.target_slots → IsTarget vs items q.copies q.target q.target_slots → p.body ≡ map (st_of (names_of vs)) xs → q.body ≡ map (st_of (names_of vs)) xs → p ≡ q
+same_typed ds items xs vs p q js types types' decls decls' target target' body body' =
+    let apart = variables_differ vs ds js in
+    let aim = one_target vs apart target target' in
+    let all : Ok p.types ≡ Ok q.types = one_items vs apart [] (types_of vs) items (Ok p.types) (Ok q.types) types types' in
+    let same : p.types ≡ q.types = cc in
+    same_program p q same (decls ∙ sym decls') aim.0 (body ∙ sym body') aim.1 aim.2
+
+pub one_typed : OneTyped
+one_typed s p q t u =
+    let whole : source t.decls t.items t.body ≡ source u.decls u.items u.body = sym t.is_source ∙ u.is_source in
+    let ds : u.decls ≡ t.decls = cc in
+    let items : u.items ≡ t.items = cc in
+    let xs : u.body ≡ t.body = cc in
+    let js : JudgesDecls [] t.decls (Ok u.variables) = subst (λ ds. JudgesDecls [] ds (Ok u.variables)) ds u.are_variables in
+    let vs : u.variables ≡ t.variables = (let both : Ok u.variables ≡ Ok t.variables = one_decls [] none_differ t.decls (Ok u.variables) (Ok t.variables) js t.are_variables in cc) in
+    same_typed t.decls t.items t.body t.variables p q t.are_variables t.are_types
+    (subst (λ vs. JudgesItems vs [] (types_of vs) t.items (Ok q.types)) vs (subst (λ is. JudgesItems u.variables [] (types_of u.variables) is (Ok q.types)) items u.are_types))
+    t.are_decls
+    (subst (λ vs. q.decls ≡ map (decl_of (names_of vs)) t.decls) vs (subst (λ ds. q.decls ≡ map (decl_of (names_of u.variables)) ds) ds u.are_decls))
+    t.is_target
+    (subst (λ vs. IsTarget vs t.items q.copies q.target q.target_slots) vs (subst (λ is. IsTarget u.variables is q.copies q.target q.target_slots) items u.is_target))
+    t.are_statements
+    (subst (λ vs. q.body ≡ map (st_of (names_of vs)) t.body) vs (subst (λ xs. q.body ≡ map (st_of (names_of u.variables)) xs) xs u.are_statements))
+
+-- ---- the program of a well-built source is checked
+
+unbroken_body : (ds : List DeclTree) (items : List ItemTree) (xs : List StmtTree) (vs : List Variable) → JudgesDecls [] ds (Ok vs) → JudgesSource (source ds items xs) None → JudgesStmts (known_of vs) (stmts xs) (Ok tt)
+unfolding JudgesSource
+unbroken_body ds items xs vs js h =
+    let both : Ok h.2.0 ≡ Ok vs = one_decls [] none_differ ds (Ok h.2.0) (Ok vs) h.2.1 js in
+    let same : h.2.0 ≡ vs = cc in
+    subst (λ us. JudgesStmts (known_of us) (stmts xs) (Ok tt)) same h.2.2.2
+
+pub checked_if_typed : CheckedIfTyped
+checked_if_typed s p built t =
+    let judged = subst (λ s. JudgesSource s None) t.is_source t.judged in
+    let behind = target_types t.variables (variables_differ t.variables t.decls t.are_variables) t.is_target p.types t.are_types in
+    checked t.decls t.items t.body t.variables behind.0 p (subst IsWellBuilt t.is_source built) t.are_variables t.are_types (unbroken_body t.decls t.items t.body t.variables t.are_variables judged) behind.1 behind.2
+    t.are_decls t.is_target t.are_statements

@@ -8,13 +8,11 @@ pub mod Checking
 mod LawsChoices
 mod LawsFits
 mod LawsKinds
-mod LawsDists
-mod LawsStmts
-mod LawsTypes
-mod LawsDecls
 mod LawsItems
-mod LawsSources
-mod LawsTyped
+mod One
+mod Places
+mod Some
+mod SizesAgree
 mod LawsPrograms
 mod DistRules
 mod RowRules

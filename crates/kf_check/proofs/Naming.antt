@@ -1,18 +1,20 @@
 -- The entries of a map from names to kinds as known variables.
-use Rattle.std.proofs.Common.{◌≡◌, ℕ, Bool, true, false, cond, List, [], ◌∷◌, ◌++◌, map, position, slice_get, get_or, None, Some, String, string_bytes, refl, sym, ap, ◌∙◌, true≢false}
+use Rattle.std.proofs.Common.{◌≡◌, ℕ, Bool, true, false, cond, List, [], ◌∷◌, ◌++◌, map, length, ◌<◌, arith, position, slice_get, get_or, None, Some, String, string_bytes, refl, sym, ap, ◌∙◌, true≢false}
 use Rattle.std.specs.Map.{keys_of, lookup}
 use Rattle.std.specs.Option.{option_map}
 use Rattle.std.specs.Str.{bytes_eq}
 use Rattle.std.specs.String.{string_eq}
 use Rattle.std.proofs.lemmas.List.Elements.{All-nil, All-cons, All-head, All-tail}
 use Rattle.std.proofs.lemmas.List.Quantifiers.{position-Some}
-use Rattle.std.proofs.lemmas.Option.{slice_get-map, get_or_from_slice_get}
+use Rattle.std.proofs.lemmas.Option.{slice_get-map, slice_get-get_or, get_or_from_slice_get}
 use Rattle.std.proofs.lemmas.Slice.Eq.{bytes_eq-Decides}
 use Rattle.std.proofs.lemmas.Bool.{false_from_ne_true}
 use Rattle.indexmap.specs.IndexMap.{insert_entry}
 use Rattle.kf_value.specs.declared.kind.Kind.{Kind}
 use Rattle.kf_value.specs.Views.{kind_tree}
 use Rattle.kf_check.specs.Kinds.{Known, IsKnown, IsUnknown}
+use Rattle.kf_check.specs.Picks.{names_in, IsFound}
+use Rattle.kf_check.proofs.Kinding.{IsVariable, place_first, slice_get-some}
 
 module _ {Z : Type 0} where
   abbrev pub known_by : String Z × Kind → Known
@@ -32,13 +34,32 @@ module _ {Z : Type 0} where
           All-cons (λ v. v.name ≡ n → ⊥) (known_by e) (known_as es)
           (λ same. true≢false (sym ((bytes_eq-Decides n (string_bytes e.0)).1 (sym same)) ∙ is)) (rest none)
 
-  pub known_from_entry : (n : List ℕ) (es : List (String Z × Kind)) (i : ℕ) (key : String Z) (kind : Kind) → slice_get es i ≡ Some (key, kind)
+  known_from_entry : (n : List ℕ) (es : List (String Z × Kind)) (i : ℕ) (key : String Z) (kind : Kind) → slice_get es i ≡ Some (key, kind)
       → Some i ≡ position (λ k. bytes_eq n (string_bytes k)) (keys_of es) → IsKnown (known_as es) n i (kind_tree kind)
   known_from_entry n es i key kind at found =
       let passes = (position-Some (λ k. bytes_eq n (string_bytes k)) (keys_of es) i key (sym found)).1 in
       let here : get_or (keys_of es) i key ≡ key = get_or_from_slice_get (keys_of es) i key key (slice_get-map (λ e. e.0) es i ∙ ap (λ o. option_map (λ e. e.0) o) at) in
       let same : n ≡ string_bytes key = (bytes_eq-Decides n (string_bytes key)).0 (ap (λ k. bytes_eq n (string_bytes k)) (sym here) ∙ passes) in
       slice_get-map known_by es i ∙ (ap (λ o. option_map known_by o) at ∙ ap (λ m. Some (record { name = m; kind = kind_tree kind })) (sym same))
+
+  names_keys : (es : List (String Z × Kind)) → names_in (known_as es) ≡ map string_bytes (keys_of es)
+  names_keys [] = refl
+  names_keys (e ∷ es) = ap (λ ns. string_bytes e.0 ∷ ns) (names_keys es)
+
+  pub found_from_entry : (n : List ℕ) (es : List (String Z × Kind)) (i : ℕ) (key : String Z) (kind : Kind) → slice_get es i ≡ Some (key, kind)
+      → Some i ≡ position (λ k. bytes_eq n (string_bytes k)) (keys_of es) → IsFound (known_as es) n i (kind_tree kind)
+  found_from_entry n es i key kind at found =
+      let known = known_from_entry n es i key kind at found in
+      let first = position-Some (λ k. bytes_eq n (string_bytes k)) (keys_of es) i key (sym found) in
+      (known, place_first (names_in (known_as es)) n i (slice_get-some (λ v. v.name) (known_as es) i (record { name = n; kind = kind_tree kind }) known) (λ k low here. earlier k first.0 low (first.2 k low) here))
+    where
+      earlier : (k : ℕ) → i < length (keys_of es) → k < i → bytes_eq n (string_bytes (get_or (keys_of es) k key)) ≡ false → IsVariable (names_in (known_as es)) n k → ⊥
+      earlier k within low fails here =
+          let read : slice_get (keys_of es) k ≡ Some (get_or (keys_of es) k key) = slice_get-get_or (keys_of es) k key (omega arith) in
+          let there : slice_get (names_in (known_as es)) k ≡ Some (string_bytes (get_or (keys_of es) k key)) = ap (λ ns. slice_get ns k) (names_keys es) ∙ slice_get-map string_bytes (keys_of es) k ∙ ap (option_map string_bytes) read in
+          let both : Some n ≡ Some (string_bytes (get_or (keys_of es) k key)) = sym here ∙ there in
+          let same : n ≡ string_bytes (get_or (keys_of es) k key) = cc in
+          true≢false (sym ((bytes_eq-Decides n (string_bytes (get_or (keys_of es) k key))).1 same) ∙ fails)
 
   pub known_behind : (key : String Z) (kind : Kind) (es : List (String Z × Kind)) → IsUnknown (known_as es) (string_bytes key)
       → known_as (insert_entry string_eq es key kind) ≡ known_as es ++ known_by (key, kind) ∷ []

@@ -8,7 +8,8 @@ use Rattle.kf_value.specs.Views.{kind_tree, kind_trees, kind_items}
 use Rattle.kf_ast.specs.declared.ty_tree.TyTree.{TyTree, the_lemmas as type_lemmas}
 use Rattle.kf_ast.specs.declared.ty_tree.TyNode.TheVariants as ty
 use Rattle.kf_ast.specs.declared.ty_tree.TyTreeList.{TyTreeList}
-use Rattle.kf_ast.specs.TypeForms.{type_at, Boolean, Range, TupleOf, SetOf, types, type_form, ty_items}
+use Rattle.kf_ast.specs.TypeForms.{type_at, Boolean, Range, TupleOf, SetOf, types}
+use Rattle.kf_ast.specs.Views.{type_form, ty_items}
 
 pub kind_tree-Bool : kind_tree kind.Bool ≡ TruthKind
 kind_tree-Bool = search (rules, kind_lemmas)

@@ -8,7 +8,8 @@ use Rattle.std.proofs.lemmas.List.Elements.{All-map, All-tail, All-get_or, All-m
 use Rattle.kf_value.specs.declared.kind.Kind.{Kind}
 use Rattle.kf_value.specs.Kinds.{KindTree, TupleKind, kind_parts}
 use Rattle.kf_value.specs.Views.{kind_tree}
-use Rattle.kf_check.specs.Picks.{IsCommon, HasNoCommon, IsPart, HasNoPart}
+use Rattle.kf_check.specs.Kinds.{IsCommon, IsPart}
+use Rattle.kf_check.specs.Picks.{HasNoCommon, HasNoPart}
 use Rattle.kf_check.proofs.KindLists.{same_parts}
 use Rattle.kf_check.proofs.Each.{mapped_read}
 

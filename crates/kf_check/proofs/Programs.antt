@@ -1,7 +1,6 @@
 -- The program of a source, from its declarations, its target and its statements.
-use Rattle.std.proofs.Common.{◌≡◌, ℕ, ◌^◌, ◌+◌, ◌<◌, ◌≤◌, List, [], ◌∷◌, ◌++◌, map, length, take, slice_get, Some, None, Option, Ok, Err, refl, sym, ap, ◌∙◌, arith, length-append, append-nil}
+use Rattle.std.proofs.Common.{◌≡◌, ℕ, ◌^◌, ◌+◌, ◌<◌, ◌≤◌, List, [], ◌∷◌, ◌++◌, map, length, slice_get, Some, None, Ok, Err, refl, sym, ap, ◌∙◌, arith, length-append, append-nil, inl, inr}
 use Rattle.std.specs.List.{All}
-use Rattle.std.proofs.Math.Seq.{take-append_seam}
 use Rattle.std.proofs.lemmas.List.{length-map}
 use Rattle.std.proofs.lemmas.List.Elements.{All-nil, All-cons}
 use Rattle.std.proofs.lemmas.Option.{slice_get_within}
@@ -9,21 +8,18 @@ use Rattle.kf_value.specs.Types.{TypeTree, count, product}
 use Rattle.kf_value.specs.Targets.{Item}
 use Rattle.kf_ast.specs.Stmts.{StmtTree, stmts}
 use Rattle.kf_ast.specs.Sources.{DeclTree, ItemTree, source}
-use Rattle.kf_core.specs.Sts.{sts}
 use Rattle.kf_core.specs.Programs.{ProgramTree}
 use Rattle.kf_check.specs.declared.errors.TypeError.{TypeError}
 use Rattle.kf_check.specs.Statements.{JudgesStmts}
+use Rattle.kf_check.specs.declared.errors.TypeError.TheVariants as broken
 use Rattle.kf_check.specs.Sources.{Variable, types_of, known_of, JudgesDecls, JudgesItems, JudgesSource, IsBroken}
-use Rattle.kf_check.specs.Sources as rule
-use Rattle.kf_check.specs.Translation.{AreDecls, AreItems, AreSts, IsTarget, Typed, names_of}
+use Rattle.kf_check.specs.Translation.{AreItems, IsTarget, Typed, names_of, decl_of, st_of}
 use Rattle.kf_check.specs.Translation as becomes
-use Rattle.kf_check.specs.Laws.{IsWellBuilt}
 use Rattle.kf_check.specs.Variables.{AreDeclared, AreCopied}
-use Rattle.kf_check.proofs.Kinding.{slice_get-some}
+use Rattle.kf_check.proofs.Kinding.{Differ, slice_get-some, same_ok}
 use Rattle.kf_check.proofs.Declared.{variables_differ, counted}
-use Rattle.kf_check.proofs.Checking.{checked}
 use Rattle.kf_check.proofs.DeclFacts.{facts_of}
-use Rattle.kf_check.proofs.TargetSizes.{IsBounded, copies_bounded}
+use Rattle.kf_check.proofs.TargetSizes.{IsBounded, no_types, copies_bounded, types_behind}
 
 -- ---- carried copies
 
@@ -55,54 +51,68 @@ fits_by vs cs within some bounded =
     let low = ours.0 in
     record { within = within; few = omega arith; narrow = λ types copied. (bounded types copied).1 }
 
-no_copies : (types : List TypeTree) → ◌≡◌ {A = List (Option TypeTree)} (map Some types) [] → types ≡ []
-no_copies [] h = refl
-no_copies (t ∷ ts) h = (cc)
+pub fits_shape : {vs : List Variable} {items : List ItemTree} {cs : List ℕ} {is : List Item} {slots : List ℕ} → AreDeclared vs → IsTarget vs items cs is slots → (us : List TypeTree) → JudgesItems vs [] (types_of vs) items (Ok us) → FitsShape vs cs
+fits_shape {vs} declared becomes.all us j =
+    let facts = facts_of vs declared in
+    fits_by vs [] (All-nil (λ c. c < length vs)) ([], refl) (λ types copied. rw (no_types types copied, append-nil (types_of vs)) (facts.few, facts.fits))
+fits_shape {vs} {cs = cs} declared (becomes.about are) us j =
+    let facts = facts_of vs declared in
+    fits_by vs cs (each_within are) (copied_types are) (λ types copied. copies_bounded vs (variables_differ vs declared.0 declared.2) are [] (types_of vs) us j types copied (facts.few, facts.fits))
 
-pub fits_shape : {vs : List Variable} {items : List ItemTree} {cs : List ℕ} {is : List Item} {slots : List ℕ} → AreDeclared vs → JudgesItems vs [] (types_of vs) items None → IsTarget vs items cs is slots → FitsShape vs cs
-fits_shape {vs} declared j becomes.all =
-    let facts = facts_of vs declared in
-    fits_by vs [] (All-nil (λ c. c < length vs)) ([], refl) (λ types copied. rw (no_copies types copied, append-nil (types_of vs)) (facts.few, facts.fits))
-fits_shape {vs} {cs = cs} declared j (becomes.about are) =
-    let facts = facts_of vs declared in
-    fits_by vs cs (each_within are) (copied_types are) (λ types copied. copies_bounded vs (variables_differ declared.2) j are types copied (facts.few, facts.fits))
+-- the types behind a target
+pub target_types : (vs : List Variable) → Differ (names_of vs) → {items : List ItemTree} {cs : List ℕ} {is : List Item} {slots : List ℕ} → IsTarget vs items cs is slots → (us : List TypeTree) → JudgesItems vs [] (types_of vs) items (Ok us)
+    → (types : List TypeTree) × (us ≡ types_of vs ++ types) × AreCopied vs cs types
+target_types vs apart becomes.all us j = ([], same_ok us (types_of vs) j ∙ sym (append-nil (types_of vs)), refl)
+target_types vs apart (becomes.about are) us j = types_behind vs apart are [] (types_of vs) us j
+
+-- the copies have these types and no others
+pub one_copied : (ts us : List TypeTree) → map Some ts ≡ map Some us → ts ≡ us
+one_copied [] [] h = refl
+one_copied [] (u ∷ us) h = absurd (cc)
+one_copied (t ∷ ts) [] h = absurd (cc)
+one_copied (t ∷ ts) (u ∷ us) h = let first : t ≡ u = cc in let rest : ts ≡ us = one_copied ts us (cc) in (cc)
 
 -- ---- whole sources
 
-pub some_variables : {vs : List Variable} {ds : List DeclTree} → JudgesDecls [] ds (Ok vs) → 1 ≤ length ds → 1 ≤ length vs
-some_variables j some = let many = counted j in omega arith
+pub some_variables : (vs : List Variable) (ds : List DeclTree) → JudgesDecls [] ds (Ok vs) → 1 ≤ length ds → 1 ≤ length vs
+some_variables vs ds j some = let many = counted [] vs ds j in omega arith
 
-module _ (items : List ItemTree) (xs : List StmtTree) (e : TypeError) where
-  pub broken_decls : (ds : List DeclTree) → 1 ≤ length ds → JudgesDecls [] ds (Err e) → IsBroken (source ds items xs) e
-  broken_decls [] some j = absurd (omega arith)
-  broken_decls (d ∷ ds) some j = rule.in_declarations j
+module _ (items : List ItemTree) (xs : List StmtTree) where
+  pub no_variable : IsBroken (source [] items xs) (broken.NoVariable 0)
+  unfolding JudgesSource
+  no_variable = inl (λ u q. (let some = q.0 in omega arith), refl)
 
-  pub broken_target : (ds : List DeclTree) (vs : List Variable) → 1 ≤ length ds → JudgesDecls [] ds (Ok vs) → JudgesItems vs [] (types_of vs) items (Some e) → IsBroken (source ds items xs) e
-  broken_target [] vs some j is = absurd (omega arith)
-  broken_target (d ∷ ds) vs some j is = rule.in_target vs j is
+  module _ (ds : List DeclTree) (some : 1 ≤ length ds) where
+    pub broken_decls : (e : TypeError) → JudgesDecls [] ds (Err e) → IsBroken (source ds items xs) e
+    unfolding JudgesSource
+    broken_decls e j = inr (ds, (some, refl), inl j)
 
-  pub broken_body : (ds : List DeclTree) (vs : List Variable) → 1 ≤ length ds → JudgesDecls [] ds (Ok vs) → JudgesItems vs [] (types_of vs) items None → JudgesStmts (known_of vs) (stmts xs) (Some e) → IsBroken (source ds items xs) e
-  broken_body [] vs some j is ss = absurd (omega arith)
-  broken_body (d ∷ ds) vs some j is ss = rule.statements vs j is ss
+    module _ (vs : List Variable) (j : JudgesDecls [] ds (Ok vs)) where
+      pub broken_target : (e : TypeError) → JudgesItems vs [] (types_of vs) items (Err e) → IsBroken (source ds items xs) e
+      unfolding JudgesSource
+      broken_target e is = inr (ds, (some, refl), inr (vs, j, inl is))
 
-whole_judged : (ds : List DeclTree) (items : List ItemTree) (xs : List StmtTree) (vs : List Variable) → 1 ≤ length ds → JudgesDecls [] ds (Ok vs) → JudgesItems vs [] (types_of vs) items None → JudgesStmts (known_of vs) (stmts xs) None → JudgesSource (source ds items xs) None
-whole_judged [] items xs vs some j is ss = absurd (omega arith)
-whole_judged (d ∷ ds) items xs vs some j is ss = rule.statements vs j is ss
+      pub broken_body : (ts : List TypeTree) (e : TypeError) → JudgesItems vs [] (types_of vs) items (Ok ts) → JudgesStmts (known_of vs) (stmts xs) (Err e) → IsBroken (source ds items xs) e
+      unfolding JudgesSource
+      broken_body ts e is ss = inr (ds, (some, refl), inr (vs, j, inr (ts, is, ss)))
 
-pub typed : (ds : List DeclTree) (items : List ItemTree) (xs : List StmtTree) (vs : List Variable) (types : List TypeTree) (p : ProgramTree) → IsWellBuilt (source ds items xs) → 1 ≤ length ds
-    → JudgesDecls [] ds (Ok vs) × AreDecls (names_of vs) ds p.decls → JudgesItems vs [] (types_of vs) items None × IsTarget vs items p.copies p.target p.target_slots
-    → JudgesStmts (known_of vs) (stmts xs) None × AreSts (names_of vs) (stmts xs) (sts p.body) → p.types ≡ types_of vs ++ types → AreCopied vs p.copies types → Typed (source ds items xs) p
-typed ds items xs vs types p built some decls target body whole copied = record {
-  decls = ds;
-  items = items;
-  body = xs;
-  is_source = refl;
-  variables = vs;
-  judged = whole_judged ds items xs vs some decls.0 target.0 body.0;
-  types = ap (λ n. take n p.types) (sym (length-map vs (λ v. v.type))) ∙ (ap (λ ts. take (length (types_of vs)) ts) whole ∙ take-append_seam (types_of vs) types);
-  are_variables = decls.0;
-  are_decls = decls.1;
-  is_target = target.1;
-  are_statements = body.1;
-  checked = checked ds items xs vs types p built decls.0 target.0 body.0 whole copied decls.1 target.1 body.1;
-}
+      pub unbroken : (ts : List TypeTree) → JudgesItems vs [] (types_of vs) items (Ok ts) → JudgesStmts (known_of vs) (stmts xs) (Ok tt) → JudgesSource (source ds items xs) None
+      unfolding JudgesSource
+      unbroken ts is ss = (ds, (some, refl), (vs, j, (ts, is, ss)))
+
+      -- this is the source's program
+      pub typed : (p : ProgramTree) → JudgesItems vs [] (types_of vs) items (Ok p.types) → JudgesStmts (known_of vs) (stmts xs) (Ok tt) → p.decls ≡ map (decl_of (names_of vs)) ds
+          → IsTarget vs items p.copies p.target p.target_slots → p.body ≡ map (st_of (names_of vs)) xs → Typed (source ds items xs) p
+      typed p is ss decls target body = record {
+        decls = ds;
+        items = items;
+        body = xs;
+        is_source = refl;
+        judged = unbroken p.types is ss;
+        variables = vs;
+        are_variables = j;
+        are_types = is;
+        are_decls = decls;
+        is_target = target;
+        are_statements = body;
+      }

@@ -11,11 +11,12 @@ use Rattle.kf_value.specs.Views.{kind_tree, kind_trees}
 use Rattle.kf_ops.specs.declared.row.Pat.{Pat}
 use Rattle.kf_ops.specs.declared.row.Pat.TheVariants as pat
 use Rattle.kf_ops.specs.declared.row.OpRow.{OpRow}
-use Rattle.kf_ops.specs.Rows.{Row, operators, row_of, rows_of}
-use Rattle.kf_ops.specs.Fitting.{IsRow, Takes}
-use Rattle.kf_core.specs.Checked.{pattern_kind}
-use Rattle.kf_check.specs.Kinds.{Fit}
-use Rattle.kf_check.specs.Picks.{IsResult, HasNoResult}
+use Rattle.kf_ops.specs.Rows.{Row, operators}
+use Rattle.kf_ops.specs.Views.{row_of, rows_of}
+use Rattle.kf_ops.specs.Fitting.{Takes}
+use Rattle.kf_ops.specs.Places.{IsRow, pattern_kind}
+use Rattle.kf_check.specs.Kinds.{Fit, IsResult}
+use Rattle.kf_check.specs.Picks.{HasNoResult}
 use Rattle.kf_check.proofs.Each.{mapped_read}
 use Rattle.kf_check.proofs.Nodes.{kind_tree-Bool, kind_tree-Int, kind_tree-Tuple, kind_tree-Set}
 

@@ -1,5 +1,5 @@
 -- No two items of a target are read from one variable.
-use Rattle.std.proofs.Common.{◌≡◌, ℕ, suc, zero, ◌+◌, ◌<◌, ◌≤◌, true, false, List, [], ◌∷◌, length, slice_get, get_or, Some, None, refl, sym, ap, ◌∙◌, subst, arith, inl, inr, ◌⊎◌, Contains}
+use Rattle.std.proofs.Common.{◌≡◌, ℕ, suc, zero, ◌+◌, ◌<◌, ◌≤◌, true, false, List, [], ◌∷◌, length, slice_get, get_or, Some, Ok, refl, sym, ap, ◌∙◌, subst, arith, inl, inr, ◌⊎◌, Contains}
 use Rattle.std.proofs.lemmas.List.Elements.{Contains-append_right}
 use Rattle.std.proofs.lemmas.List.FromFn.{get_or-range_with_len, length-range_with_len}
 use Rattle.std.proofs.lemmas.Option.{slice_get_within, get_or_from_slice_get}
@@ -8,8 +8,7 @@ use Rattle.kf_value.specs.Types.{TypeTree}
 use Rattle.kf_value.specs.Targets.{Item}
 use Rattle.kf_ast.specs.Names.{name}
 use Rattle.kf_ast.specs.Sources.{ItemTree, item}
-use Rattle.kf_check.specs.Sources.{Variable, types_of, JudgesItems}
-use Rattle.kf_check.specs.Sources as rule
+use Rattle.kf_check.specs.Sources.{Variable, JudgesItems}
 use Rattle.kf_check.specs.Translation.{AreItems, IsTarget}
 use Rattle.kf_check.specs.Translation as becomes
 use Rattle.kf_check.specs.SourceAnswers.{Stands}
@@ -67,15 +66,15 @@ module _ (vs : List Variable) where
           new ours.0 ours.1
 
   -- each item is read from a variable that is free behind those that stood
-  slots_free : {stood : List ItemTree} {ts : List TypeTree} {items : List ItemTree} {copies : ℕ} {cs : List ℕ} {is : List Item} {slots : List ℕ} → JudgesItems vs stood ts items None → AreItems vs copies items cs is slots
+  slots_free : {items : List ItemTree} {copies : ℕ} {cs : List ℕ} {is : List Item} {slots : List ℕ} → AreItems vs copies items cs is slots → (stood : List ItemTree) (ts us : List TypeTree) → JudgesItems vs stood ts items (Ok us)
       → (m slot : ℕ) → slice_get slots m ≡ Some slot → IsFree stood copies slot
-  slots_free rule.none becomes.none m slot h = absurd (cc)
-  slots_free {stood = stood} {copies = copies} (rule.final at i {n} k known new js) (becomes.final at' i' {t = t} found are) zero slot h = final_free stood copies i' slot (record { name = n; type = t }) found new h
-  slots_free {stood = stood} {copies = copies} (rule.final at i {n} k known new js) (becomes.final at' i' found are) (suc m) slot h =
-      free_before (item false (name n at)) stood copies copies slot (omega arith) (slots_free js are m slot h)
-  slots_free {copies = copies} (rule.initial at t inside new few narrow js) (becomes.initial at' i' found are) zero slot h = let here : length vs + copies ≡ slot = cc in inr (omega arith)
-  slots_free {stood = stood} {copies = copies} (rule.initial at {n} t inside new few narrow js) (becomes.initial at' i' found are) (suc m) slot h =
-      free_before (item true (name n at)) stood copies (copies + 1) slot (omega arith) (slots_free js are m slot h)
+  slots_free becomes.none stood ts us j m slot h = absurd (cc)
+  slots_free {copies = copies} (becomes.final at i {n} {t} found are) stood ts us j zero slot h = final_free stood copies i slot (record { name = n; type = t }) found j.1.2.1.0 h
+  slots_free {copies = copies} (becomes.final at i {n} found are) stood ts us j (suc m) slot h =
+      free_before (item false (name n at)) stood copies copies slot (omega arith) (slots_free are (item false (name n at) ∷ stood) j.0 us j.2 m slot h)
+  slots_free {copies = copies} (becomes.initial at i found are) stood ts us j zero slot h = let here : length vs + copies ≡ slot = cc in inr (omega arith)
+  slots_free {copies = copies} (becomes.initial at i {n} found are) stood ts us j (suc m) slot h =
+      free_before (item true (name n at)) stood copies (copies + 1) slot (omega arith) (slots_free are (item true (name n at) ∷ stood) j.0 us j.2 m slot h)
 
   -- the variable of an item behind the last statement isn't free behind it
   final_taken : (stood : List ItemTree) (copies i slot at : ℕ) (v : Variable) → slice_get vs i ≡ Some v → i ≡ slot → IsFree (item false (name v.name at) ∷ stood) copies slot → ⊥
@@ -88,14 +87,15 @@ module _ (vs : List Variable) where
   initial_taken stood copies slot same (inr h) = omega arith
 
   -- items that break no rule are read from different variables
-  items_apart : {stood : List ItemTree} {ts : List TypeTree} {items : List ItemTree} {copies : ℕ} {cs : List ℕ} {is : List Item} {slots : List ℕ} → JudgesItems vs stood ts items None → AreItems vs copies items cs is slots → AreApart slots
-  items_apart rule.none becomes.none = λ j k slot h g. absurd (cc)
-  items_apart {stood = stood} {copies = copies} (rule.final at i {n} k known new js) (becomes.final at' i' {t = t} {slots = slots} found are) =
-      apart_more i' slots (λ m slot h same. final_taken stood copies i' slot at (record { name = n; type = t }) found same (slots_free js are m slot h)) (items_apart js are)
-  items_apart {stood = stood} {copies = copies} (rule.initial at {n} t inside new few narrow js) (becomes.initial at' i' {slots = slots} found are) =
-      apart_more (length vs + copies) slots (λ m slot h same. initial_taken (item true (name n at) ∷ stood) copies slot same (slots_free js are m slot h)) (items_apart js are)
+  items_apart : {items : List ItemTree} {copies : ℕ} {cs : List ℕ} {is : List Item} {slots : List ℕ} → AreItems vs copies items cs is slots → (stood : List ItemTree) (ts us : List TypeTree) → JudgesItems vs stood ts items (Ok us)
+      → AreApart slots
+  items_apart becomes.none stood ts us j = λ j k slot h g. absurd (cc)
+  items_apart {copies = copies} (becomes.final at i {n} {t} {slots = slots} found are) stood ts us j =
+      apart_more i slots (λ m slot h same. final_taken stood copies i slot at (record { name = n; type = t }) found same (slots_free are (item false (name n at) ∷ stood) j.0 us j.2 m slot h)) (items_apart are (item false (name n at) ∷ stood) j.0 us j.2)
+  items_apart {copies = copies} (becomes.initial at i {n} {slots = slots} found are) stood ts us j =
+      apart_more (length vs + copies) slots (λ m slot h same. initial_taken (item true (name n at) ∷ stood) copies slot same (slots_free are (item true (name n at) ∷ stood) j.0 us j.2 m slot h)) (items_apart are (item true (name n at) ∷ stood) j.0 us j.2)
 
 -- the items of a target that breaks no rule are read from different variables
-pub target_apart : {vs : List Variable} {items : List ItemTree} {cs : List ℕ} {is : List Item} {slots : List ℕ} → JudgesItems vs [] (types_of vs) items None → IsTarget vs items cs is slots → AreApart slots
-target_apart {vs} js becomes.all = places_apart (length vs)
-target_apart {vs} js (becomes.about are) = items_apart vs js are
+pub target_apart : (vs : List Variable) (ts : List TypeTree) {items : List ItemTree} {cs : List ℕ} {is : List Item} {slots : List ℕ} → IsTarget vs items cs is slots → (us : List TypeTree) → JudgesItems vs [] ts items (Ok us) → AreApart slots
+target_apart vs ts becomes.all us j = places_apart (length vs)
+target_apart vs ts (becomes.about are) us j = items_apart vs are [] ts us j

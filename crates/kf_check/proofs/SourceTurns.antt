@@ -1,6 +1,6 @@
 -- What the check of a whole source shows of its parts.
 use Rattle.std.specs.Bool.{◌==◌}
-use Rattle.std.proofs.Common.{◌≡◌, ℕ, ◌^◌, ◌+◌, ◌<◌, ◌≤◌, Bool, true, false, List, [], ◌∷◌, ◌++◌, map, length, None, Ok, sym, ◌∙◌, subst, arith}
+use Rattle.std.proofs.Common.{◌≡◌, ℕ, ◌^◌, ◌+◌, ◌<◌, ◌≤◌, Bool, true, false, List, [], ◌∷◌, ◌++◌, map, length, Ok, Err, sym, ap, ◌∙◌, subst, arith}
 use Rattle.std.specs.List.{All}
 use Rattle.std.proofs.lemmas.Bool.{eqb-true}
 use Rattle.std.proofs.lemmas.List.{length-map}
@@ -9,32 +9,33 @@ use Rattle.kf_value.specs.Targets.{Item}
 use Rattle.kf_ops.specs.Fitting.{Takes}
 use Rattle.kf_ast.specs.declared.decl.Decl.{Decl}
 use Rattle.kf_ast.specs.Built.{AreDeclsBuilt}
-use Rattle.kf_ast.specs.Stmts.{StmtTree, StmtTrees}
-use Rattle.kf_ast.specs.Sources.{DeclTree, decl_tree, ItemTree, source}
-use Rattle.kf_core.specs.Sts.{StTrees}
+use Rattle.kf_ast.specs.Stmts.{StmtTree, StmtTrees, stmts}
+use Rattle.kf_ast.specs.Sources.{DeclTree, ItemTree, source}
+use Rattle.kf_ast.specs.Views.{decl_tree}
+use Rattle.kf_core.specs.Sts.{StTree}
+use Rattle.kf_check.specs.declared.errors.TypeError.{TypeError}
 use Rattle.kf_check.specs.declared.errors.TypeError.TheVariants as broken
 use Rattle.kf_check.specs.declared.variables.Variable as code
 use Rattle.kf_check.specs.Kinds.{Known}
 use Rattle.kf_check.specs.Statements.{JudgesStmts}
 use Rattle.kf_check.specs.Sources.{Variable, types_of, known_of, JudgesDecls, JudgesItems, IsBroken}
-use Rattle.kf_check.specs.Sources as rule
-use Rattle.kf_check.specs.Translation.{AreSts, IsTarget, names_of}
-use Rattle.kf_check.specs.Answers.{names_in}
+use Rattle.kf_check.specs.Translation.{IsTarget, names_of, st_of}
+use Rattle.kf_check.specs.Picks.{names_in}
 use Rattle.kf_check.specs.Variables.{variable_of, AreCopied}
 use Rattle.kf_check.proofs.Declared.{names_of_known}
-use Rattle.kf_check.proofs.Programs.{fits_shape, some_variables}
+use Rattle.kf_check.proofs.Programs.{fits_shape, some_variables, no_variable, one_copied}
 
 -- a source without declarations declares no variable
 pub none_declared : (ds : List Decl) (items : List ItemTree) (xs : List StmtTree) (b : Bool) → b ≡ (length ds == 0) → b ≡ true → IsBroken (source (map decl_tree ds) items xs) (broken.NoVariable 0)
-none_declared [] items xs b is empty = rule.no_variable
+none_declared [] items xs b is empty = no_variable items xs
 none_declared (d ∷ ds) items xs b is empty = let zero : length (d ∷ ds) ≡ 0 = eqb-true (length (d ∷ ds)) 0 (sym is ∙ empty) in absurd (omega arith)
 
 pub some_declared : (ds : List Decl) (b : Bool) → b ≡ (length ds == 0) → b ≡ false → 1 ≤ length (map decl_tree ds)
 some_declared [] b is full = absurd (cc)
 some_declared (d ∷ ds) b is full = omega arith
 
-pub some_code : (ws : List code.Variable) {ds : List DeclTree} → JudgesDecls [] ds (Ok (map variable_of ws)) → 1 ≤ length ds → 1 ≤ length ws
-some_code ws j some = subst (λ n. 1 ≤ n) (length-map ws variable_of) (some_variables j some)
+pub some_code : (ws : List code.Variable) (ds : List DeclTree) → JudgesDecls [] ds (Ok (map variable_of ws)) → 1 ≤ length ds → 1 ≤ length ws
+some_code ws ds j some = subst (λ n. 1 ≤ n) (length-map ws variable_of) (some_variables (map variable_of ws) ds j some)
 
 -- what a shape of these variables and copies asks for
 pub record FitsVariables (ws : List code.Variable) (cs : List ℕ) : Type 0 where
@@ -42,10 +43,11 @@ pub record FitsVariables (ws : List code.Variable) (cs : List ℕ) : Type 0 wher
   pub few : length ws + length cs ≤ 32
   pub narrow : (types : List TypeTree) → AreCopied (map variable_of ws) cs types → product (map count (types_of (map variable_of ws) ++ types)) ≤ 2 ^ 63
 
-pub fits_variables : (ws : List code.Variable) {ds : List DeclTree} {items : List ItemTree} {cs : List ℕ} {is : List Item} {slots : List ℕ} → AreDeclsBuilt Takes ds → JudgesDecls [] ds (Ok (map variable_of ws))
-    → JudgesItems (map variable_of ws) [] (types_of (map variable_of ws)) items None × IsTarget (map variable_of ws) items cs is slots → FitsVariables ws cs
-fits_variables ws {ds = ds} {cs = cs} built j target =
-    let fits = fits_shape (ds, built, j) target.0 target.1 in
+pub fits_variables : (ws : List code.Variable) (ds : List DeclTree) {items : List ItemTree} {cs : List ℕ} {is : List Item} {slots : List ℕ} → AreDeclsBuilt Takes ds → JudgesDecls [] ds (Ok (map variable_of ws))
+    → (types : List TypeTree) × JudgesItems (map variable_of ws) [] (types_of (map variable_of ws)) items (Ok (types_of (map variable_of ws) ++ types)) × AreCopied (map variable_of ws) cs types × IsTarget (map variable_of ws) items cs is slots
+    → FitsVariables ws cs
+fits_variables ws ds {cs = cs} built j target =
+    let fits = fits_shape (ds, built, j) target.3 (types_of (map variable_of ws) ++ target.0) target.1 in
     record {
       within = subst (λ n. All (λ c. c < n) cs) (length-map ws variable_of) fits.within;
       few = subst (λ n. n + length cs ≤ 32) (length-map ws variable_of) fits.few;
@@ -53,5 +55,19 @@ fits_variables ws {ds = ds} {cs = cs} built j target =
     }
 
 -- statements stand behind the declared variables
-pub stmts_declared : (vs : List Variable) (known : List Known) (xs : StmtTrees) (ys : StTrees) → known ≡ known_of vs → JudgesStmts known xs None × AreSts (names_in known) xs ys → JudgesStmts (known_of vs) xs None × AreSts (names_of vs) xs ys
-stmts_declared vs known xs ys same h = (subst (λ k. JudgesStmts k xs None) same h.0, subst (λ ns. AreSts ns xs ys) (names_of_known vs) (subst (λ k. AreSts (names_in k) xs ys) same h.1))
+pub stmts_declared : (vs : List Variable) (known : List Known) (xs : List StmtTree) (ys : List StTree) → known ≡ known_of vs → JudgesStmts known (stmts xs) (Ok tt) × (ys ≡ map (st_of (names_in known)) xs)
+    → JudgesStmts (known_of vs) (stmts xs) (Ok tt) × (ys ≡ map (st_of (names_of vs)) xs)
+stmts_declared vs known xs ys same h = (
+  subst (λ k. JudgesStmts k (stmts xs) (Ok tt)) same h.0,
+  h.1 ∙ ap (λ k. map (st_of (names_in k)) xs) same ∙ ap (λ names. map (st_of names) xs) (names_of_known vs),
+)
+
+pub stmts_broken : (vs : List Variable) (known : List Known) (xs : StmtTrees) (e : TypeError) → known ≡ known_of vs → JudgesStmts known xs (Err e) → JudgesStmts (known_of vs) xs (Err e)
+stmts_broken vs known xs e same h = subst (λ k. JudgesStmts k xs (Err e)) same h
+
+-- the types of all variables are those of the shape
+pub all_types : (vs : List Variable) (items : List ItemTree) (cs : List ℕ) (whole types : List TypeTree) → whole ≡ types_of vs ++ types → AreCopied vs cs types
+    → (others : List TypeTree) → JudgesItems vs [] (types_of vs) items (Ok (types_of vs ++ others)) → AreCopied vs cs others → JudgesItems vs [] (types_of vs) items (Ok whole)
+all_types vs items cs whole types is copied others j too =
+    let same : types ≡ others = one_copied types others (copied ∙ sym too) in
+    subst (λ us. JudgesItems vs [] (types_of vs) items (Ok us)) (sym (is ∙ ap (λ us. types_of vs ++ us) same)) j

@@ -2,7 +2,8 @@
 use Rattle.std.proofs.Common.{◌≡◌, ℕ, suc, zero, ◌<◌, Bool, List, [], ◌∷◌, length, map, get_or, Some, ap, ◌∙◌, arith, ⊎_elim, Contains}
 use Rattle.std.proofs.lemmas.List.Elements.{Contains-append_cases}
 use Rattle.kf_ast.specs.Names.{name}
-use Rattle.kf_ast.specs.Sources.{ItemTree, item, item_tree}
+use Rattle.kf_ast.specs.Sources.{ItemTree, item}
+use Rattle.kf_ast.specs.Views.{item_tree}
 use Rattle.kf_ast.specs.declared.decl.Item.{Item}
 use Rattle.kf_check.specs.SourceAnswers.{Stands}
 use Rattle.kf_check.proofs.Each.{mapped_read}

@@ -1,7 +1,5 @@
 -- What checking a statement gives, form by form, and a turn of the loop over statements.
-use Rattle.std.proofs.Common.{◌≡◌, ◌≢◌, ℕ, List, [], ◌∷◌, ◌++◌, map, Option, Some, None, Result, Ok, Err, sym, ap, ◌∙◌, subst, rules, append_assoc, append-nil}
-use Rattle.std.specs.Option.{option_map}
-use Rattle.std.proofs.lemmas.Option.{slice_get-map}
+use Rattle.std.proofs.Common.{◌≡◌, ◌≢◌, ℕ, List, [], ◌∷◌, ◌++◌, map, Result, Ok, Err, inl, inr, refl, sym, ap, ◌∙◌, subst, rules, append_assoc, append-nil}
 use Rattle.std.proofs.lemmas.List.{map-append}
 use Rattle.kf_value.specs.declared.kind.Kind.{the_lemmas as kind_lemmas}
 use Rattle.kf_value.specs.declared.kind.Kind.TheVariants as kind
@@ -13,25 +11,26 @@ use Rattle.kf_ast.specs.declared.dist.Dist.{Dist}
 use Rattle.kf_ast.specs.declared.stmt.Stmt.{Stmt, the_lemmas}
 use Rattle.kf_ast.specs.declared.stmt.StmtList.{StmtList}
 use Rattle.kf_ast.specs.declared.stmt.StmtNode.TheVariants as node
-use Rattle.kf_ast.specs.Names.{name_tree}
-use Rattle.kf_ast.specs.Dists.{dist_tree}
-use Rattle.kf_ast.specs.Stmts.{StmtTree, stmt_at, Skip, Assign, Observe, If, While, stmts, stmt_tree, stmt_items}
+use Rattle.kf_ast.specs.Views.{name_tree, dist_tree, stmt_tree, stmt_items}
+use Rattle.kf_ast.specs.Stmts.{StmtTree, stmt_at, Skip, Assign, Observe, If, While, stmts}
 use Rattle.kf_ast.specs.Built.{IsStmtBuilt, AreStmtsBuilt, AreListedBuilt}
 use Rattle.kf_core.specs.declared.dx.Dx.{Dx}
 use Rattle.kf_core.specs.declared.st.St.{St, the_lemmas as st_lemmas}
 use Rattle.kf_core.specs.declared.st.St.TheVariants as code
 use Rattle.kf_core.specs.declared.st.StList.{StList}
-use Rattle.kf_core.specs.Dxs.{dx_tree}
-use Rattle.kf_core.specs.Sts.{StTree, sts, st_tree, st_items}
+use Rattle.kf_core.specs.Views.{dx_tree, st_tree, st_items}
+use Rattle.kf_core.specs.Sts.{StTree, sts}
 use Rattle.kf_core.specs.Sts as st
 use Rattle.kf_check.specs.declared.errors.TypeError.{TypeError}
 use Rattle.kf_check.specs.declared.errors.TypeError.TheVariants as broken
-use Rattle.kf_check.specs.Kinds.{Known, IsKnown, IsUnknown, JudgesDist, AsksDist}
+use Rattle.kf_check.specs.Kinds.{Known, IsUnknown, JudgesDist, AsksDist}
 use Rattle.kf_check.specs.Statements.{JudgesStmt, JudgesStmts}
-use Rattle.kf_check.specs.Statements as rule
-use Rattle.kf_check.specs.Translation.{IsVariable, IsDx, IsSt, AreSts}
-use Rattle.kf_check.specs.Translation as becomes
-use Rattle.kf_check.specs.Answers.{names_in, AnswersAskedDx}
+use Rattle.kf_check.specs.Translation.{place_of, dx_of, st_of, sts_of}
+use Rattle.kf_check.proofs.Judging.{past}
+use Rattle.kf_check.proofs.Kinding.{sts_of_all}
+use Rattle.kf_check.proofs.LawsKinds.{not_unknown}
+use Rattle.kf_check.specs.Answers.{AnswersAskedDx}
+use Rattle.kf_check.specs.Picks.{names_in, IsFound}
 use Rattle.kf_check.specs.SourceAnswers.{AnswersSt, AnswersSts}
 
 -- ---- the tree of each form
@@ -92,95 +91,119 @@ module _ (known : List Known) where
   answers_as xs ys r same h = subst (λ zs. AnswersSts known (map stmt_tree zs) r) same h
 
   -- the answer is this error
-  pub failing : (x : StmtTree) (r : Result St TypeError) (e : TypeError) → r ≡ Err e → (e ≢ broken.Mem → JudgesStmt known x (Some e)) → AnswersSt known x r
+  pub failing : (x : StmtTree) (r : Result St TypeError) (e : TypeError) → r ≡ Err e → (e ≢ broken.Mem → JudgesStmt known x (Err e)) → AnswersSt known x r
   failing x r e is h = subst (AnswersSt known x) (sym is) h
 
-  pub failing_all : (xs : List StmtTree) (r : Result StList TypeError) (e : TypeError) → r ≡ Err e → (e ≢ broken.Mem → JudgesStmts known (stmts xs) (Some e)) → AnswersSts known xs r
+  pub failing_all : (xs : List StmtTree) (r : Result StList TypeError) (e : TypeError) → r ≡ Err e → (e ≢ broken.Mem → JudgesStmts known (stmts xs) (Err e)) → AnswersSts known xs r
   failing_all xs r e is h = subst (AnswersSts known xs) (sym is) h
 
-  named : (n : List ℕ) (i : ℕ) (k : KindTree) → IsKnown known n i k → IsVariable (names_in known) n i
-  named n i k h = slice_get-map (λ v. v.name) known i ∙ ap (option_map (λ v. v.name)) h
+  -- a tree that is shown to be another
+  as_shown : (x y : StmtTree) → x ≡ y → (e : TypeError) → JudgesStmt known y (Err e) → JudgesStmt known x (Err e)
+  as_shown x y same e h = subst (λ z. JudgesStmt known z (Err e)) (sym same) h
+
+  made : (x y : StmtTree) (s : St) (z : StTree) → x ≡ y → st_tree s ≡ z → JudgesStmt known y (Ok tt) → z ≡ st_of (names_in known) y → AnswersSt known x (Ok s)
+  made x y s z same code h is = (subst (λ w. JudgesStmt known w (Ok tt)) (sym same) h, code ∙ is ∙ sym (ap (st_of (names_in known)) same))
 
   -- ---- each form of statement
 
   pub skip : (s : Stmt) → s.node ≡ node.Skip → AnswersSt known (stmt_tree s) (Ok code.Skip)
-  skip s is = rw (tree-Skip s is, code-Skip) (rule.skip s.at, becomes.skip s.at)
+  skip s is = made (stmt_tree s) (stmt_at s.at Skip) code.Skip st.Skip (tree-Skip s is) code-Skip refl refl
 
-  pub unknown : (s : Stmt) (n : Ident) (d : Dist) (text : List ℕ) → s.node ≡ node.Assign n d → text ≡ n.text → IsUnknown known text → JudgesStmt known (stmt_tree s) (Some (broken.Unknown n.at))
-  unknown s n d text is reads h = rw (tree-Assign s n d is) (rule.unknown s.at n.at (subst (IsUnknown known) reads h))
+  module _ (s : Stmt) (n : Ident) (d : Dist) (text : List ℕ) (is : s.node ≡ node.Assign n d) (reads : text ≡ n.text) where
+    abbrev assigned : StmtTree
+    assigned = stmt_at s.at (Assign (name_tree n) (dist_tree d))
 
-  module _ (s : Stmt) (n : Ident) (d : Dist) (text : List ℕ) (i : ℕ) (k : KindTree) (is : s.node ≡ node.Assign n d) (reads : text ≡ n.text) (found : IsKnown known text i k) where
-    here : IsKnown known n.text i k
-    here = subst (λ t. IsKnown known t i k) reads found
+    pub unknown : IsUnknown known text → JudgesStmt known (stmt_tree s) (Err (broken.Unknown n.at))
+    unknown h = let unheard = subst (IsUnknown known) reads h in as_shown (stmt_tree s) assigned (tree-Assign s n d is) (broken.Unknown n.at) (inl (λ k g. not_unknown known n.text g.0 k g.1 unheard, refl))
 
-    pub assign_fails : (e : TypeError) → (e ≢ broken.Mem → AsksDist known k (dist_tree d) (Err e)) → e ≢ broken.Mem → JudgesStmt known (stmt_tree s) (Some e)
-    assign_fails e h other = rw (tree-Assign s n d is) (rule.assign s.at n.at i k (Err e) here (h other))
+    module _ (i : ℕ) (k : KindTree) (found : IsFound known text i k) where
+      here : IsFound known n.text i k
+      here = subst (λ t. IsFound known t i k) reads found
 
-    pub assign : (x : Dx) → AnswersAskedDx known k (dist_tree d) (Ok x) → AnswersSt known (stmt_tree s) (Ok (code.Assign i x))
-    assign x h = rw (tree-Assign s n d is, code-Assign i x) (rule.assign s.at n.at i k (Ok k) here h.0, becomes.assign s.at n.at i (named n.text i k here) h.1)
+      pub assign_fails : (e : TypeError) → (e ≢ broken.Mem → AsksDist known k (dist_tree d) (Err e)) → e ≢ broken.Mem → JudgesStmt known (stmt_tree s) (Err e)
+      assign_fails e h other = as_shown (stmt_tree s) assigned (tree-Assign s n d is) e (inr (k, (i, here.0), inl (h other)))
+
+      pub assign : (x : Dx) → AnswersAskedDx known k (dist_tree d) (Ok x) → AnswersSt known (stmt_tree s) (Ok (code.Assign i x))
+      assign x h =
+          made (stmt_tree s) assigned (code.Assign i x) (st.Assign i (dx_tree x)) (tree-Assign s n d is) (code-Assign i x) (k, (i, here.0), (k, h.0, refl))
+          (ap (λ j. st.Assign j (dx_tree x)) (sym here.1) ∙ ap (λ e. st.Assign (place_of (names_in known) n.text) e) h.1)
 
   module _ (s : Stmt) (d : Dist) (is : s.node ≡ node.Observe d) where
-    pub observe_fails : (e : TypeError) → (e ≢ broken.Mem → JudgesDist known (dist_tree d) (Err e)) → e ≢ broken.Mem → JudgesStmt known (stmt_tree s) (Some e)
-    observe_fails e h other = rw (tree-Observe s d is) (rule.observe s.at (Err e) (h other))
+    pub observe_fails : (e : TypeError) → (e ≢ broken.Mem → JudgesDist known (dist_tree d) (Err e)) → e ≢ broken.Mem → JudgesStmt known (stmt_tree s) (Err e)
+    observe_fails e h other = as_shown (stmt_tree s) (stmt_at s.at (Observe (dist_tree d))) (tree-Observe s d is) e (inl (h other))
 
-    pub observe : (x : Dx) (k : KindTree) → JudgesDist known (dist_tree d) (Ok k) × IsDx (names_in known) (dist_tree d) (dx_tree x) → AnswersSt known (stmt_tree s) (Ok (code.Observe x))
-    observe x k h = rw (tree-Observe s d is, code-Observe x) (rule.observe s.at (Ok k) h.0, becomes.observe s.at h.1)
+    pub observe : (x : Dx) (k : KindTree) → JudgesDist known (dist_tree d) (Ok k) × (dx_tree x ≡ dx_of (names_in known) (dist_tree d)) → AnswersSt known (stmt_tree s) (Ok (code.Observe x))
+    observe x k h = made (stmt_tree s) (stmt_at s.at (Observe (dist_tree d))) (code.Observe x) (st.Observe (dx_tree x)) (tree-Observe s d is) (code-Observe x) (k, h.0, refl) (ap st.Observe h.1)
+
+  -- a block becomes what its statements become
+  block : (xs : List StmtTree) (ys : List StTree) → ys ≡ map (st_of (names_in known)) xs → sts ys ≡ sts_of (names_in known) (stmts xs)
+  block xs ys h = ap sts h ∙ sts_of_all (names_in known) xs
 
   module _ (s : Stmt) (d : Dist) (xs ys : StmtList) (is : s.node ≡ node.If d xs ys) (k : KindTree) (truth : k ≡ TruthKind) where
-    pub if_fails : (e : TypeError) → (e ≢ broken.Mem → AsksDist known k (dist_tree d) (Err e)) → e ≢ broken.Mem → JudgesStmt known (stmt_tree s) (Some e)
-    if_fails e h other = rw (tree-If s d xs ys is) (rule.in_if s.at (subst (λ j. AsksDist known j (dist_tree d) (Err e)) truth (h other)))
+    abbrev branched : StmtTree
+    branched = stmt_at s.at (If (dist_tree d) (stmts (map stmt_tree (stmt_items xs))) (stmts (map stmt_tree (stmt_items ys))))
+
+    pub if_fails : (e : TypeError) → (e ≢ broken.Mem → AsksDist known k (dist_tree d) (Err e)) → e ≢ broken.Mem → JudgesStmt known (stmt_tree s) (Err e)
+    if_fails e h other = as_shown (stmt_tree s) branched (tree-If s d xs ys is) e (inl (subst (λ j. AsksDist known j (dist_tree d) (Err e)) truth (h other)))
 
     module _ (x : Dx) (guard : AnswersAskedDx known k (dist_tree d) (Ok x)) where
       if_guard : AsksDist known TruthKind (dist_tree d) (Ok TruthKind)
       if_guard = subst (λ j. AsksDist known j (dist_tree d) (Ok j)) truth guard.0
 
-      pub yes_fails : (e : TypeError) → AnswersSts known (map stmt_tree (stmt_items xs)) (Err e) → e ≢ broken.Mem → JudgesStmt known (stmt_tree s) (Some e)
-      yes_fails e h other = rw (tree-If s d xs ys is) (rule.in_yes s.at if_guard (h other))
+      pub yes_fails : (e : TypeError) → AnswersSts known (map stmt_tree (stmt_items xs)) (Err e) → e ≢ broken.Mem → JudgesStmt known (stmt_tree s) (Err e)
+      yes_fails e h other = as_shown (stmt_tree s) branched (tree-If s d xs ys is) e (inr (TruthKind, if_guard, inl (h other)))
 
       module _ (us : StList) (yes : AnswersSts known (map stmt_tree (stmt_items xs)) (Ok us)) where
-        pub no_fails : (e : TypeError) → AnswersSts known (map stmt_tree (stmt_items ys)) (Err e) → e ≢ broken.Mem → JudgesStmt known (stmt_tree s) (Some e)
-        no_fails e h other = rw (tree-If s d xs ys is) (rule.if_else s.at if_guard yes.0 (h other))
+        pub no_fails : (e : TypeError) → AnswersSts known (map stmt_tree (stmt_items ys)) (Err e) → e ≢ broken.Mem → JudgesStmt known (stmt_tree s) (Err e)
+        no_fails e h other = as_shown (stmt_tree s) branched (tree-If s d xs ys is) e (inr (TruthKind, if_guard, inr (tt, yes.0, h other)))
 
         pub if_else : (vs : StList) → AnswersSts known (map stmt_tree (stmt_items ys)) (Ok vs) → AnswersSt known (stmt_tree s) (Ok (code.If x us vs))
-        if_else vs h = rw (tree-If s d xs ys is, code-If x us vs) (rule.if_else s.at if_guard yes.0 h.0, becomes.if_else s.at guard.1 yes.1 h.1)
+        if_else vs h =
+            let first = block (map stmt_tree (stmt_items xs)) (map st_tree (st_items us)) yes.1 in
+            let second = block (map stmt_tree (stmt_items ys)) (map st_tree (st_items vs)) h.1 in
+            made (stmt_tree s) branched (code.If x us vs) (st.If (dx_tree x) (sts (map st_tree (st_items us))) (sts (map st_tree (st_items vs)))) (tree-If s d xs ys is) (code-If x us vs) (TruthKind, if_guard, (tt, yes.0, h.0))
+            (ap (λ e. st.If e (sts (map st_tree (st_items us))) (sts (map st_tree (st_items vs)))) guard.1 ∙ ap (λ a. st.If (dx_of (names_in known) (dist_tree d)) a (sts (map st_tree (st_items vs)))) first
+            ∙ ap (λ b. st.If (dx_of (names_in known) (dist_tree d)) (sts_of (names_in known) (stmts (map stmt_tree (stmt_items xs)))) b) second)
 
   module _ (s : Stmt) (d : Dist) (xs : StmtList) (is : s.node ≡ node.While d xs) (k : KindTree) (truth : k ≡ TruthKind) where
-    pub while_fails : (e : TypeError) → (e ≢ broken.Mem → AsksDist known k (dist_tree d) (Err e)) → e ≢ broken.Mem → JudgesStmt known (stmt_tree s) (Some e)
-    while_fails e h other = rw (tree-While s d xs is) (rule.in_while s.at (subst (λ j. AsksDist known j (dist_tree d) (Err e)) truth (h other)))
+    abbrev looped : StmtTree
+    looped = stmt_at s.at (While (dist_tree d) (stmts (map stmt_tree (stmt_items xs))))
+
+    pub while_fails : (e : TypeError) → (e ≢ broken.Mem → AsksDist known k (dist_tree d) (Err e)) → e ≢ broken.Mem → JudgesStmt known (stmt_tree s) (Err e)
+    while_fails e h other = as_shown (stmt_tree s) looped (tree-While s d xs is) e (inl (subst (λ j. AsksDist known j (dist_tree d) (Err e)) truth (h other)))
 
     module _ (x : Dx) (guard : AnswersAskedDx known k (dist_tree d) (Ok x)) where
       while_guard : AsksDist known TruthKind (dist_tree d) (Ok TruthKind)
       while_guard = subst (λ j. AsksDist known j (dist_tree d) (Ok j)) truth guard.0
 
-      pub body_fails : (e : TypeError) → AnswersSts known (map stmt_tree (stmt_items xs)) (Err e) → e ≢ broken.Mem → JudgesStmt known (stmt_tree s) (Some e)
-      body_fails e h other = rw (tree-While s d xs is) (rule.while s.at while_guard (h other))
+      pub body_fails : (e : TypeError) → AnswersSts known (map stmt_tree (stmt_items xs)) (Err e) → e ≢ broken.Mem → JudgesStmt known (stmt_tree s) (Err e)
+      body_fails e h other = as_shown (stmt_tree s) looped (tree-While s d xs is) e (inr (TruthKind, while_guard, h other))
 
       pub while : (us : StList) → AnswersSts known (map stmt_tree (stmt_items xs)) (Ok us) → AnswersSt known (stmt_tree s) (Ok (code.While x us))
-      while us h = rw (tree-While s d xs is, code-While x us) (rule.while s.at while_guard h.0, becomes.while s.at guard.1 h.1)
+      while us h =
+          made (stmt_tree s) looped (code.While x us) (st.While (dx_tree x) (sts (map st_tree (st_items us)))) (tree-While s d xs is) (code-While x us) (TruthKind, while_guard, h.0)
+          (ap (λ e. st.While e (sts (map st_tree (st_items us)))) guard.1 ∙ ap (λ a. st.While (dx_of (names_in known) (dist_tree d)) a) (block (map stmt_tree (stmt_items xs)) (map st_tree (st_items us)) h.1))
 
   -- ---- the loop
 
   -- the statements that are done break no rule, and are these in the program
   pub record DoneBefore (whole left : List StmtTree) (done : List StTree) : Type 0 where
-    pub judged : (r : Option TypeError) → JudgesStmts known (stmts left) r → JudgesStmts known (stmts whole) r
-    pub translated : (us : List StTree) → AreSts (names_in known) (stmts left) (sts us) → AreSts (names_in known) (stmts whole) (sts (done ++ us))
+    pub judged : (r : Result (Unit {0}) TypeError) → JudgesStmts known (stmts left) r → JudgesStmts known (stmts whole) r
+    pub translated : done ++ map (st_of (names_in known)) left ≡ map (st_of (names_in known)) whole
     pub built : AreListedBuilt Takes left
 
-  pub done_none : (whole : List StmtTree) → AreListedBuilt Takes whole → DoneBefore whole whole []
-  done_none whole built = record { judged = λ r h. h; translated = λ us h. h; built = built }
-
   module _ (whole left : List StmtTree) (done : List St) (x : StmtTree) (before : DoneBefore whole (x ∷ left) (map st_tree done)) where
-    pub done_fails : (e : TypeError) → (e ≢ broken.Mem → JudgesStmt known x (Some e)) → e ≢ broken.Mem → JudgesStmts known (stmts whole) (Some e)
-    done_fails e h other = before.judged (Some e) (rule.at_first (h other))
+    pub done_fails : (e : TypeError) → (e ≢ broken.Mem → JudgesStmt known x (Err e)) → e ≢ broken.Mem → JudgesStmts known (stmts whole) (Err e)
+    done_fails e h other = before.judged (Err e) (inl (h other))
 
     pub done_more : (y : St) → AnswersSt known x (Ok y) → DoneBefore whole left (map st_tree (done ++ y ∷ []))
     done_more y h =
         let listed : map st_tree (done ++ y ∷ []) ≡ map st_tree done ++ st_tree y ∷ [] = map-append st_tree done (y ∷ []) in
         rw listed (record {
-          judged = λ r j. before.judged r (rule.more h.0 j);
-          translated = λ us t. subst (λ zs. AreSts (names_in known) (stmts whole) (sts zs)) (sym (append_assoc (map st_tree done) (st_tree y ∷ []) us)) (before.translated (st_tree y ∷ us) (becomes.more h.1 t));
+          judged = λ r j. before.judged r (past (JudgesStmt known x) (λ _. JudgesStmts known (stmts left)) tt r h.0 j);
+          translated = append_assoc (map st_tree done) (st_tree y ∷ []) (map (st_of (names_in known)) left) ∙ (ap (λ z. map st_tree done ++ z ∷ map (st_of (names_in known)) left) h.1 ∙ before.translated);
           built = before.built.1;
         })
 
-  pub done_all : (whole : List StmtTree) (done : List StTree) → DoneBefore whole [] done → JudgesStmts known (stmts whole) None × AreSts (names_in known) (stmts whole) (sts done)
-  done_all whole done h = (h.judged None rule.none, subst (λ zs. AreSts (names_in known) (stmts whole) (sts zs)) (append-nil done) (h.translated [] becomes.none))
+  pub done_all : (whole : List StmtTree) (done : List StTree) → DoneBefore whole [] done → JudgesStmts known (stmts whole) (Ok tt) × (done ≡ map (st_of (names_in known)) whole)
+  done_all whole done h = (h.judged (Ok tt) refl, sym (append-nil done) ∙ h.translated)

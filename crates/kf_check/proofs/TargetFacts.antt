@@ -1,19 +1,21 @@
 -- What holds of a target that breaks no rule: its types have sizes and are well formed, and its values are counted.
-use Rattle.std.proofs.Common.{◌≡◌, ℕ, suc, zero, ◌*◌, ◌^◌, ◌+◌, ◌≤◌, Bool, true, false, ◌&&◌, List, [], ◌∷◌, ◌++◌, map, slice_get, Some, None, refl, sym, ap, ◌∙◌, subst, arith}
+use Rattle.std.proofs.Common.{◌≡◌, ℕ, suc, zero, ◌*◌, ◌^◌, ◌+◌, ◌≤◌, Bool, true, false, ◌&&◌, List, [], ◌∷◌, ◌++◌, map, slice_get, Some, None, Ok, refl, sym, ap, ◌∙◌, subst, arith}
 use Rattle.std.specs.List.{All, list_all}
 use Rattle.std.proofs.lemmas.List.{map-append}
 use Rattle.std.proofs.lemmas.List.Elements.{All-nil, All-cons}
 use Rattle.std.proofs.lemmas.Option.{slice_get_within, get_or_from_slice_get}
 use Rattle.kf_value.specs.declared.target_item.TargetItem.{TargetItem}
-use Rattle.kf_value.specs.Types.{TypeTree, count, product, HasSize, fault_of, well_formed}
-use Rattle.kf_value.specs.Targets.{Item, item_of, target_size}
+use Rattle.kf_value.specs.Types.{TypeTree, count, product}
+use Rattle.kf_value.specs.Sizes.{HasSize, fault_of, well_formed}
+use Rattle.kf_value.specs.Targets.{Item}
+use Rattle.kf_value.specs.Numbers.{target_size}
+use Rattle.kf_value.specs.TypeViews.{item_of}
 use Rattle.kf_ast.specs.Sources.{ItemTree}
 use Rattle.kf_check.specs.Sources.{Variable, types_of, JudgesItems}
-use Rattle.kf_check.specs.Translation.{AreItems, names_of}
+use Rattle.kf_check.specs.Translation.{AreItems}
 use Rattle.kf_check.specs.Translation as becomes
-use Rattle.kf_check.specs.Variables.{AreDeclared}
+use Rattle.kf_check.specs.Variables.{AreDeclared, AreCopied}
 use Rattle.kf_check.specs.SourceAnswers.{as_items}
-use Rattle.kf_check.proofs.Checking.{AreCopied}
 use Rattle.kf_check.proofs.Kinding.{slice_get-some}
 use Rattle.kf_check.proofs.Declared.{variables_differ}
 use Rattle.kf_check.proofs.DeclFacts.{facts_of}
@@ -61,13 +63,13 @@ joined_product ts us = ap product (map-append count ts us) ∙ product-append (m
 
 -- ---- a target of items
 
-pub items_suit : (vs : List Variable) → AreDeclared vs → (items : List ItemTree) (cs : List ℕ) (slots : List ℕ) (types : List TypeTree) (xs : List TargetItem) → JudgesItems vs [] (types_of vs) items None → AreItems vs 0 items cs (map item_of xs) slots
+pub items_suit : (vs : List Variable) → AreDeclared vs → (items : List ItemTree) (cs : List ℕ) (slots : List ℕ) (types : List TypeTree) (xs : List TargetItem) (us : List TypeTree) → JudgesItems vs [] (types_of vs) items (Ok us) → AreItems vs 0 items cs (map item_of xs) slots
     → AreCopied vs cs types → Suits xs
-items_suit vs declared items cs slots types xs j are copied =
+items_suit vs declared items cs slots types xs us j are copied =
     let facts = facts_of vs declared in
-    let apart = variables_differ declared.2 in
-    let bounded = copies_bounded vs apart j are types copied (facts.few, facts.fits) in
-    let low = target_low vs apart facts.valued j are (λ i. false) (λ i v at passes. absurd (cc)) types copied in
+    let apart = variables_differ vs declared.0 declared.2 in
+    let bounded = copies_bounded vs apart are [] (types_of vs) us j types copied (facts.few, facts.fits) in
+    let low = target_low vs apart facts.valued are [] (types_of vs) us j (λ i. false) (λ i v at passes. absurd (cc)) types copied in
     record {
       formed = items_formed vs xs facts.formed (items_of_variables are);
       sized = items_sized vs xs facts.sized (items_of_variables are);

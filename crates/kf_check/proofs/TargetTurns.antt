@@ -1,21 +1,22 @@
 -- The turns of the loops that build a target.
 use Rattle.std.specs.Prelude.{option_to_list}
-use Rattle.std.proofs.Common.{◌≡◌, ◌≢◌, ℕ, suc, ◌+◌, ◌*◌, ◌-◌, ◌<◌, ◌≤◌, false, List, [], ◌∷◌, ◌++◌, length, map, take, drop, get_or, Some, None, Result, Ok, Err, refl, sym, ap, ◌∙◌, subst, arith, append_assoc}
+use Rattle.std.proofs.Common.{◌≡◌, ◌≢◌, ℕ, suc, ◌+◌, ◌*◌, ◌-◌, ◌<◌, ◌≤◌, false, List, [], ◌∷◌, ◌++◌, length, map, take, drop, get_or, Result, Ok, Err, refl, sym, ap, ◌∙◌, subst, arith, append_assoc, append-nil, slice_get}
 use Rattle.std.specs.List.{range_with_len}
 use Rattle.std.proofs.lemmas.List.{length-map, map-append, take_more}
 use Rattle.kf_value.specs.declared.target_item.TargetItem.{TargetItem}
 use Rattle.kf_value.specs.Types.{TypeTree, count, product}
-use Rattle.kf_value.specs.Targets.{Item, item_of}
-use Rattle.kf_ast.specs.Sources.{ItemTree, item_tree}
+use Rattle.kf_value.specs.Targets.{Item}
+use Rattle.kf_value.specs.TypeViews.{item_of}
+use Rattle.kf_ast.specs.Sources.{ItemTree}
+use Rattle.kf_ast.specs.Views.{item_tree}
 use Rattle.kf_ast.specs.declared.decl.Item as code
 use Rattle.kf_check.specs.declared.errors.TypeError.{TypeError}
 use Rattle.kf_check.specs.declared.errors.TypeError.TheVariants as broken
 use Rattle.kf_check.specs.declared.items.ReadItem.{ReadItem}
 use Rattle.kf_check.specs.Sources.{Variable, types_of, JudgesItems}
-use Rattle.kf_check.specs.Sources as rule
 use Rattle.kf_check.specs.Translation.{AreItems, IsTarget}
 use Rattle.kf_check.specs.Translation as becomes
-use Rattle.kf_check.specs.Variables.{AreDeclared}
+use Rattle.kf_check.specs.Variables.{AreDeclared, AreCopied}
 use Rattle.kf_check.specs.SourceAnswers.{AnswersItem, HasSame, as_items}
 use Rattle.kf_check.proofs.Left.{left_step, left_end}
 use Rattle.kf_check.proofs.ItemTurns.{ItemsBefore, items_many, items_fail, items_more, items_all}
@@ -32,9 +33,11 @@ pub all_many : (vs : List Variable) (xs : List Item) → xs ≡ as_items vs → 
 all_many vs xs same = ap length same ∙ length-map vs (λ v. record { initial = false; name = v.name; ty = v.type })
 
 pub all_answer : (vs : List Variable) (xs : List Item) (copies slots : List ℕ) (n : ℕ) → xs ≡ as_items vs → copies ≡ [] → slots ≡ range_with_len 0 n → n ≡ length vs
-    → JudgesItems vs [] (types_of vs) [] None × IsTarget vs [] copies xs slots
+    → (types : List TypeTree) × JudgesItems vs [] (types_of vs) [] (Ok (types_of vs ++ types)) × AreCopied vs copies types × IsTarget vs [] copies xs slots
 all_answer vs xs copies slots n same none reads many = (
-  rule.none,
+  [],
+  ap Ok (append-nil (types_of vs)),
+  ap (map (slice_get (types_of vs))) (sym none),
   subst (λ cs. IsTarget vs [] cs xs slots) (sym none)
       (subst (λ is. IsTarget vs [] [] is slots) (sym same) (subst (λ ss. IsTarget vs [] [] (as_items vs) ss) (sym (reads ∙ ap (range_with_len 0) many)) becomes.all)),
 )
@@ -69,7 +72,7 @@ module _ (vs : List Variable) (xs : List code.Item) (i : ℕ) (copies slots : Li
         at here.stood (types_of vs ++ here.carried) here.same
         (items_many vs (map item_tree xs) (map item_tree (take i xs)) (map item_tree (drop (i + 1) xs)) copies (map item_of js) slots stores (item_tree x) here) here.counted
 
-    pub item_breaks : (e : TypeError) → Given vs (map item_tree (take i xs)) n stores (item_tree x) (Err e) → e ≢ broken.Mem → JudgesItems vs [] (types_of vs) (map item_tree xs) (Some e)
+    pub item_breaks : (e : TypeError) → Given vs (map item_tree (take i xs)) n stores (item_tree x) (Err e) → e ≢ broken.Mem → JudgesItems vs [] (types_of vs) (map item_tree xs) (Err e)
     item_breaks e given other =
         items_fail vs (map item_tree xs) (map item_tree (take i xs)) (map item_tree (drop (i + 1) xs)) copies (map item_of js) slots stores (item_tree x) here e (answer (Err e) given other)
 
@@ -82,16 +85,17 @@ module _ (vs : List Variable) (xs : List code.Item) (i : ℕ) (copies slots : Li
         (subst (λ is. ItemsBefore vs (map item_tree xs) (map item_tree (take i xs) ++ item_tree x ∷ []) (map item_tree (drop (i + 1) xs)) (copies ++ option_to_list r.copied) is (slots ++ r.slot ∷ []) r.stores) (sym (map-append item_of js (r.item ∷ []))) after)
 
   module _ (past : length xs ≤ i) where
-    done : JudgesItems vs [] (types_of vs) (map item_tree xs) None × AreItems vs 0 (map item_tree xs) copies (map item_of js) slots
-    done =
-        items_all vs (map item_tree xs) (map item_tree (take i xs)) copies (map item_of js) slots stores
-        (subst (λ left. ItemsBefore vs (map item_tree xs) (map item_tree (take i xs)) left copies (map item_of js) slots stores) (left_end item_tree xs i past) before)
+    last : ItemsBefore vs (map item_tree xs) (map item_tree (take i xs)) [] copies (map item_of js) slots stores
+    last = subst (λ left. ItemsBefore vs (map item_tree xs) (map item_tree (take i xs)) left copies (map item_of js) slots stores) (left_end item_tree xs i past) before
+
+    done : JudgesItems vs [] (types_of vs) (map item_tree xs) (Ok (types_of vs ++ last.carried)) × AreItems vs 0 (map item_tree xs) copies (map item_of js) slots
+    done = items_all vs (map item_tree xs) (map item_tree (take i xs)) copies (map item_of js) slots stores last
 
     pub items_end_suit : AreDeclared vs → Suits js
-    items_end_suit declared = items_suit vs declared (map item_tree xs) copies slots before.carried js done.0 done.1 before.copied
+    items_end_suit declared = items_suit vs declared (map item_tree xs) copies slots last.carried js (types_of vs ++ last.carried) done.0 done.1 last.copied
 
     pub items_end_many : length js ≡ length xs
     items_end_many = sym (length-map js item_of) ∙ (as_many done.1 ∙ length-map xs item_tree)
 
-    pub items_end : 1 ≤ length xs → JudgesItems vs [] (types_of vs) (map item_tree xs) None × IsTarget vs (map item_tree xs) copies (map item_of js) slots
-    items_end some = (done.0, about (map item_tree xs) (let all = length-map xs item_tree in omega arith) done.1)
+    pub items_end : 1 ≤ length xs → (types : List TypeTree) × JudgesItems vs [] (types_of vs) (map item_tree xs) (Ok (types_of vs ++ types)) × AreCopied vs copies types × IsTarget vs (map item_tree xs) copies (map item_of js) slots
+    items_end some = (last.carried, done.0, last.copied, about (map item_tree xs) (let all = length-map xs item_tree in omega arith) done.1)

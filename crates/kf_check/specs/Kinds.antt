@@ -1,15 +1,14 @@
--- The rules of expressions and distributions: the kind that one has, or its first broken rule, parts first and from left to right.
-use Rattle.std.specs.Prelude.{◌≡◌, ℕ, ◌<◌, ◌≤◌, ◌⊎◌, Bool, List, [], ◌∷◌, map, take, slice_get, Some, Result, Ok, Err}
+-- Believed: the rules of expressions and distributions: its kind, or its first broken rule, parts first and from left to right.
+use Rattle.std.specs.Prelude.{◌≡◌, ℕ, ◌≤◌, List, [], ◌∷◌, map, take, slice_get, Some}
 use Rattle.std.specs.List.{All}
 use Rattle.kf_value.specs.Kinds.{KindTree, TruthKind, WholeKind, TupleKind, SetKind, kind_parts}
 use Rattle.kf_ops.specs.Rows.{Row}
-use Rattle.kf_ops.specs.Fitting.{IsRow}
+use Rattle.kf_ops.specs.Places.{IsRow, pattern_kind}
 use Rattle.kf_ast.specs.Names.{name}
-use Rattle.kf_ast.specs.Exprs.{ExprTree, ExprTrees, expr_at, Number, Truth, Name, Apply, Tuple, SetOf, Part, no_exprs, more_exprs, place}
-use Rattle.kf_ast.specs.Dists.{CaseTree, case_of, DistTree, dist_at, Sure, UniformSet, UniformRange, Choose, Flip}
-use Rattle.kf_core.specs.Checked.{pattern_kind}
-use Rattle.kf_check.specs.declared.errors.TypeError.{TypeError}
+use Rattle.kf_ast.specs.Exprs.{ExprTree, ExprShape, ExprTrees, expr_at, Number, Truth, Name, Apply, Tuple, SetOf, Part, no_exprs, more_exprs, place}
+use Rattle.kf_ast.specs.Dists.{CaseTree, case_of, DistTree, DistShape, dist_at, Sure, UniformSet, UniformRange, Choose, Flip}
 use Rattle.kf_check.specs.declared.errors.TypeError.TheVariants as broken
+use Rattle.kf_check.specs.Judgements.{Judgement, Is, Picks, Where, After}
 
 -- a variable that is known: its name and its kind
 pub record Known : Type 0 where
@@ -23,77 +22,80 @@ IsKnown known n i k = slice_get known i ≡ Some (record { name = n; kind = k })
 abbrev pub IsUnknown : List Known → List ℕ → Type 0
 IsUnknown known n = All (λ v. v.name ≡ n → ⊥) known
 
+-- some variable of this name is known, and has this kind
+abbrev pub HasName : List Known → List ℕ → KindTree → Type 0
+HasName known n k = (i : ℕ) × IsKnown known n i k
+
 -- the kinds are those of the row's patterns, where `Any` stands for this kind
 abbrev pub Fit : Row → KindTree → List KindTree → Type 0
 Fit r any ks = ks ≡ map (pattern_kind any) (take r.arity r.args)
 
-mutual
-  pub data Judges (known : List Known) : ExprTree → Result KindTree TypeError → Type 0 where
-    number : (at k : ℕ) → Judges known (expr_at at (Number k)) (Ok WholeKind)
-    truth : (at : ℕ) (b : Bool) → Judges known (expr_at at (Truth b)) (Ok TruthKind)
-    variable : (at at' : ℕ) {n : List ℕ} (i : ℕ) {k : KindTree} → IsKnown known n i k → Judges known (expr_at at (Name (name n at'))) (Ok k)
-    unknown : (at at' : ℕ) {n : List ℕ} → IsUnknown known n → Judges known (expr_at at (Name (name n at'))) (Err (broken.Unknown at'))
-    apply : (at row : ℕ) {xs : ExprTrees} (ks : List KindTree) (r : Row) (any : KindTree) → JudgesAll known xs (Ok ks) → IsRow row r → Fit r any ks → Judges known (expr_at at (Apply row xs)) (Ok (pattern_kind any r.result))
-    in_apply : (at row : ℕ) {xs : ExprTrees} {e : TypeError} → JudgesAll known xs (Err e) → Judges known (expr_at at (Apply row xs)) (Err e)
-    apply_clash : (at row : ℕ) {xs : ExprTrees} (ks : List KindTree) (r : Row) → JudgesAll known xs (Ok ks) → IsRow row r → ((any : KindTree) → Fit r any ks → ⊥) → Judges known (expr_at at (Apply row xs)) (Err (broken.Clash at))
-    tuple : (at : ℕ) {xs : ExprTrees} {ks : List KindTree} → JudgesAll known xs (Ok ks) → Judges known (expr_at at (Tuple xs)) (Ok (TupleKind (kind_parts ks)))
-    in_tuple : (at : ℕ) {xs : ExprTrees} {e : TypeError} → JudgesAll known xs (Err e) → Judges known (expr_at at (Tuple xs)) (Err e)
-    set : (at : ℕ) {xs : ExprTrees} (k : KindTree) (ks : List KindTree) → JudgesAll known xs (Ok (k ∷ ks)) → All (λ j. j ≡ k) ks → Judges known (expr_at at (SetOf xs)) (Ok (SetKind k))
-    in_set : (at : ℕ) {xs : ExprTrees} {e : TypeError} → JudgesAll known xs (Err e) → Judges known (expr_at at (SetOf xs)) (Err e)
-    set_clash : (at : ℕ) {xs : ExprTrees} (k : KindTree) (ks : List KindTree) → JudgesAll known xs (Ok (k ∷ ks)) → (All (λ j. j ≡ k) ks → ⊥) → Judges known (expr_at at (SetOf xs)) (Err (broken.Clash at))
-    part : (at n : ℕ) {x : ExprTree} (ks : List KindTree) {k : KindTree} → Judges known x (Ok (TupleKind (kind_parts ks))) → slice_get ks n ≡ Some k → Judges known (expr_at at (Part x n)) (Ok k)
-    in_part : (at n : ℕ) {x : ExprTree} {e : TypeError} → Judges known x (Err e) → Judges known (expr_at at (Part x n)) (Err e)
-    part_clash : (at n : ℕ) {x : ExprTree} (j : KindTree) → Judges known x (Ok j) → ((ks : List KindTree) (k : KindTree) → j ≡ TupleKind (kind_parts ks) → slice_get ks n ≡ Some k → ⊥) → Judges known (expr_at at (Part x n)) (Err (broken.Clash at))
+-- the operator of this row gives this kind at arguments of these kinds
+abbrev pub IsResult : ℕ → List KindTree → KindTree → Type 0
+IsResult place ks k = (r : Row) × (any : KindTree) × IsRow place r × Fit r any ks × (k ≡ pattern_kind any r.result)
 
-  -- expressions one after the other
-  pub data JudgesAll (known : List Known) : ExprTrees → Result (List KindTree) TypeError → Type 0 where
-    none : JudgesAll known no_exprs (Ok [])
-    more : {x : ExprTree} {xs : ExprTrees} {k : KindTree} {ks : List KindTree} → Judges known x (Ok k) → JudgesAll known xs (Ok ks) → JudgesAll known (more_exprs x xs) (Ok (k ∷ ks))
-    at_first : {x : ExprTree} {xs : ExprTrees} {e : TypeError} → Judges known x (Err e) → JudgesAll known (more_exprs x xs) (Err e)
-    past_first : {x : ExprTree} {xs : ExprTrees} (k : KindTree) {e : TypeError} → Judges known x (Ok k) → JudgesAll known xs (Err e) → JudgesAll known (more_exprs x xs) (Err e)
+-- the first member has this kind, and the others have it too
+abbrev pub IsCommon : List KindTree → KindTree → Type 0
+IsCommon [] k = ⊥
+IsCommon (j ∷ js) k = (j ≡ k) × All (λ i. i ≡ j) js
 
--- an expression that is to be of this kind; if it is of another one, that is Clash where it stands
-pub data Asks (known : List Known) (k : KindTree) : ExprTree → Result KindTree TypeError → Type 0 where
-  has : {x : ExprTree} → Judges known x (Ok k) → Asks known k x (Ok k)
-  breaks : {x : ExprTree} {e : TypeError} → Judges known x (Err e) → Asks known k x (Err e)
-  clashes : {x : ExprTree} (j : KindTree) → Judges known x (Ok j) → (j ≡ k → ⊥) → Asks known k x (Err (broken.Clash (place x)))
+-- a tuple's part has this kind
+abbrev pub IsPart : KindTree → ℕ → KindTree → Type 0
+IsPart j n k = (ks : List KindTree) × (j ≡ TupleKind (kind_parts ks)) × (slice_get ks n ≡ Some k)
 
--- Cases of a `choose` whose values are to be of this kind, case by case: the value's rules, the weight's rules, and then Clash at the value or at the weight.
-pub data JudgesCase (known : List Known) (k : KindTree) : CaseTree → Result KindTree TypeError → Type 0 where
-  case : {x y : ExprTree} → Judges known x (Ok k) → Judges known y (Ok WholeKind) → JudgesCase known k (case_of x y) (Ok k)
-  in_value : {x y : ExprTree} {e : TypeError} → Judges known x (Err e) → JudgesCase known k (case_of x y) (Err e)
-  in_weight : {x y : ExprTree} (j : KindTree) {e : TypeError} → Judges known x (Ok j) → Judges known y (Err e) → JudgesCase known k (case_of x y) (Err e)
-  value_clash : {x y : ExprTree} (j i : KindTree) → Judges known x (Ok j) → Judges known y (Ok i) → (j ≡ k → ⊥) → JudgesCase known k (case_of x y) (Err (broken.Clash (place x)))
-  weight_clash : {x y : ExprTree} (i : KindTree) → Judges known x (Ok k) → Judges known y (Ok i) → (i ≡ WholeKind → ⊥) → JudgesCase known k (case_of x y) (Err (broken.Clash (place y)))
+module _ (known : List Known) where
+  abbrev mutual
+    -- an expression: its parts, and then itself
+    pub Judges : ExprTree → Judgement KindTree
+    Judges (expr_at at shape) = JudgesShape at shape
 
-pub data JudgesCases (known : List Known) (k : KindTree) : List CaseTree → Result KindTree TypeError → Type 0 where
-  none : JudgesCases known k [] (Ok k)
-  more : {c : CaseTree} {cs : List CaseTree} → JudgesCase known k c (Ok k) → JudgesCases known k cs (Ok k) → JudgesCases known k (c ∷ cs) (Ok k)
-  at_first : {c : CaseTree} {cs : List CaseTree} {e : TypeError} → JudgesCase known k c (Err e) → JudgesCases known k (c ∷ cs) (Err e)
-  past_first : {c : CaseTree} {cs : List CaseTree} {e : TypeError} → JudgesCase known k c (Ok k) → JudgesCases known k cs (Err e) → JudgesCases known k (c ∷ cs) (Err e)
+    pub JudgesShape : ℕ → ExprShape → Judgement KindTree
+    JudgesShape at (Number n) = Is WholeKind
+    JudgesShape at (Truth b) = Is TruthKind
+    JudgesShape at (Name (name n at')) = Picks (HasName known n) (broken.Unknown at')
+    JudgesShape at (Apply row xs) = After (JudgesAll xs) (λ ks. Picks (IsResult row ks) (broken.Clash at))
+    JudgesShape at (Tuple xs) = After (JudgesAll xs) (λ ks. Is (TupleKind (kind_parts ks)))
+    JudgesShape at (SetOf xs) = After (JudgesAll xs) (λ ks. After (Picks (IsCommon ks) (broken.Clash at)) (λ k. Is (SetKind k)))
+    JudgesShape at (Part x n) = After (Judges x) (λ j. Picks (IsPart j n) (broken.Clash at))
 
--- the kind of a distribution's values
-pub data JudgesDist (known : List Known) : DistTree → Result KindTree TypeError → Type 0 where
-  sure : (at : ℕ) {x : ExprTree} {r : Result KindTree TypeError} → Judges known x r → JudgesDist known (dist_at at (Sure x)) r
-  uniform_set : (at : ℕ) {x : ExprTree} {k : KindTree} → Judges known x (Ok (SetKind k)) → JudgesDist known (dist_at at (UniformSet x)) (Ok k)
-  in_uniform_set : (at : ℕ) {x : ExprTree} {e : TypeError} → Judges known x (Err e) → JudgesDist known (dist_at at (UniformSet x)) (Err e)
-  no_set : (at : ℕ) {x : ExprTree} (j : KindTree) → Judges known x (Ok j) → ((k : KindTree) → j ≡ SetKind k → ⊥) → JudgesDist known (dist_at at (UniformSet x)) (Err (broken.Clash (place x)))
-  uniform_range : (at : ℕ) {x y : ExprTree} → Judges known x (Ok WholeKind) → Judges known y (Ok WholeKind) → JudgesDist known (dist_at at (UniformRange x y)) (Ok WholeKind)
-  in_lower : (at : ℕ) {x y : ExprTree} {e : TypeError} → Judges known x (Err e) → JudgesDist known (dist_at at (UniformRange x y)) (Err e)
-  in_upper : (at : ℕ) {x y : ExprTree} (j : KindTree) {e : TypeError} → Judges known x (Ok j) → Judges known y (Err e) → JudgesDist known (dist_at at (UniformRange x y)) (Err e)
-  lower_clash : (at : ℕ) {x y : ExprTree} (j i : KindTree) → Judges known x (Ok j) → Judges known y (Ok i) → (j ≡ WholeKind → ⊥) → JudgesDist known (dist_at at (UniformRange x y)) (Err (broken.Clash (place x)))
-  upper_clash : (at : ℕ) {x y : ExprTree} (i : KindTree) → Judges known x (Ok WholeKind) → Judges known y (Ok i) → (i ≡ WholeKind → ⊥) → JudgesDist known (dist_at at (UniformRange x y)) (Err (broken.Clash (place y)))
-  -- the first value's kind is asked of all values
-  choose : (at : ℕ) {x y : ExprTree} {cs : List CaseTree} (k : KindTree) {r : Result KindTree TypeError} → Judges known x (Ok k) → JudgesCases known k (case_of x y ∷ cs) r → JudgesDist known (dist_at at (Choose (case_of x y ∷ cs))) r
-  in_first_value : (at : ℕ) {x y : ExprTree} {cs : List CaseTree} {e : TypeError} → Judges known x (Err e) → JudgesDist known (dist_at at (Choose (case_of x y ∷ cs))) (Err e)
-  flip : (at num den : ℕ) → 1 ≤ den → num ≤ den → JudgesDist known (dist_at at (Flip num den)) (Ok TruthKind)
-  bad_flip : (at num den : ℕ) → (den ≡ 0) ⊎ (den < num) → JudgesDist known (dist_at at (Flip num den)) (Err (broken.BadFlip at))
+    -- expressions one after the other
+    pub JudgesAll : ExprTrees → Judgement (List KindTree)
+    JudgesAll no_exprs = Is []
+    JudgesAll (more_exprs x xs) = After (Judges x) (λ k. After (JudgesAll xs) (λ ks. Is (k ∷ ks)))
+
+-- what stands here is of this kind, and is to be of that one
+abbrev pub Asks : ℕ → KindTree → KindTree → Judgement KindTree
+Asks at j k = Where (j ≡ k) k (broken.Clash at)
+
+-- two expressions one after the other, of which the first is to be of this kind and the second a whole number
+abbrev pub JudgesPair : List Known → KindTree → ExprTree → ExprTree → Judgement KindTree
+JudgesPair known k x y =
+    After (Judges known x)
+    (λ j. After (Judges known y)
+    (λ i. After (Asks (place x) j k)
+    (λ _. After (Asks (place y) i WholeKind)
+    (λ _. Is k))))
+
+-- the cases of a `choose` whose values are to be of this kind
+abbrev pub JudgesCases : List Known → KindTree → List CaseTree → Judgement KindTree
+JudgesCases known k [] = Is k
+JudgesCases known k (case_of x y ∷ cs) = After (JudgesPair known k x y) (λ _. JudgesCases known k cs)
+
+-- the kind of a distribution's values; of those of a `choose` it is the first one's
+abbrev pub JudgesDistShape : List Known → ℕ → DistShape → Judgement KindTree
+JudgesDistShape known at (Sure x) = Judges known x
+JudgesDistShape known at (UniformSet x) = After (Judges known x) (λ j. Picks (λ k. j ≡ SetKind k) (broken.Clash (place x)))
+JudgesDistShape known at (UniformRange x y) = JudgesPair known WholeKind x y
+JudgesDistShape known at (Choose []) = λ r. ⊥
+JudgesDistShape known at (Choose (case_of x y ∷ cs)) = After (Judges known x) (λ k. JudgesCases known k (case_of x y ∷ cs))
+JudgesDistShape known at (Flip num den) = Where ((1 ≤ den) × (num ≤ den)) TruthKind (broken.BadFlip at)
+
+abbrev pub JudgesDist : List Known → DistTree → Judgement KindTree
+JudgesDist known (dist_at at shape) = JudgesDistShape known at shape
 
 abbrev pub dist_place : DistTree → ℕ
 dist_place (dist_at at shape) = at
 
--- a distribution whose values are to be of this kind; if they are of another one, that is Clash where it stands
-pub data AsksDist (known : List Known) (k : KindTree) : DistTree → Result KindTree TypeError → Type 0 where
-  has : {d : DistTree} → JudgesDist known d (Ok k) → AsksDist known k d (Ok k)
-  breaks : {d : DistTree} {e : TypeError} → JudgesDist known d (Err e) → AsksDist known k d (Err e)
-  clashes : {d : DistTree} (j : KindTree) → JudgesDist known d (Ok j) → (j ≡ k → ⊥) → AsksDist known k d (Err (broken.Clash (dist_place d)))
+-- a distribution whose values are to be of this kind
+abbrev pub AsksDist : List Known → KindTree → DistTree → Judgement KindTree
+AsksDist known k d = After (JudgesDist known d) (λ j. Asks (dist_place d) j k)

@@ -1,23 +1,20 @@
--- The kinds that one finds in kinds: that of all members of a set, of a part of a tuple, of a set's elements, and of an operator's result.
-use Rattle.std.specs.Prelude.{◌≡◌, ℕ, List, [], ◌∷◌, slice_get, Some}
-use Rattle.std.specs.List.{All}
-use Rattle.kf_value.specs.Kinds.{KindTree, TupleKind, SetKind, kind_parts}
+-- For bodies: What is found among names and kinds, and what isn't.
+use Rattle.std.specs.Prelude.{◌≡◌, ℕ, List, map}
+use Rattle.kf_value.specs.Kinds.{KindTree, SetKind}
 use Rattle.kf_ops.specs.Rows.{Row}
-use Rattle.kf_ops.specs.Fitting.{IsRow}
-use Rattle.kf_core.specs.Checked.{pattern_kind}
-use Rattle.kf_check.specs.Kinds.{Fit}
+use Rattle.kf_ops.specs.Places.{IsRow}
+use Rattle.kf_check.specs.Kinds.{Known, IsKnown, Fit, IsCommon, IsPart}
+use Rattle.kf_check.specs.Translation.{place_of}
 
--- the first member has this kind, and the others have it too
-abbrev pub IsCommon : List KindTree → KindTree → Type 0
-IsCommon [] k = ⊥
-IsCommon (j ∷ js) k = (j ≡ k) × All (λ i. i ≡ j) js
+abbrev pub names_in : List Known → List (List ℕ)
+names_in known = map (λ v. v.name) known
+
+-- the variable of this name has this number, the first that has the name, and this kind
+abbrev pub IsFound : List Known → List ℕ → ℕ → KindTree → Type 0
+IsFound known n i k = IsKnown known n i k × (place_of (names_in known) n ≡ i)
 
 abbrev pub HasNoCommon : List KindTree → Type 0
 HasNoCommon ks = (k : KindTree) → IsCommon ks k → ⊥
-
--- a tuple's part has this kind
-abbrev pub IsPart : KindTree → ℕ → KindTree → Type 0
-IsPart j n k = (ks : List KindTree) × (j ≡ TupleKind (kind_parts ks)) × (slice_get ks n ≡ Some k)
 
 abbrev pub HasNoPart : KindTree → ℕ → Type 0
 HasNoPart j n = (k : KindTree) → IsPart j n k → ⊥
@@ -25,10 +22,6 @@ HasNoPart j n = (k : KindTree) → IsPart j n k → ⊥
 -- it is no kind of a set
 abbrev pub HasNoElement : KindTree → Type 0
 HasNoElement j = (k : KindTree) → j ≡ SetKind k → ⊥
-
--- the operator of this row gives this kind at arguments of these kinds
-abbrev pub IsResult : ℕ → List KindTree → KindTree → Type 0
-IsResult place ks k = (r : Row) × (any : KindTree) × IsRow place r × Fit r any ks × (k ≡ pattern_kind any r.result)
 
 -- it takes no arguments of these kinds
 abbrev pub HasNoResult : ℕ → List KindTree → Type 0

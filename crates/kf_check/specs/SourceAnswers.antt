@@ -1,13 +1,13 @@
--- What the checker may answer of statements, declarations and targets: that no rule is broken, with what stands for them in the program; the first broken rule; or want of memory, which says nothing.
-use Rattle.std.specs.Prelude.{◌≡◌, ◌≢◌, ◌⊎◌, ℕ, ◌*◌, ◌^◌, ◌<◌, ◌≤◌, ◌↔◌, Bool, false, Contains, List, [], ◌∷◌, ◌++◌, map, Option, Some, None, option_to_list, Result, Ok, Err}
+-- For bodies: What the checker may answer of statements, declarations and targets: that no rule is broken, with what stands for them in the program; the first broken rule; or want of memory, which says nothing.
+use Rattle.std.specs.Prelude.{◌≡◌, ◌≢◌, ◌⊎◌, ℕ, ◌*◌, ◌^◌, ◌<◌, ◌≤◌, ◌↔◌, Bool, false, Contains, List, [], ◌∷◌, ◌++◌, map, option_to_list, Result, Ok, Err}
 use Rattle.kf_value.specs.Types.{TypeTree}
-use Rattle.kf_value.specs.Targets.{Item, item_of}
+use Rattle.kf_value.specs.Targets.{Item}
+use Rattle.kf_value.specs.TypeViews.{item_of}
 use Rattle.kf_value.specs.Views.{items_of}
 use Rattle.kf_ast.specs.Stmts.{StmtTree, stmts}
 use Rattle.kf_ast.specs.Sources.{DeclTree, ItemTree, item}
 use Rattle.kf_ast.specs.Names.{name}
-use Rattle.kf_core.specs.Dxs.{dx_tree}
-use Rattle.kf_core.specs.Sts.{st_tree, st_items, sts}
+use Rattle.kf_core.specs.Views.{dx_tree, st_tree, st_items}
 use Rattle.kf_core.specs.declared.st.St.{St}
 use Rattle.kf_core.specs.declared.st.StList.{StList}
 use Rattle.kf_check.specs.declared.errors.TypeError.{TypeError}
@@ -18,20 +18,20 @@ use Rattle.kf_check.specs.declared.items.ReadItem.{ReadItem}
 use Rattle.kf_check.specs.declared.targets.Targeted.{Targeted}
 use Rattle.kf_check.specs.Kinds.{Known}
 use Rattle.kf_check.specs.Statements.{JudgesStmt, JudgesStmts}
-use Rattle.kf_check.specs.Sources.{Variable, types_of, JudgesDecl, JudgesDecls, JudgesItems}
-use Rattle.kf_check.specs.Translation.{IsSt, AreSts, AreDecls, AreItems, IsTarget, names_of}
-use Rattle.kf_check.specs.Answers.{names_in}
-use Rattle.kf_check.specs.Variables.{variable_of, variables_in}
+use Rattle.kf_check.specs.Sources.{Variable, types_of, JudgesDecl, JudgesDecls, JudgesItem, JudgesItems}
+use Rattle.kf_check.specs.Translation.{st_of, decl_of, AreItems, IsTarget, names_of}
+use Rattle.kf_check.specs.Picks.{names_in}
+use Rattle.kf_check.specs.Variables.{variable_of, variables_in, AreCopied}
 
 -- a statement
 abbrev pub AnswersSt : List Known → StmtTree → Result St TypeError → Type 0
-AnswersSt known x (Ok s) = JudgesStmt known x None × IsSt (names_in known) x (st_tree s)
-AnswersSt known x (Err e) = e ≢ broken.Mem → JudgesStmt known x (Some e)
+AnswersSt known x (Ok s) = JudgesStmt known x (Ok tt) × (st_tree s ≡ st_of (names_in known) x)
+AnswersSt known x (Err e) = e ≢ broken.Mem → JudgesStmt known x (Err e)
 
 -- statements one after the other
 abbrev pub AnswersSts : List Known → List StmtTree → Result StList TypeError → Type 0
-AnswersSts known xs (Ok l) = JudgesStmts known (stmts xs) None × AreSts (names_in known) (stmts xs) (sts (map st_tree (st_items l)))
-AnswersSts known xs (Err e) = e ≢ broken.Mem → JudgesStmts known (stmts xs) (Some e)
+AnswersSts known xs (Ok l) = JudgesStmts known (stmts xs) (Ok tt) × (map st_tree (st_items l) ≡ map (st_of (names_in known)) xs)
+AnswersSts known xs (Err e) = e ≢ broken.Mem → JudgesStmts known (stmts xs) (Err e)
 
 -- how many stores there are with one variable more, which has so many values
 abbrev pub AnswersGrowth : ℕ → ℕ → ℕ → ℕ → Result ℕ TypeError → Type 0
@@ -40,12 +40,12 @@ AnswersGrowth variables stores size at (Err e) = ((32 ≤ variables) × (e ≡ b
 
 -- a declaration behind those of these variables
 abbrev pub AnswersDecl : List Variable → DeclTree → Result Declaration TypeError → Type 0
-AnswersDecl vs d (Ok x) = JudgesDecl vs d (Ok (variable_of x.variable)) × AreDecls (names_of vs) (d ∷ []) (dx_tree x.dist ∷ [])
+AnswersDecl vs d (Ok x) = JudgesDecl vs d (Ok (variable_of x.variable)) × (dx_tree x.dist ≡ decl_of (names_of vs) d)
 AnswersDecl vs d (Err e) = e ≢ broken.Mem → JudgesDecl vs d (Err e)
 
 -- all declarations of a source
 abbrev pub AnswersDecls : List DeclTree → Result Declared TypeError → Type 0
-AnswersDecls ds (Ok x) = JudgesDecls [] ds (Ok (variables_in x)) × AreDecls (names_of (variables_in x)) ds (map dx_tree x.dists.items)
+AnswersDecls ds (Ok x) = JudgesDecls [] ds (Ok (variables_in x)) × (map dx_tree x.dists.items ≡ map (decl_of (names_of (variables_in x))) ds)
 AnswersDecls ds (Err e) = e ≢ broken.Mem → JudgesDecls [] ds (Err e)
 
 -- the item stands here, at some place
@@ -62,11 +62,12 @@ as_items vs = map (λ v. record { initial = false; name = v.name; ty = v.type })
 
 -- an item behind those that stood, where there are so many carried copies and variables of these types
 abbrev pub AnswersItem : List Variable → List ItemTree → ℕ → List TypeTree → ItemTree → Result ReadItem TypeError → Type 0
-AnswersItem vs stood copies ts i (Ok x) = ((others : List ItemTree) (r : Option TypeError) → JudgesItems vs (i ∷ stood) (ts ++ map (λ c. (item_of x.item).ty) (option_to_list x.copied)) others r → JudgesItems vs stood ts (i ∷ others) r)
+AnswersItem vs stood copies ts i (Ok x) = JudgesItem vs stood ts i (Ok (ts ++ map (λ c. (item_of x.item).ty) (option_to_list x.copied)))
     × AreItems vs copies (i ∷ []) (option_to_list x.copied) (item_of x.item ∷ []) (x.slot ∷ [])
-AnswersItem vs stood copies ts i (Err e) = e ≢ broken.Mem → (others : List ItemTree) → JudgesItems vs stood ts (i ∷ others) (Some e)
+AnswersItem vs stood copies ts i (Err e) = e ≢ broken.Mem → JudgesItem vs stood ts i (Err e)
 
 -- the target of a source
 abbrev pub AnswersTarget : List Variable → List ItemTree → Result Targeted TypeError → Type 0
-AnswersTarget vs is (Ok x) = JudgesItems vs [] (types_of vs) is None × IsTarget vs is x.copies (items_of x.target) x.slots
-AnswersTarget vs is (Err e) = e ≢ broken.Mem → JudgesItems vs [] (types_of vs) is (Some e)
+AnswersTarget vs is (Ok x) = (types : List TypeTree) × JudgesItems vs [] (types_of vs) is (Ok (types_of vs ++ types)) × AreCopied vs x.copies types
+    × IsTarget vs is x.copies (items_of x.target) x.slots
+AnswersTarget vs is (Err e) = e ≢ broken.Mem → JudgesItems vs [] (types_of vs) is (Err e)

@@ -1,6 +1,7 @@
--- What contracts see of declared variables.
+-- For bodies: What contracts see of declared variables.
 use Rattle.std.specs.Prelude.{◌≡◌, ℕ, List, [], map, slice_get, Some, Ok}
-use Rattle.kf_value.specs.Types.{TypeTree, type_tree}
+use Rattle.kf_value.specs.Types.{TypeTree}
+use Rattle.kf_value.specs.TypeViews.{type_tree}
 use Rattle.kf_ops.specs.Fitting.{Takes}
 use Rattle.kf_ast.specs.Sources.{DeclTree}
 use Rattle.kf_ast.specs.Built.{AreDeclsBuilt}

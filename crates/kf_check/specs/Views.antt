@@ -1,4 +1,4 @@
--- What contracts see of the known names.
+-- For bodies: What contracts see of the known names.
 use Rattle.std.specs.Prelude.{List, map, string_bytes}
 use Rattle.kf_value.specs.Views.{kind_tree}
 use Rattle.kf_check.specs.declared.names.Names.{Names}

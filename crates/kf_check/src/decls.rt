@@ -1,12 +1,10 @@
 ghost use Rattle.std.specs.Prelude.{◌≡◌, ◌*◌, ◌^◌, ◌≤◌, map, IfOk};
 ghost use Rattle.kf_value.specs.Types.{count, product};
 ghost use Rattle.kf_value.specs.Views.{kind_tree};
-ghost use Rattle.kf_ast.specs.Sources.{decl_tree};
+ghost use Rattle.kf_ast.specs.Views.{decl_tree, type_form, dist_tree};
 ghost use Rattle.kf_ast.specs.Built.{IsTypeBuilt, IsDistBuilt, AreDeclsBuilt};
-ghost use Rattle.kf_ast.specs.TypeForms.{type_form};
-ghost use Rattle.kf_ast.specs.Dists.{dist_tree};
 ghost use Rattle.kf_ops.specs.Fitting.{Takes};
-ghost use Rattle.kf_core.specs.Checked.{kind_of as kind_of_type};
+ghost use Rattle.kf_value.specs.Kinds.{kind_of as kind_of_type};
 ghost use Rattle.kf_check.specs.Sources.{known_of, types_of};
 ghost use Rattle.kf_check.specs.Views.{known_in};
 ghost use Rattle.kf_check.specs.Variables.{variable_of, variables_in};

@@ -1,7 +1,7 @@
 ghost use Rattle.std.specs.Prelude.{◌≤◌, length, map};
 ghost use Rattle.kf_value.specs.Views.{kind_tree};
-ghost use Rattle.kf_ast.specs.Exprs.{expr_tree};
-ghost use Rattle.kf_ast.specs.Dists.{case_tree, dist_at, dist_tree, Choose, UniformRange};
+ghost use Rattle.kf_ast.specs.Views.{expr_tree, case_tree, dist_tree};
+ghost use Rattle.kf_ast.specs.Dists.{dist_at, Choose, UniformRange};
 ghost use Rattle.kf_ast.specs.Built.{IsBuilt, IsDistBuilt, AreCasesBuilt};
 ghost use Rattle.kf_ops.specs.Fitting.{Takes};
 ghost use Rattle.kf_check.specs.Views.{known_in};

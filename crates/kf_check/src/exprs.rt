@@ -1,14 +1,16 @@
 ghost use Rattle.std.specs.Prelude.{◌≡◌, ◌≢◌, ℕ, map, IfOk, IfErr};
 ghost use Rattle.kf_value.specs.Views.{kind_trees};
-ghost use Rattle.kf_ast.specs.Names.{name_tree};
-ghost use Rattle.kf_ast.specs.Exprs.{expr_at, expr_tree, exprs, Name};
+ghost use Rattle.kf_ast.specs.Views.{name_tree, expr_tree};
+ghost use Rattle.kf_ast.specs.Exprs.{expr_at, exprs, Name};
 ghost use Rattle.kf_ast.specs.Built.{IsBuilt, AreBuilt};
-ghost use Rattle.kf_core.specs.Exs.{ex_tree, ex_items, exs};
+ghost use Rattle.kf_core.specs.Exs.{exs};
+ghost use Rattle.kf_core.specs.Views.{ex_tree, ex_items};
 ghost use Rattle.kf_ops.specs.Fitting.{Takes};
 ghost use Rattle.kf_check.specs.Kinds.{JudgesAll};
-ghost use Rattle.kf_check.specs.Translation.{AreExs};
+ghost use Rattle.kf_check.specs.Translation.{exs_of};
 ghost use Rattle.kf_check.specs.Views.{known_in};
-ghost use Rattle.kf_check.specs.Answers.{AnswersEx, names_in};
+ghost use Rattle.kf_check.specs.Answers.{AnswersEx};
+ghost use Rattle.kf_check.specs.Picks.{names_in};
 
 use crate::TypeError;
 use crate::names::Names;
@@ -99,7 +101,7 @@ fn variable(alloc: Global, known: &Names, name: &Ident) -> Result<TypedEx, TypeE
 fn typed_exprs(alloc: Global, known: &Names, xs: &[Expr]) -> Result<TypedExs, TypeError>
     requires { AreBuilt Takes (exprs (map expr_tree xs.now)) }
     ensures judged { IfOk result (λ t. JudgesAll (known_in known.now) (exprs (map expr_tree xs.now)) (Ok (kind_trees t.kinds))) }
-    ensures translated { IfOk result (λ t. AreExs (names_in (known_in known.now)) (exprs (map expr_tree xs.now)) (exs (map ex_tree (ex_items t.exs)))) }
+    ensures translated { IfOk result (λ t. exs (map ex_tree (ex_items t.exs)) ≡ exs_of (names_in (known_in known.now)) (exprs (map expr_tree xs.now))) }
     ensures err { IfErr result (λ e. e ≢ TypeError.Mem → JudgesAll (known_in known.now) (exprs (map expr_tree xs.now)) (Err e)) }
 {
     let mut exs = Vec::new(alloc);

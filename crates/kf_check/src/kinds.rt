@@ -1,7 +1,7 @@
 ghost use Rattle.std.specs.Prelude.{◌≡◌, ◌↔◌, map, IfOk, IsTrue};
-ghost use Rattle.kf_value.specs.Types.{type_tree};
+ghost use Rattle.kf_value.specs.TypeViews.{type_tree};
 ghost use Rattle.kf_value.specs.Views.{kind_tree, kind_trees};
-ghost use Rattle.kf_core.specs.Checked.{kind_of};
+ghost use Rattle.kf_value.specs.Kinds.{kind_of};
 
 use kf_value::{Kind, KindList, Mem, Ty};
 use std::alloc::Global;

@@ -1,4 +1,6 @@
-ghost use Rattle.kf_value.specs.Types.{type_tree, count, HasSize};
+ghost use Rattle.kf_value.specs.Types.{count};
+ghost use Rattle.kf_value.specs.Sizes.{HasSize};
+ghost use Rattle.kf_value.specs.TypeViews.{type_tree};
 ghost use Rattle.kf_check.specs.SourceAnswers.{AnswersGrowth};
 
 use crate::TypeError;

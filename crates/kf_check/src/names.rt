@@ -15,7 +15,8 @@ pub struct Names {
 impl Names {
     ghost use Rattle.std.specs.Prelude.{◌≡◌, ◌<◌, [], ◌∷◌, ◌++◌, MatchOption, OnOk, OnErr};
     ghost use Rattle.kf_value.specs.Views.{kind_tree};
-    ghost use Rattle.kf_check.specs.Kinds.{IsKnown, IsUnknown};
+    ghost use Rattle.kf_check.specs.Kinds.{IsUnknown};
+    ghost use Rattle.kf_check.specs.Picks.{IsFound};
     ghost use Rattle.kf_check.specs.Views.{known_in};
 
     /// No variable is known.
@@ -29,7 +30,7 @@ impl Names {
 
     /// The variable of this name: its place, counted from 0, and its kind.
     pub fn find(&self, name: &str) -> Option<(u8, &Kind)>
-        ensures { MatchOption result (IsUnknown (known_in self.now) name.now) (λ found. IsKnown (known_in self.now) name.now found.0 (kind_tree found.1.now)) }
+        ensures { MatchOption result (IsUnknown (known_in self.now) name.now) (λ found. IsFound (known_in self.now) name.now found.0 (kind_tree found.1.now)) }
     {
         let (place, _, kind) = self.kinds.get_full(name)?;
         Some((place as u8, kind))

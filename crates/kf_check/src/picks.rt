@@ -1,7 +1,8 @@
 ghost use Rattle.std.specs.Prelude.{◌≡◌, ◌≢◌, ◌≤◌, length, map, IfOk, IfErr};
 ghost use Rattle.kf_value.specs.Kinds.{SetKind};
 ghost use Rattle.kf_value.specs.Views.{kind_tree};
-ghost use Rattle.kf_check.specs.Picks.{IsCommon, HasNoCommon, IsPart, HasNoPart, HasNoElement};
+ghost use Rattle.kf_check.specs.Kinds.{IsCommon, IsPart};
+ghost use Rattle.kf_check.specs.Picks.{HasNoCommon, HasNoPart, HasNoElement};
 
 use crate::TypeError;
 use crate::kinds::same_kind;

@@ -2,8 +2,9 @@ ghost use Rattle.std.specs.Prelude.{◌≡◌, ◌≢◌, ◌↔◌, length, map
 ghost use Rattle.kf_value.specs.Kinds.{KindTree};
 ghost use Rattle.kf_value.specs.Views.{kind_tree};
 ghost use Rattle.kf_ops.specs.Fitting.{Takes};
-ghost use Rattle.kf_core.specs.Checked.{pattern_kind};
-ghost use Rattle.kf_check.specs.Picks.{IsResult, HasNoResult};
+ghost use Rattle.kf_ops.specs.Places.{pattern_kind};
+ghost use Rattle.kf_check.specs.Kinds.{IsResult};
+ghost use Rattle.kf_check.specs.Picks.{HasNoResult};
 
 use crate::TypeError;
 use crate::kinds::same_kind;

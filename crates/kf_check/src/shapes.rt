@@ -1,6 +1,7 @@
 ghost use Rattle.std.specs.Prelude.{◌≡◌, ◌+◌, ◌<◌, ◌≤◌, ◌^◌, ◌++◌, List, length, map, IfOk, IfErr};
 ghost use Rattle.std.specs.List.{All};
-ghost use Rattle.kf_value.specs.Types.{TypeTree, type_tree, count, product};
+ghost use Rattle.kf_value.specs.Types.{TypeTree, count, product};
+ghost use Rattle.kf_value.specs.TypeViews.{type_tree};
 ghost use Rattle.kf_value.specs.Shapes.{shape_types};
 ghost use Rattle.kf_check.specs.Sources.{types_of};
 ghost use Rattle.kf_check.specs.Variables.{variable_of, AreDeclared, AreCopied};

@@ -1,6 +1,7 @@
 ghost use Rattle.std.specs.Prelude.{◌≢◌, IfOk, IfErr};
-ghost use Rattle.kf_ast.specs.Sources.{source_tree};
-ghost use Rattle.kf_core.specs.Programs.{program_tree};
+ghost use Rattle.kf_ast.specs.Views.{source_tree};
+ghost use Rattle.kf_core.specs.Views.{program_tree};
+ghost use Rattle.kf_core.specs.Checked.{IsChecked};
 ghost use Rattle.kf_check.specs.Laws.{IsWellBuilt};
 ghost use Rattle.kf_check.specs.Sources.{IsBroken};
 ghost use Rattle.kf_check.specs.Translation.{Typed};
@@ -19,6 +20,7 @@ use std::alloc::Global;
 pub fn check(alloc: Global, src: &Source) -> Result<Program, TypeError>
     requires { IsWellBuilt (source_tree src.now) }
     ensures typed { IfOk result (λ p. Typed (source_tree src.now) (program_tree p)) }
+    ensures checked { IfOk result (λ p. IsChecked (program_tree p)) }
     ensures broken { IfErr result (λ e. e ≢ TypeError.Mem → IsBroken (source_tree src.now) e) }
 {
     let decls = src.decls.as_slice();

@@ -1,5 +1,6 @@
 ghost use Rattle.std.specs.Prelude.{map};
-ghost use Rattle.kf_ast.specs.Stmts.{stmt_tree, stmts};
+ghost use Rattle.kf_ast.specs.Stmts.{stmts};
+ghost use Rattle.kf_ast.specs.Views.{stmt_tree};
 ghost use Rattle.kf_ast.specs.Built.{IsStmtBuilt, AreListedBuilt};
 ghost use Rattle.kf_ops.specs.Fitting.{Takes};
 ghost use Rattle.kf_check.specs.Views.{known_in};

@@ -1,7 +1,9 @@
 ghost use Rattle.std.specs.Prelude.{◌≡◌, ◌≢◌, ◌^◌, ◌-◌, ◌-ℤ◌, ◌<◌, ◌≤◌, min, map, true, false, IfOk, IfErr};
-ghost use Rattle.kf_value.specs.Types.{type_tree, count, counted, in_bounds, product};
+ghost use Rattle.kf_value.specs.Types.{count, counted, in_bounds, product};
+ghost use Rattle.kf_value.specs.TypeViews.{type_tree};
 ghost use Rattle.kf_value.specs.Views.{type_trees};
-ghost use Rattle.kf_ast.specs.TypeForms.{type_form, types};
+ghost use Rattle.kf_ast.specs.TypeForms.{types};
+ghost use Rattle.kf_ast.specs.Views.{type_form};
 ghost use Rattle.kf_check.specs.Types.{greatest_size, JudgesType, JudgesTypes};
 ghost use Rattle.kf_check.specs.Answers.{AnswersType};
 

@@ -6,16 +6,18 @@ use Rattle.std.specs.declared.cmp.Ordering.{Ordering}
 use Rattle.std.specs.declared.cmp.Ordering.TheVariants.{Less, Equal, Greater}
 use Rattle.std.specs.List.{All, AllByRecursion as Each, range_with_len}
 use Rattle.std.proofs.lemmas.List.Elements.{All-from_recursion}
-use Rattle.kf_value.specs.Values.{ValueTree, ValueTrees, Truth, Whole, Tuple, Set, no_value, more_values, parts_list, order, IsWellFormed, EachWellFormed}
-use Rattle.kf_value.specs.Kinds.{KindTree, WholeKind, SetKind, HasKind, AllHaveKind}
+use Rattle.kf_value.specs.Values.{ValueTree, ValueTrees, Truth, Whole, Tuple, Set, no_value, more_values, parts_list, order, whole, elements}
+use Rattle.kf_value.specs.Forms.{IsWellFormed, EachWellFormed, HasKind, AllHaveKind}
+use Rattle.kf_value.specs.Kinds.{KindTree, WholeKind, SetKind}
 use Rattle.kf_value.specs.Types.{Range, values, counted}
 use Rattle.kf_value.proofs.ListLemmas.{each_append, each_any, each_map, each_weaker}
 use Rattle.kf_ops.specs.Rows.{operators}
 use Rattle.kf_ops.specs.Laws.{KeepsKinds as RowKeepsKinds}
-use Rattle.kf_ops.specs.Values.{whole, elements, inserted}
+use Rattle.kf_ops.specs.Values.{inserted}
 use Rattle.kf_core.specs.Checked.{DistKinded, CasesKinded, sure, uniform_set, uniform_range, choose, flip, none, more}
 use Rattle.kf_core.specs.ChoiceLaws.{AreChoices, ChoicesAreShares, ChoicesKeepKinds}
-use Rattle.kf_core.specs.Choices.{Weighted, Chosen, ChoiceFault, RangeLong, with_value, with_listed, once, some_of, each_from, weighed, case_listed, cases_listed, listed, weight_in, gathered, common_factor, lowest}
+use Rattle.kf_core.specs.Results.{then_ok}
+use Rattle.kf_core.specs.Choices.{Weighted, Chosen, ChoiceFault, RangeLong, with_value, once, some_of, each_from, weighed, case_listed, cases_listed, listed, weight_in, gathered, common_factor, lowest}
 use Rattle.kf_core.specs.Dxs.{DxCaseTree, case_of, DxShape, dx_at}
 use Rattle.kf_core.specs.Evaluation.{Evaluated, ev, set_of}
 use Rattle.kf_core.specs.Laws.{AreOfKinds, GivesKind}
@@ -45,7 +47,7 @@ are_choices ls =
       share = (g, lowest_share ls);
     }
 
-chosen_from : (r : Chosen) (ls ws : List Weighted) → r ≡ Ok ls → with_listed r (λ us. Ok (lowest (gathered us))) ≡ Ok ws → lowest (gathered ls) ≡ ws
+chosen_from : (r : Chosen) (ls ws : List Weighted) → r ≡ Ok ls → then_ok r (λ us. Ok (lowest (gathered us))) ≡ Ok ws → lowest (gathered ls) ≡ ws
 chosen_from (Ok us) ls ws e h = (cc)
 chosen_from (Err f) ls ws e h = (cc)
 
@@ -72,7 +74,7 @@ module _ (P : List Weighted → Type 0) where
   valued k (Err f) next h go = tt
 
   listing : (Q : List Weighted → Type 0) (r : Chosen) (next : List Weighted → Chosen) → IfOk r Q → ((ws : List Weighted) → Q ws → IfOk (next ws) P)
-      → IfOk (with_listed r next) P
+      → IfOk (then_ok r next) P
   listing Q (Ok ws) next h go = go ws h
   listing Q (Err f) next h go = tt
 
@@ -134,7 +136,7 @@ module _ (rows : All RowKeepsKinds operators) (ks : List KindTree) (s : List Val
   cases_weighed : {cs : List DxCaseTree} {k : KindTree} → CasesKinded ks cs k → IfOk (cases_listed s cs) (AreWeighed k)
   cases_weighed none = tt
   cases_weighed (more {x} {y} {cs} {k} of_x of_y others) =
-      listing (AreWeighed k) (AreWeighed k) (case_listed s (case_of x y)) (λ ws. with_listed (cases_listed s cs) (λ us. Ok (ws ++ us)))
+      listing (AreWeighed k) (AreWeighed k) (case_listed s (case_of x y)) (λ ws. then_ok (cases_listed s cs) (λ us. Ok (ws ++ us)))
       (valued (AreWeighed k) WholeKind (ev s y) (λ w. weighed (ev s x) (whole w)) (keeps rows ks s are of_y) (λ w both. weighed_one k (ev s x) (whole w) (keeps rows ks s are of_x)))
       (λ ws first. listing (AreWeighed k) (AreWeighed k) (cases_listed s cs) (λ us. Ok (ws ++ us)) (cases_weighed others)
       (λ us rest. each_append (λ w. (0 < w.weight) × (HasKind w.value k × IsWellFormed w.value)) ws us first rest))

@@ -4,21 +4,24 @@ use Rattle.std.specs.Prelude.{if◌then◌else◌, IfOk}
 use Rattle.std.specs.List.{All, AllByRecursion as Each}
 use Rattle.std.proofs.lemmas.List.Elements.{recursion_from_All}
 use Rattle.std.specs.Option.{option_map}
-use Rattle.kf_value.specs.Values.{ValueTree, Truth, Whole, Tuple, Set, parts, parts_list, IsWellFormed}
-use Rattle.kf_value.specs.Kinds.{KindTree, TruthKind, TupleKind, SetKind, HasKind, HaveKinds, kind_parts}
+use Rattle.kf_value.specs.Values.{ValueTree, Truth, Whole, Tuple, Set, parts, parts_list, truth}
+use Rattle.kf_value.specs.Forms.{IsWellFormed, HasKind, HaveKinds}
+use Rattle.kf_value.specs.Kinds.{KindTree, TruthKind, TupleKind, SetKind, kind_parts}
 use Rattle.kf_value.proofs.ListLemmas.{each_at, each_weaker}
 use Rattle.kf_value.proofs.Orders.{parts-parts_list}
 use Rattle.kf_value.proofs.Trees.{parts_list-parts}
 use Rattle.kf_ops.specs.Rows.{Row, operators}
-use Rattle.kf_ops.specs.Fitting.{FitsPattern, EachFits, FitsRow, IsRow}
+use Rattle.kf_ops.specs.Fitting.{FitsPattern, EachFits, FitsRow}
+use Rattle.kf_ops.specs.Places.{IsRow, pattern_kind}
 use Rattle.kf_ops.specs.Laws.{KeepsKinds as RowKeepsKinds}
-use Rattle.kf_ops.specs.Values.{Fault, truth, applied}
+use Rattle.kf_ops.specs.Values.{Fault, applied}
 use Rattle.kf_ops.specs.declared.row.Op.TheVariants as op
 use Rattle.kf_ops.specs.declared.row.Pat.{Pat}
 use Rattle.kf_ops.specs.declared.row.Pat.TheVariants as pat
 use Rattle.kf_core.specs.Exs.{ExTree, exs}
-use Rattle.kf_core.specs.Evaluation.{Evaluated, ev, evs, after, joined, all_values, operated, operator_at, at_row, set_of, part_of}
-use Rattle.kf_core.specs.Checked.{Kinded, EachKinded, AllKinded, pattern_kind, truth as truth_kinded, whole, slot, apply, tuple, set, part, none, more, no_more, and_more}
+use Rattle.kf_core.specs.Results.{then_ok}
+use Rattle.kf_core.specs.Evaluation.{Evaluated, ev, evs, all_values, operated, operator_at, at_row, set_of, part_of}
+use Rattle.kf_core.specs.Checked.{Kinded, EachKinded, AllKinded, truth as truth_kinded, whole, slot, apply, tuple, set, part, none, more, no_more, and_more}
 use Rattle.kf_core.specs.Laws.{AreOfKinds, GivesKind}
 use Rattle.kf_core.proofs.StoreKinds.{all_have_kind, each_well_formed}
 use Rattle.kf_core.proofs.SetLiterals.{each_set_of, set_of_ascends}
@@ -60,6 +63,10 @@ EachGives es ks = ⊥
 abbrev ListGiven : Result (List ValueTree) Fault → List KindTree → Type 0
 ListGiven r ks = IfOk r (AreOfKinds ks)
 
+-- a value before others
+abbrev pub joined : Evaluated → Result (List ValueTree) Fault → Result (List ValueTree) Fault
+joined e others = then_ok e (λ v. then_ok others (λ vs. Ok (v ∷ vs)))
+
 joined_given : (e : Evaluated) (r : Result (List ValueTree) Fault) (k : KindTree) (ks : List KindTree) → GivesKind k e → ListGiven r ks → ListGiven (joined e r) (k ∷ ks)
 joined_given (Ok v) (Ok vs) k ks h hs = record { kinds = (h.0, hs.kinds); formed = (h.1, hs.formed) }
 joined_given (Ok v) (Err f) k ks h hs = tt
@@ -83,7 +90,7 @@ all_alike (e ∷ es) k h = joined_alike e (all_values es) k h.0 (all_alike es k 
 
 -- the next step, where the results before it are values
 module _ {A : Type 0} (P : A → Type 0) (k : KindTree) (next : A → Evaluated) (keeps : (x : A) → P x → GivesKind k (next x)) where
-  after_given : (r : Result A Fault) → IfOk r P → GivesKind k (after r next)
+  after_given : (r : Result A Fault) → IfOk r P → GivesKind k (then_ok r next)
   after_given (Ok x) h = keeps x h
   after_given (Err f) h = tt
 
@@ -128,7 +135,7 @@ record Carries (r : Row) : Type 0 where
   keeps : RowKeepsKinds r → RowKeeps r
 
 -- an operator that evaluates all its arguments
-carries : (r : Row) → Each IsThere (take r.arity r.args) → ((es : List Evaluated) → operated r.code es ≡ after (all_values es) (applied r.code)) → Carries r
+carries : (r : Row) → Each IsThere (take r.arity r.args) → ((es : List Evaluated) → operated r.code es ≡ then_ok (all_values es) (applied r.code)) → Carries r
 carries r there plain = record {
   there = there;
   keeps = λ keeps any es h.
@@ -146,7 +153,7 @@ chosen false k first second hf hs = hs
 -- a test and what it decides between
 decided : (k : KindTree) (test : Evaluated) (first second : ValueTree → Evaluated) → GivesKind TruthKind test
     → ((v : ValueTree) → HasKind v TruthKind × IsWellFormed v → GivesKind k (first v)) → ((v : ValueTree) → HasKind v TruthKind × IsWellFormed v → GivesKind k (second v))
-    → GivesKind k (after test (λ v. if truth v then first v else second v))
+    → GivesKind k (then_ok test (λ v. if truth v then first v else second v))
 decided k test first second h hf hs =
     after_given (λ v. HasKind v TruthKind × IsWellFormed v) k (λ v. if truth v then first v else second v)
     (λ v hv. chosen (truth v) k (first v) (second v) (hf v hv) (hs v hv)) test h

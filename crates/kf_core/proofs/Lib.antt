@@ -1,20 +1,34 @@
 mod Among
+mod Choosing
+mod DistsFound
+pub mod Filled
+mod FirstFault
+pub mod FirstStore
+pub mod Gcds
+pub mod HypersFound
+pub mod Keeping
+mod KindsFound
+pub mod Measures
+pub mod OneTable
 mod PassFollows
 pub mod PassTells
+pub mod Plain
+pub mod RowsFound
 pub mod RunEnds
 mod RunsChain
 pub mod Scales
-mod SupportAgrees
-pub mod StoreKinds
 pub mod SetLiterals
-pub mod Keeping
-pub mod Trees
-pub mod Gcds
-pub mod Shares
-mod Choosing
-pub mod Plain
-pub mod Wider
+mod SetMembers
 mod Settled
-mod KindsFound
-mod DistsFound
+pub mod Shares
+pub mod Solid
+pub mod SoundParts
+pub mod StoreKinds
+pub mod Stores
+pub mod Sums
+mod SupportAgrees
+pub mod Trees
 pub mod Unsquashed
+pub mod WeightKept
+pub mod WholeJoint
+pub mod Wider

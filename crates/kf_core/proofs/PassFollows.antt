@@ -8,7 +8,8 @@ use Rattle.kf_value.specs.Values.{ValueTree}
 use Rattle.kf_core.specs.Dxs.{DxTree}
 use Rattle.kf_core.specs.Choices.{Weighted}
 use Rattle.kf_core.specs.Runs.{Run, Halted, Tried, LoopBound, tried, place, replaced, stay, stopped, moved, chain, assigned, branched, guarded, looped, silent, shown}
-use Rattle.kf_core.specs.Support.{StoreSet, Passed, then_pass, step, same, each_moved, assign_pass, can_be, where_guard, either_pass, guard_pass, bounded, loop_pass}
+use Rattle.kf_core.specs.Results.{then_ok}
+use Rattle.kf_core.specs.Support.{StoreSet, Passed, step, same, each_moved, assign_pass, can_be, where_guard, either_pass, guard_pass, bounded, loop_pass}
 use Rattle.kf_core.proofs.Among.{Among, among_weaker, among_map, among_mapped, among_image}
 use Rattle.kf_core.proofs.RunEnds.{End, HasEnd, Then, Picked, Side, on_true, on_false, on_fault, side, side_of, chain_ends, ends_chain, branched_ends, ends_branched, picks_true, picks_false}
 use Rattle.kf_core.proofs.PassTells.{Tells, From, Lists, Holds, tells_same, then_tells, either_tells, step_tells}
@@ -58,10 +59,10 @@ module _ (f g : StoreSet → Passed StoreSet) (a b : ℕ → List Run) (first : 
   unchained : (ns : StoreSet) (e : End) → From Holds ns (λ n. HasEnd (chain (a n) b)) e → Then (From Holds ns (λ n. HasEnd (a n))) (λ n. HasEnd (b n)) e
   unchained ns e r = let t = chain_ends b e (a r.0) r.2 in (t.0, (r.0, r.1, t.1), t.2)
 
-  pub chain_follows : Follows (λ ns. then_pass (f ns) g) (λ n. chain (a n) b)
+  pub chain_follows : Follows (λ ns. then_ok (f ns) g) (λ n. chain (a n) b)
   chain_follows ns =
       tells_same Holds (Then (From Holds ns (λ n. HasEnd (a n))) (λ n. HasEnd (b n))) (From Holds ns (λ n. HasEnd (chain (a n) b)))
-      (chained ns) (unchained ns) (then_pass (f ns) g)
+      (chained ns) (unchained ns) (then_ok (f ns) g)
       (then_tells Holds Holds (From Holds ns (λ n. HasEnd (a n))) (λ n. HasEnd (b n)) (f ns) g (first ns) next)
 
 -- ---- a choice in each store
@@ -113,7 +114,7 @@ module _ (m : ℕ) (T : End → Type 0) where
   head_back ms h n (inl s) = inl (same_end m n s)
   head_back ms h n (inr t) = inr ((h.1 n).1 t)
 
-  head_tells : (p : Passed (List ℕ)) → Tells Lists p T → Tells Lists (then_pass p (λ others. Ok (m ∷ others))) (λ e. HasEnd (stay m) e ⊎ T e)
+  head_tells : (p : Passed (List ℕ)) → Tells Lists p T → Tells Lists (then_ok p (λ others. Ok (m ∷ others))) (λ e. HasEnd (stay m) e ⊎ T e)
   head_tells (Ok ms) h = (head_halts ms h, λ n. (head_to ms h n, head_back ms h n))
   head_tells (Err f) h = inr h
 
@@ -123,7 +124,7 @@ moves_tell at (None ∷ ms) = inl (inl refl)
 moves_tell at (Some m ∷ ms) = head_tells m (Moves at ms) (each_moved at ms) (moves_tell at ms)
 
 assign_tells : (at : ℕ) (go : ValueTree → Option ℕ) (g : Tried)
-    → Tells Lists (then_pass g (λ ws. each_moved at (map (λ w. go w.value) ws))) (Picked (λ v. HasEnd (moved at (go v))) g)
+    → Tells Lists (then_ok g (λ ws. each_moved at (map (λ w. go w.value) ws))) (Picked (λ v. HasEnd (moved at (go v))) g)
 assign_tells at go (Ok ws) =
     tells_same Lists (Moves at (map (λ w. go w.value) ws)) (λ e. Among (λ w. HasEnd (moved at (go w.value)) e) ws)
     (λ e. among_map (λ x. HasEnd (moved at x) e) (λ (w : Weighted). go w.value) ws)
@@ -135,7 +136,7 @@ assign_tells at go (Err f) = refl
 pub assign_follows : (ts : List TypeTree) (i : ℕ) (d : DxTree) → Follows (assign_pass ts i d) (assigned ts i d)
 assign_follows ts i d =
     choice_follows silent (λ n v. moved (place d) (replaced ts i v n)) (tried ts d)
-    (λ n. then_pass (tried ts d n) (λ ws. each_moved (place d) (map (λ w. replaced ts i w.value n) ws)))
+    (λ n. then_ok (tried ts d n) (λ ws. each_moved (place d) (map (λ w. replaced ts i w.value n) ws)))
     (λ n. assign_tells (place d) (λ v. replaced ts i v n) (tried ts d n))
 
 -- ---- guards
@@ -196,7 +197,7 @@ module _ (guard : ℕ → Tried) (taken left : ℕ → List Run) (ns : StoreSet)
   guard_joins : (p a b : Passed StoreSet) → Tells Holds p (From Holds ns (λ n. Stays n (guard n)))
       → Tells Holds a (From Holds (where_guard true guard ns) (λ n. HasEnd (taken n)))
       → Tells Holds b (From Holds (where_guard false guard ns) (λ n. HasEnd (left n)))
-      → Tells Holds (then_pass p (λ _. either_pass a b)) (From Holds ns (Guarded guard taken left))
+      → Tells Holds (then_ok p (λ _. either_pass a b)) (From Holds ns (Guarded guard taken left))
   guard_joins (Ok x) a b h on off =
       tells_same Holds (λ e. Taken guard taken left ns e ⊎ Left guard taken left ns e) (From Holds ns (Guarded guard taken left))
       (sides_to guard taken left ns) (λ e. to_sides guard taken left ns e h.0) (either_pass a b)
@@ -271,7 +272,7 @@ module _ (guard : ℕ → Tried) (at : ℕ) (ns : StoreSet) where
       subst (Holds (where_guard false guard ns)) l.0 ((holds_where false guard ns r.0).1 (r.1, l.1))
 
   last_tells : (p : Passed StoreSet) → Tells Holds p (From Holds ns (λ n. Bound at n (guard n)))
-      → Tells Holds (then_pass p (λ _. Ok (where_guard false guard ns))) (From Holds ns (Last at guard))
+      → Tells Holds (then_ok p (λ _. Ok (where_guard false guard ns))) (From Holds ns (Last at guard))
   last_tells (Ok x) h = (λ f r. h.0 f r, λ m. (last_stays m, last_leaves m))
   last_tells (Err f) h = h
 
@@ -283,6 +284,6 @@ module _ (guard : ℕ → Tried) (at : ℕ) (body : StoreSet → Passed StoreSet
       (last_tells guard at ns (step (λ n. bounded at n (guard n)) ns)
       (step_tells (λ n. bounded at n (guard n)) (λ n. Bound at n (guard n)) (λ n. bound_tells at n (guard n)) ns))
   loop_follows (suc k) ns =
-      guard_follows guard (λ ns. then_pass (body ns) (loop_pass k guard at body)) (λ ns. Ok ns) (λ n. chain (turn n) (looped k guard at turn)) stay
+      guard_follows guard (λ ns. then_ok (body ns) (loop_pass k guard at body)) (λ ns. Ok ns) (λ n. chain (turn n) (looped k guard at turn)) stay
       (chain_follows body (loop_pass k guard at body) turn (looped k guard at turn) follows (loop_follows k))
       stay_follows ns

@@ -9,7 +9,8 @@ use Rattle.std.specs.Cmp.{unsigned_tied}
 use Rattle.std.specs.FinSet.{contains, from_list, items, union, contains-from_list_nat, contains-items, contains-union}
 use Rattle.std.proofs.lemmas.Cmp.{nat_cmp_total, ranked}
 use Rattle.kf_core.specs.Runs.{Halted}
-use Rattle.kf_core.specs.Support.{StoreSet, Passed, then_pass, each_pass, ascending, step, either_pass}
+use Rattle.kf_core.specs.Results.{then_ok}
+use Rattle.kf_core.specs.Support.{StoreSet, Passed, each_pass, ascending, step, either_pass}
 use Rattle.kf_core.proofs.Among.{Among, among_weaker, among_left, among_right, among_either, among_image, among_of_image, among_map, among_mapped}
 use Rattle.kf_core.proofs.RunEnds.{End, Goes, Then, among_from_test, test_from_among}
 
@@ -47,13 +48,13 @@ module _ {A B : Type 0} (has : A → ℕ → Type 0) (gives : B → ℕ → Type
     then_from : Then S T e → From has x T e
     then_from r = then_from_end r.0 r.1 r.2
 
-  pub then_tells : (p : Passed A) (next : A → Passed B) → Tells has p S → ((x : A) → Tells gives (next x) (From has x T)) → Tells gives (then_pass p next) (Then S T)
+  pub then_tells : (p : Passed A) (next : A → Passed B) → Tells has p S → ((x : A) → Tells gives (next x) (From has x T)) → Tells gives (then_ok p next) (Then S T)
   then_tells (Ok x) next h k = tells_same gives (From has x T) (Then S T) (from_then x h) (then_from x h) (next x) (k x)
   then_tells (Err f) next h k = (Err f, h, refl)
 
 -- what is reached turned into another form of it
 module _ {A B : Type 0} (has : A → ℕ → Type 0) (gives : B → ℕ → Type 0) (turn : A → B) (alike : (x : A) (m : ℕ) → gives (turn x) m ↔ has x m) (S : End → Type 0) where
-  pub turned_tells : (p : Passed A) → Tells has p S → Tells gives (then_pass p (λ x. Ok (turn x))) S
+  pub turned_tells : (p : Passed A) → Tells has p S → Tells gives (then_ok p (λ x. Ok (turn x))) S
   turned_tells (Ok x) h = (h.0, λ m. (λ c. (h.1 m).0 ((alike x m).0 c), λ s. (alike x m).1 ((h.1 m).1 s)))
   turned_tells (Err f) h = h
 
@@ -72,7 +73,7 @@ module _ {A : Type 0} (has : A → ℕ → Type 0) (join : A → A → A) (joins
     back m (inl s) = inl ((h.1 m).1 s)
     back m (inr t) = inr ((k.1 m).1 t)
 
-  pub both_tell : (p q : Passed A) → Tells has p S → Tells has q T → Tells has (then_pass p (λ x. then_pass q (λ y. Ok (join x y)))) (λ e. S e ⊎ T e)
+  pub both_tell : (p q : Passed A) → Tells has p S → Tells has q T → Tells has (then_ok p (λ x. then_ok q (λ y. Ok (join x y)))) (λ e. S e ⊎ T e)
   both_tell (Ok x) (Ok y) h k = (no_fault x y h k, λ m. (λ c. into x y h k m ((joins x y m).0 c), λ s. (joins x y m).1 (back x y h k m s)))
   both_tell (Ok x) (Err f) h k = inr k
   both_tell (Err f) q h k = inl h

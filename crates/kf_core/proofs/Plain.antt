@@ -7,7 +7,8 @@ use Rattle.std.specs.List.{AllByRecursion as Each}
 use Rattle.std.specs.List.Sorted.{IsStrictlySortedBy}
 use Rattle.std.proofs.Math.Nat.{div-one, one-dvd}
 use Rattle.std.proofs.lemmas.Nat.Gcd.{dvd_antisymm}
-use Rattle.kf_value.specs.Values.{ValueTree, IsIn, order}
+use Rattle.kf_value.specs.Values.{ValueTree, order}
+use Rattle.kf_value.specs.Laws.{IsIn}
 use Rattle.kf_value.proofs.ListLemmas.{each_weaker}
 use Rattle.kf_value.proofs.Sorting.{sorted-nil, sorted-cons, sorted-head, sorted-tail}
 use Rattle.kf_ops.specs.Values.{inserted}

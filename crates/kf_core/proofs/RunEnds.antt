@@ -3,8 +3,7 @@ use Rattle.std.proofs.Common.{◌≡◌, ℕ, List, map, Result, Ok, Err, inl, i
 use Rattle.std.specs.Prelude.{is_ok, IsOk, if◌then◌else◌, Any}
 use Rattle.std.specs.List.{list_any}
 use Rattle.std.proofs.lemmas.List.Folds.{Any-from_list_any, list_any-from_Any}
-use Rattle.kf_value.specs.Values.{ValueTree}
-use Rattle.kf_ops.specs.Values.{truth}
+use Rattle.kf_value.specs.Values.{ValueTree, truth}
 use Rattle.kf_core.specs.Choices.{Weighted, total}
 use Rattle.kf_core.specs.Runs.{Run, Halted, Tried, joined, onward, chain, choice_run, branched}
 use Rattle.kf_core.specs.Support.{can_be}

@@ -7,13 +7,14 @@ use Rattle.std.proofs.Math.Nat.{dvd-mod_iff, mod-lt, one-dvd}
 use Rattle.std.proofs.lemmas.List.Elements.{All-from_recursion, recursion_from_All, All-cons, All-nil, All-head, All-tail}
 use Rattle.std.proofs.lemmas.List.Sums.{sum_by-cons}
 use Rattle.std.proofs.lemmas.Nat.Gcd.{dvd_trans, dvd_of_mod-eq-zero, le_of_dvd}
-use Rattle.kf_frac.specs.Divisors.{IsLcm, lcm_of}
+use Rattle.kf_frac.specs.Divisors.{lcm_of}
+use Rattle.kf_frac.specs.Laws.{IsLcm}
 use Rattle.kf_frac.proofs.CommonMultiples.{lcm_is, product_positive}
 use Rattle.kf_value.specs.Types.{TypeTree}
-use Rattle.kf_value.specs.Values.{ValueTree}
+use Rattle.kf_value.specs.Values.{ValueTree, truth}
 use Rattle.kf_value.proofs.ListLemmas.{each_any, each_flat_map, each_map, each_weaker}
-use Rattle.kf_ops.specs.Values.{truth}
-use Rattle.kf_core.specs.Choices.{Weighted, Chosen, with_listed, listed, gathered, lowest, total}
+use Rattle.kf_core.specs.Results.{then_ok}
+use Rattle.kf_core.specs.Choices.{Weighted, Chosen, listed, gathered, lowest, total}
 use Rattle.kf_core.specs.ChoiceLaws.{ChoicesAreShares}
 use Rattle.kf_core.specs.Dxs.{DxTree, DxShape, dx_at}
 use Rattle.kf_core.specs.Sts.{StTree, StTrees, Skip, Assign, Observe, If, While, no_sts, more_sts, sts}
@@ -121,10 +122,10 @@ module _ (guard : ℕ → Tried) (weighty : (n : ℕ) → Weighty (guard n)) whe
 -- ---- and so of statements, where choices have positive weights
 
 module _ (shares : ChoicesAreShares) where
-  listed_weighty : (s : List ValueTree) (at : ℕ) (d : DxShape) (x : Chosen) → listed s d ≡ x → Weighty (placed_at at (with_listed x (λ ws. Ok (lowest (gathered ws)))))
+  listed_weighty : (s : List ValueTree) (at : ℕ) (d : DxShape) (x : Chosen) → listed s d ≡ x → Weighty (placed_at at (then_ok x (λ ws. Ok (lowest (gathered ws)))))
   listed_weighty s at d (Ok ls) is =
       recursion_from_All (λ w. 0 < w.weight) (lowest (gathered ls))
-      (shares s d ls (lowest (gathered ls)) is (ap (λ (x : Chosen). with_listed x (λ ws. Ok (lowest (gathered ws)))) is)).positive
+      (shares s d ls (lowest (gathered ls)) is (ap (λ (x : Chosen). then_ok x (λ ws. Ok (lowest (gathered ws)))) is)).positive
   listed_weighty s at d (Err f) is = tt
 
   pub weighty : (ts : List TypeTree) (d : DxTree) (n : ℕ) → Weighty (tried ts d n)

@@ -9,11 +9,12 @@ use Rattle.std.specs.List.Sorted.{IsStrictlySortedBy}
 use Rattle.std.proofs.Math.Nat.{mul-div_cancel'}
 use Rattle.std.proofs.lemmas.List.Sums.{sum_by-cons}
 use Rattle.std.proofs.lemmas.Bool.Decides.{nat_tests}
-use Rattle.kf_value.specs.Values.{ValueTree, IsIn, order}
+use Rattle.kf_value.specs.Values.{ValueTree, order, is_equal}
+use Rattle.kf_value.specs.Laws.{IsIn}
 use Rattle.kf_value.proofs.ListLemmas.{each_map, each_weaker}
 use Rattle.kf_value.proofs.Orders.{flip, same, order-itself}
 use Rattle.kf_value.proofs.Sorting.{sorted-head, sorted-tail}
-use Rattle.kf_ops.specs.Values.{is_equal, inserted}
+use Rattle.kf_ops.specs.Values.{inserted}
 use Rattle.kf_core.specs.Evaluation.{set_of}
 use Rattle.kf_core.specs.Choices.{Weighted, weight_in, gathered, common_factor, lowest}
 use Rattle.kf_core.proofs.Gcds.{over, AreMultiples, factor_divides}

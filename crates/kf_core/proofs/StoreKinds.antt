@@ -2,14 +2,15 @@
 use Rattle.std.proofs.Common.{◌≡◌, pos, ◌+ℤ◌, ◌-ℤ◌, true, List, [], ◌∷◌, length, map, refl, ap}
 use Rattle.std.specs.List.{AllByRecursion as Each, range_with_len, list_all}
 use Rattle.std.proofs.lemmas.Bool.{and_parts}
-use Rattle.kf_value.specs.Values.{ValueTree, Whole, Tuple, Set, parts, IsWellFormed, EachWellFormed}
-use Rattle.kf_value.specs.Types.{TypeTree, TypeTrees, Boolean, Range, TupleOf, SetOf, no_type, more_types, type_parts, values, each_values, combinations, subsets, counted, well_formed}
-use Rattle.kf_value.specs.Kinds.{KindTree, WholeKind, HasKind, HaveKinds, AllHaveKind, kind_parts, more_kinds}
+use Rattle.kf_value.specs.Values.{ValueTree, Whole, Tuple, Set, parts}
+use Rattle.kf_value.specs.Forms.{IsWellFormed, EachWellFormed, HasKind, HaveKinds, AllHaveKind}
+use Rattle.kf_value.specs.Types.{TypeTree, TypeTrees, Boolean, Range, TupleOf, SetOf, no_type, more_types, type_parts, values, each_values, combinations, subsets, counted}
+use Rattle.kf_value.specs.Sizes.{well_formed}
+use Rattle.kf_value.specs.Kinds.{KindTree, WholeKind, kind_parts, more_kinds, kind_of, kinds_of}
 use Rattle.kf_value.specs.Stores.{stores}
 use Rattle.kf_value.proofs.Ascending.{each_part, each_combination, values_well_formed}
 use Rattle.kf_value.proofs.ListLemmas.{each_any, each_at, each_flat_map, each_map, each_weaker}
 use Rattle.kf_value.proofs.Trees.{each_values-type_parts}
-use Rattle.kf_core.specs.Checked.{kind_of, kinds_of}
 use Rattle.kf_core.specs.Laws.{StoresHaveKinds}
 
 pub all_have_kind : (k : KindTree) (vs : List ValueTree) → Each (λ v. HasKind v k) vs → AllHaveKind (parts vs) k

@@ -8,7 +8,7 @@ use Rattle.kf_core.specs.Sts.{StTree, StTrees, Skip, Assign, Observe, If, While,
 use Rattle.kf_core.specs.Programs.{ProgramTree}
 use Rattle.kf_core.specs.Runs.{Run, Halted, tried, place, chain, assigned, runs, all_runs, declared, copied, program_runs}
 use Rattle.kf_core.specs.Support.{StoreSet, Passed, assign_pass, pass, all_pass, declare_pass, program_pass}
-use Rattle.kf_core.specs.SupportLaws.{Agrees, PassAgrees, BlockAgrees, ProgramAgrees}
+use Rattle.kf_core.specs.SupportLaws.{Agrees, PassAgrees, BlockAgrees, ProgramAgrees, FaultIsOfARun}
 use Rattle.kf_core.proofs.Among.{any_from_among, among_from_any}
 use Rattle.kf_core.proofs.RunEnds.{End, HasEnd, all_end, none_halts}
 use Rattle.kf_core.proofs.PassTells.{Tells, From, Holds, tells_same, from_first, first_from, from_moved, moved_from}
@@ -48,6 +48,9 @@ module _ (S : End → Type 0) where
   reached_ends : (p : Passed StoreSet) (ms : StoreSet) → Tells Holds p S → p ≡ Ok ms → (m : ℕ) → Holds ms m ↔ S (Ok m)
   reached_ends p ms h is = let r : Tells Holds (Ok ms) S = subst (λ (q : Passed StoreSet). Tells Holds q S) is h in r.1
 
+  told_end : (p : Passed StoreSet) (f : Halted) → Tells Holds p S → p ≡ Err f → S (Err f)
+  told_end p f h is = subst (λ (q : Passed StoreSet). Tells Holds q S) is h
+
 module _ (f : StoreSet → Passed StoreSet) (a : ℕ → List Run) (follows : Follows f a) where
   pub agrees : Agrees f a
   agrees = record {
@@ -59,6 +62,9 @@ module _ (f : StoreSet → Passed StoreSet) (a : ℕ → List Run) (follows : Fo
       λ c. let r = (reached_ends (From Holds ns (λ k. HasEnd (a k))) (f ns) ms (follows ns) is m).0 c in (r.0, r.1, any_from_among (λ x. x.end ≡ Ok m) (a r.0) r.2),
       λ r. (reached_ends (From Holds ns (λ k. HasEnd (a k))) (f ns) ms (follows ns) is m).1 (r.0, r.1, among_from_any (λ x. x.end ≡ Ok m) (a r.0) r.2),
     );
+    told = λ ns fault is.
+        let r = told_end (From Holds ns (λ k. HasEnd (a k))) (f ns) fault (follows ns) is in
+        (r.0, r.1, any_from_among (λ x. x.end ≡ Err fault) (a r.0) r.2);
   }
 
 pub pass_agrees : PassAgrees
@@ -105,3 +111,8 @@ program_agrees turns p =
         λ h. (reached_ends (HasEnd rs) (program_pass turns p) ms tells is m).1 (among_from_any (λ x. x.end ≡ Ok m) rs h),
       ),
     )
+
+pub fault_is_of_a_run : FaultIsOfARun
+fault_is_of_a_run turns p f is =
+    let rs = program_runs turns p in
+    any_from_among (λ x. x.end ≡ Err f) rs (told_end (HasEnd rs) (program_pass turns p) f (program_tells turns p) is)

@@ -2,12 +2,13 @@
 use Rattle.std.proofs.Common.{◌≡◌, ℕ, ◌+◌, List, [], ◌∷◌, length, map, take, slice_get, Option, Some, None, true, refl, ap, ◌∙◌, subst, sym}
 use Rattle.std.proofs.Math.Bool.{Bool-discrete}
 use Rattle.std.proofs.Math.Logic.{∥∥₁_map}
-use Rattle.kf_value.specs.Kinds.{KindTree, TruthKind}
+use Rattle.kf_value.specs.Kinds.{KindTree, TruthKind, kind_of}
 use Rattle.kf_value.specs.Targets.{Item}
 use Rattle.kf_core.specs.Dxs.{DxTree}
-use Rattle.kf_core.specs.Sts.{StTree, StTrees, Skip, Assign, Observe, If, While, no_sts, more_sts, sts, sts_list}
+use Rattle.kf_core.specs.Sts.{StTree, StTrees, Skip, Assign, Observe, If, While, no_sts, more_sts, sts}
+use Rattle.kf_core.specs.Views.{sts_list}
 use Rattle.kf_core.specs.Programs.{ProgramTree}
-use Rattle.kf_core.specs.Checked.{kind_of, DistKinded, IsSound, AreSound, declared_kinds, IsReadFrom, IsChecked}
+use Rattle.kf_core.specs.Checked.{DistKinded, IsSound, AreSound, declared_kinds, IsReadFrom, IsChecked}
 use Rattle.kf_core.specs.Checked as rule
 use Rattle.kf_core.proofs.Settled.{again, as_well, both, same_number, at_most, same_option, same_type}
 use Rattle.kf_core.proofs.DistsFound.{dist_kinded, dist_of_some}

@@ -2,14 +2,14 @@
 use Rattle.std.proofs.Common.{◌≡◌, ℕ, List, ◌++◌, length, map, take, drop, slice_get, Some, sym, ap, subst, ◌∙◌}
 use Rattle.std.proofs.lemmas.List.{map-append, take-append-drop}
 use Rattle.kf_value.specs.Types.{TypeTree}
-use Rattle.kf_value.specs.Kinds.{KindTree}
+use Rattle.kf_value.specs.Kinds.{KindTree, kind_of}
 use Rattle.kf_value.proofs.Places.{slice_get-append_left}
 use Rattle.kf_core.specs.Exs.{ExTree}
 use Rattle.kf_core.specs.Dxs.{DxTree, DxCaseTree}
 use Rattle.kf_core.specs.Sts.{StTree}
 use Rattle.kf_core.specs.Programs.{ProgramTree}
 use Rattle.kf_core.specs.Checked as kinded
-use Rattle.kf_core.specs.Checked.{Kinded, EachKinded, AllKinded, CasesKinded, DistKinded, IsSound, AreSound, IsChecked, kind_of}
+use Rattle.kf_core.specs.Checked.{Kinded, EachKinded, AllKinded, CasesKinded, DistKinded, IsSound, AreSound, IsChecked}
 
 module _ (ks more : List KindTree) where
   mutual

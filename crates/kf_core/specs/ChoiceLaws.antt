@@ -1,10 +1,10 @@
--- What holds of choices, in words of their own: which values there are, in which order, and how the weights compare.
+-- For bodies: what holds of choices, in words of their own: which values there are, in which order, and how the weights compare.
 use Rattle.std.specs.Prelude.{◌≡◌, ℕ, ◌*◌, ◌<◌, ◌≤◌, List, length, map, Ok, IfOk}
 use Rattle.std.specs.List.{All}
 use Rattle.std.specs.List.Sorted.{IsStrictlySortedBy}
 use Rattle.kf_value.specs.Values.{ValueTree, order}
-use Rattle.kf_value.specs.Kinds.{KindTree, HasKind}
-use Rattle.kf_value.specs.Values.{IsWellFormed}
+use Rattle.kf_value.specs.Kinds.{KindTree}
+use Rattle.kf_value.specs.Forms.{HasKind, IsWellFormed}
 use Rattle.kf_core.specs.Checked.{DistKinded}
 use Rattle.kf_core.specs.Dxs.{DxShape, dx_at}
 use Rattle.kf_core.specs.Laws.{AreOfKinds}
@@ -23,5 +23,6 @@ ChoicesAreShares = (s : List ValueTree) (d : DxShape) (ls ws : List Weighted) �
 
 -- a checked distribution that has no fault chooses something, and each choice is of its kind
 abbrev pub ChoicesKeepKinds : Type 0
-ChoicesKeepKinds = (ks : List KindTree) (s : List ValueTree) (at : ℕ) (d : DxShape) (k : KindTree) → AreOfKinds ks s → DistKinded ks (dx_at at d) k
+ChoicesKeepKinds = (ks : List KindTree) (s : List ValueTree) (at : ℕ) (d : DxShape) (k : KindTree)
+    → AreOfKinds ks s → DistKinded ks (dx_at at d) k
     → IfOk (choices s d) (λ ws. (1 ≤ length ws) × All (λ w. HasKind w.value k × IsWellFormed w.value) ws)

@@ -1,9 +1,10 @@
--- What a distribution chooses in a store: values with whole weights, or its first fault.
+-- Believed: what a distribution chooses in a store: values with whole weights, or its first fault.
 use Rattle.std.specs.Prelude.{ℕ, zero, suc, pos, negsuc, ◌-ℤ◌, ◌+◌, ◌-◌, ◌/◌, ℤ, true, false, List, [], ◌∷◌, ◌++◌, map, nat_lt, if◌then◌else◌, Result, Ok, Err, filter, sum_by}
 use Rattle.kf_frac.specs.Divisors.{gcd_of}
-use Rattle.kf_value.specs.Values.{ValueTree, Truth}
+use Rattle.kf_value.specs.Values.{ValueTree, Truth, whole, elements, is_equal}
 use Rattle.kf_value.specs.Types.{Range, values, counted}
-use Rattle.kf_ops.specs.Values.{Fault, whole, elements, is_equal}
+use Rattle.kf_ops.specs.Values.{Fault}
+use Rattle.kf_core.specs.Results.{then_ok}
 use Rattle.kf_core.specs.Evaluation.{Evaluated, ev, set_of}
 use Rattle.kf_core.specs.Dxs.{DxCaseTree, case_of, DxShape, Sure, UniformSet, UniformRange, Choose, Flip}
 
@@ -26,10 +27,6 @@ Chosen = Result (List Weighted) ChoiceFault
 abbrev pub with_value : Evaluated → (ValueTree → Chosen) → Chosen
 with_value (Ok v) next = next v
 with_value (Err f) next = Err (Arithmetic f)
-
-abbrev pub with_listed : Chosen → (List Weighted → Chosen) → Chosen
-with_listed (Ok ws) next = next ws
-with_listed (Err f) next = Err f
 
 abbrev pub once : ValueTree → Weighted
 once v = record { value = v; weight = 1 }
@@ -55,14 +52,14 @@ case_listed s (case_of x y) = with_value (ev s y) (λ w. weighed (ev s x) (whole
 -- the cases in order, up to the first fault
 abbrev pub cases_listed : List ValueTree → List DxCaseTree → Chosen
 cases_listed s [] = Ok []
-cases_listed s (c ∷ cs) = with_listed (case_listed s c) (λ ws. with_listed (cases_listed s cs) (λ others. Ok (ws ++ others)))
+cases_listed s (c ∷ cs) = then_ok (case_listed s c) (λ ws. then_ok (cases_listed s cs) (λ others. Ok (ws ++ others)))
 
 -- the values as they are written, each with its weight: a value may stand there twice
 abbrev pub listed : List ValueTree → DxShape → Chosen
 listed s (Sure x) = with_value (ev s x) (λ v. Ok (once v ∷ []))
 listed s (UniformSet x) = with_value (ev s x) (λ v. some_of (map once (elements v)))
 listed s (UniformRange x y) = with_value (ev s x) (λ a. with_value (ev s y) (λ b. each_from (whole a) (whole b)))
-listed s (Choose cs) = with_listed (cases_listed s cs) some_of
+listed s (Choose cs) = then_ok (cases_listed s cs) some_of
 listed s (Flip num den) = Ok (record { value = Truth true; weight = num } ∷ record { value = Truth false; weight = den - num } ∷ [])
 
 -- how much weight a value has in all
@@ -84,7 +81,7 @@ lowest ws = map (λ w. record { value = w.value; weight = w.weight / common_fact
 
 -- what a distribution chooses in a store: distinct values, ascending, with positive weights that have no common factor
 abbrev pub choices : List ValueTree → DxShape → Chosen
-choices s d = with_listed (listed s d) (λ ws. Ok (lowest (gathered ws)))
+choices s d = then_ok (listed s d) (λ ws. Ok (lowest (gathered ws)))
 
 -- the sum of all weights
 abbrev pub total : List Weighted → ℕ

@@ -1,13 +1,17 @@
--- What holds of the values of checked expressions.
-use Rattle.std.specs.Prelude.{ℕ, List, map, IsTrue, IfOk}
+-- For bodies: what holds of the values of checked expressions.
+use Rattle.std.specs.Prelude.{◌↔◌, ℕ, List, map, IsTrue, IfOk}
 use Rattle.std.specs.List.{list_all}
-use Rattle.kf_value.specs.Values.{ValueTree, parts, IsWellFormed, EachWellFormed}
-use Rattle.kf_value.specs.Types.{TypeTree, well_formed}
-use Rattle.kf_value.specs.Kinds.{KindTree, HasKind, HaveKinds, kind_parts}
-use Rattle.kf_value.specs.Stores.{IsStore}
+use Rattle.std.specs.List.Sorted.{IsStrictlySortedBy}
+use Rattle.kf_value.specs.Values.{ValueTree, parts, order}
+use Rattle.kf_value.specs.Laws.{IsIn}
+use Rattle.kf_value.specs.Forms.{IsWellFormed, EachWellFormed, HasKind, HaveKinds}
+use Rattle.kf_value.specs.Types.{TypeTree}
+use Rattle.kf_value.specs.Sizes.{well_formed}
+use Rattle.kf_value.specs.Kinds.{KindTree, kind_parts, kind_of}
+use Rattle.kf_value.specs.Numbers.{IsStore}
 use Rattle.kf_core.specs.Exs.{ExTree}
-use Rattle.kf_core.specs.Evaluation.{Evaluated, ev}
-use Rattle.kf_core.specs.Checked.{Kinded, kind_of}
+use Rattle.kf_core.specs.Evaluation.{Evaluated, ev, set_of}
+use Rattle.kf_core.specs.Checked.{Kinded}
 
 -- the values are well formed and of these kinds, one by one
 pub record AreOfKinds (ks : List KindTree) (s : List ValueTree) : Type 0 where
@@ -24,4 +28,9 @@ KeepsKinds = (ks : List KindTree) (s : List ValueTree) (x : ExTree) (k : KindTre
 
 -- the values of a store are of the kinds of the variables' types
 abbrev pub StoresHaveKinds : Type 0
-StoresHaveKinds = (ts : List TypeTree) (n : ℕ) (s : List ValueTree) → IsTrue (list_all well_formed ts) → IsStore ts n s → AreOfKinds (map kind_of ts) s
+StoresHaveKinds = (ts : List TypeTree) (n : ℕ) (s : List ValueTree) → IsTrue (list_all well_formed ts) → IsStore ts n s
+    → AreOfKinds (map kind_of ts) s
+
+-- the members of a set ascend strictly, and are exactly those that are listed
+abbrev pub SetsHoldMembers : Type 0
+SetsHoldMembers = (vs : List ValueTree) → IsStrictlySortedBy order (set_of vs) × ((v : ValueTree) → IsIn v (set_of vs) ↔ IsIn v vs)

@@ -1,14 +1,20 @@
+-- Believed
 pub mod Exs
 pub mod Dxs
 pub mod Sts
 pub mod Programs
+pub mod Results
 pub mod Evaluation
-pub mod Checked
-pub mod Laws
 pub mod Choices
 pub mod Runs
 pub mod Support
 pub mod Scale
 pub mod Joint
-pub mod SupportLaws
+pub mod Rows
+-- For bodies
+pub mod Checked
+pub mod Views
+pub mod Laws
 pub mod ChoiceLaws
+pub mod SupportLaws
+pub mod JointLaws

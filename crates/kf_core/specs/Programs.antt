@@ -1,12 +1,9 @@
--- Whole checked programs.
-use Rattle.std.specs.Prelude.{ℕ, List, map}
+-- Believed: whole checked programs.
+use Rattle.std.specs.Prelude.{ℕ, List}
 use Rattle.kf_value.specs.Types.{TypeTree}
-use Rattle.kf_value.specs.Shapes.{shape_types}
 use Rattle.kf_value.specs.Targets.{Item}
-use Rattle.kf_value.specs.Views.{items_of}
-use Rattle.kf_core.specs.declared.program.Program.{Program}
-use Rattle.kf_core.specs.Dxs.{DxTree, dx_tree, dx_items}
-use Rattle.kf_core.specs.Sts.{StTree, st_tree, st_items}
+use Rattle.kf_core.specs.Dxs.{DxTree}
+use Rattle.kf_core.specs.Sts.{StTree}
 
 pub record ProgramTree : Type 0 where
   -- the types of the variables: the declared ones in order, then the carried copies
@@ -18,13 +15,3 @@ pub record ProgramTree : Type 0 where
   pub target : List Item
   -- the variable from which each item of the target is read
   pub target_slots : List ℕ
-
-abbrev pub program_tree : Program → ProgramTree
-program_tree p = record {
-  types = shape_types p.shape;
-  decls = map dx_tree (dx_items p.decls);
-  copies = p.copies;
-  body = map st_tree (st_items p.body);
-  target = items_of p.target;
-  target_slots = p.target_slots;
-}

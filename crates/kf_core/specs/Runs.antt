@@ -1,12 +1,11 @@
--- Runs: every way through statements from a store, to its end or to a fault, with its trace and its weight (Gibbons et al. 2020, weighted
--- pairs of trace and state; the loop here has a bound on its turns). A store is named by its number in the shape.
+-- Believed: runs: every way through statements from a store, to its end or to a fault, with its trace and its weight (Gibbons et al.
+-- 2020, weighted pairs of trace and state; the loop here has a bound on its turns). A store is named by its number in the shape.
 use Rattle.std.specs.Prelude.{ℕ, suc, zero, ◌*◌, List, [], ◌∷◌, ◌++◌, false, map, take, length, get_or, slice_set, if◌then◌else◌, Option, None, Some, Result, Ok, Err, flat_map}
 use Rattle.std.specs.List.{position}
 use Rattle.std.specs.Cmp.Lexicographic.{pointwise}
-use Rattle.kf_value.specs.Values.{ValueTree, Truth}
+use Rattle.kf_value.specs.Values.{ValueTree, Truth, truth, is_equal}
 use Rattle.kf_value.specs.Types.{TypeTree}
 use Rattle.kf_value.specs.Stores.{stores}
-use Rattle.kf_ops.specs.Values.{truth, is_equal}
 use Rattle.kf_core.specs.Dxs.{DxTree, dx_at}
 use Rattle.kf_core.specs.Sts.{StTree, StTrees, Skip, Assign, Observe, If, While, no_sts, more_sts, sts}
 use Rattle.kf_core.specs.Programs.{ProgramTree}

@@ -1,16 +1,8 @@
--- The scale: the one denominator of the weights of all runs.
-use Rattle.std.specs.Prelude.{ℕ, ◌<◌, ◌≤◌, List, [], ◌∷◌}
-use Rattle.std.specs.List.{All}
-use Rattle.std.specs.Int.{◌∣◌}
+-- Believed: the scale: the one denominator of the weights of all runs.
+use Rattle.std.specs.Prelude.{ℕ, List, [], ◌∷◌}
 use Rattle.kf_frac.specs.Divisors.{lcm_of}
 use Rattle.kf_core.specs.Programs.{ProgramTree}
 use Rattle.kf_core.specs.Runs.{Run, program_runs}
-
--- m is the least positive number that all of these divide
-pub record IsLeastMultiple (ks : List ℕ) (m : ℕ) : Type 0 where
-  pub positive : 0 < m
-  pub multiple : All (λ k. k ∣ m) ks
-  pub least : (n : ℕ) → 0 < n → All (λ k. k ∣ n) ks → m ≤ n
 
 -- the least common multiple of the runs' scales
 abbrev pub common_scale : List Run → ℕ

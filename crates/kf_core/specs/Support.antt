@@ -1,11 +1,12 @@
--- The support pass: which stores are reached, statement by statement, or the first fault.
+-- Believed: the support pass: which stores are reached, statement by statement, or the first fault.
 use Rattle.std.specs.Prelude.{ℕ, suc, zero, Bool, true, false, not, List, [], ◌∷◌, ◌++◌, map, Option, None, Some, Result, Ok, Err}
 use Rattle.std.specs.List.{list_any}
 use Rattle.std.specs.Ordering.{nat_cmp}
 use Rattle.std.specs.BTreeSet.{insert_key}
 use Rattle.std.specs.FinSet.{FinSet, from_list, items, retain, union}
 use Rattle.kf_value.specs.Types.{TypeTree}
-use Rattle.kf_ops.specs.Values.{truth}
+use Rattle.kf_value.specs.Values.{truth}
+use Rattle.kf_core.specs.Results.{then_ok}
 use Rattle.kf_core.specs.Dxs.{DxTree}
 use Rattle.kf_core.specs.Sts.{StTree, StTrees, Skip, Assign, Observe, If, While, no_sts, more_sts, sts}
 use Rattle.kf_core.specs.Programs.{ProgramTree}
@@ -18,14 +19,10 @@ StoreSet = FinSet nat_cmp
 abbrev pub Passed : Type 0 → Type 0
 Passed A = Result A Halted
 
-abbrev pub then_pass : {A B : Type 0} → Passed A → (A → Passed B) → Passed B
-then_pass (Ok x) next = next x
-then_pass (Err f) next = Err f
-
 -- all that is reached from stores in turn, or the fault of the first that has one
 abbrev pub each_pass : (ℕ → Passed (List ℕ)) → List ℕ → Passed (List ℕ)
 each_pass next [] = Ok []
-each_pass next (n ∷ ns) = then_pass (next n) (λ ms. then_pass (each_pass next ns) (λ others. Ok (ms ++ others)))
+each_pass next (n ∷ ns) = then_ok (next n) (λ ms. then_ok (each_pass next ns) (λ others. Ok (ms ++ others)))
 
 -- the numbers of a list, each once and ascending
 abbrev pub ascending : List ℕ → List ℕ
@@ -34,7 +31,7 @@ ascending (n ∷ ns) = insert_key nat_cmp (ascending ns) n
 
 -- the stores of a set are tried in ascending number
 abbrev pub step : (ℕ → Passed (List ℕ)) → StoreSet → Passed StoreSet
-step next ns = then_pass (each_pass next (ascending (items ns))) (λ ms. Ok (from_list ms))
+step next ns = then_ok (each_pass next (ascending (items ns))) (λ ms. Ok (from_list ms))
 
 -- the store itself, once for each choice
 abbrev pub same : ℕ → Tried → Passed (List ℕ)
@@ -45,10 +42,11 @@ same n (Err f) = Err f
 abbrev pub each_moved : ℕ → List (Option ℕ) → Passed (List ℕ)
 each_moved at [] = Ok []
 each_moved at (None ∷ ms) = Err (record { cause = OutOfRange; at = at })
-each_moved at (Some m ∷ ms) = then_pass (each_moved at ms) (λ others. Ok (m ∷ others))
+each_moved at (Some m ∷ ms) = then_ok (each_moved at ms) (λ others. Ok (m ∷ others))
 
 abbrev pub assign_pass : List TypeTree → ℕ → DxTree → StoreSet → Passed StoreSet
-assign_pass ts i d ns = step (λ n. then_pass (tried ts d n) (λ ws. each_moved (place d) (map (λ w. replaced ts i w.value n) ws))) ns
+assign_pass ts i d ns =
+    step (λ n. then_ok (tried ts d n) (λ ws. each_moved (place d) (map (λ w. replaced ts i w.value n) ws))) ns
 
 -- a guard in a store can be true, or false
 abbrev pub can_be : Bool → Tried → Bool
@@ -61,10 +59,11 @@ where_guard b guard ns = retain ns (λ n. can_be b (guard n))
 
 -- what two branches reach: the first one's fault before the second one's
 abbrev pub either_pass : Passed StoreSet → Passed StoreSet → Passed StoreSet
-either_pass one other = then_pass one (λ ns. then_pass other (λ ms. Ok (union ns ms)))
+either_pass one other = then_ok one (λ ns. then_ok other (λ ms. Ok (union ns ms)))
 
 abbrev pub guard_pass : (ℕ → Tried) → (StoreSet → Passed StoreSet) → (StoreSet → Passed StoreSet) → StoreSet → Passed StoreSet
-guard_pass guard taken left ns = then_pass (step (λ n. same n (guard n)) ns) (λ _. either_pass (taken (where_guard true guard ns)) (left (where_guard false guard ns)))
+guard_pass guard taken left ns =
+    then_ok (step (λ n. same n (guard n)) ns) (λ _. either_pass (taken (where_guard true guard ns)) (left (where_guard false guard ns)))
 
 -- behind the last turn: a guard that can still be true is a fault, where it has no fault of its own
 abbrev pub bounded : ℕ → ℕ → Tried → Passed (List ℕ)
@@ -73,8 +72,8 @@ bounded at n (Err f) = Err f
 
 -- a loop turn by turn
 abbrev pub loop_pass : ℕ → (ℕ → Tried) → ℕ → (StoreSet → Passed StoreSet) → StoreSet → Passed StoreSet
-loop_pass zero guard at body ns = then_pass (step (λ n. bounded at n (guard n)) ns) (λ _. Ok (where_guard false guard ns))
-loop_pass (suc k) guard at body ns = guard_pass guard (λ turn. then_pass (body turn) (loop_pass k guard at body)) (λ left. Ok left) ns
+loop_pass zero guard at body ns = then_ok (step (λ n. bounded at n (guard n)) ns) (λ _. Ok (where_guard false guard ns))
+loop_pass (suc k) guard at body ns = guard_pass guard (λ turn. then_ok (body turn) (loop_pass k guard at body)) (λ left. Ok left) ns
 
 -- the stores reached by a statement, and by a block, from a set of stores
 abbrev mutual
@@ -87,12 +86,14 @@ abbrev mutual
 
   pub all_pass : List TypeTree → ℕ → StTrees → StoreSet → Passed StoreSet
   all_pass ts turns no_sts ns = Ok ns
-  all_pass ts turns (more_sts x xs) ns = then_pass (pass ts turns x ns) (all_pass ts turns xs)
+  all_pass ts turns (more_sts x xs) ns = then_ok (pass ts turns x ns) (all_pass ts turns xs)
 
 abbrev pub declare_pass : List TypeTree → ℕ → List DxTree → StoreSet → Passed StoreSet
 declare_pass ts i [] ns = Ok ns
-declare_pass ts i (d ∷ ds) ns = then_pass (assign_pass ts i d ns) (declare_pass ts (suc i) ds)
+declare_pass ts i (d ∷ ds) ns = then_ok (assign_pass ts i d ns) (declare_pass ts (suc i) ds)
 
 -- the final stores of a program, or its first fault
 abbrev pub program_pass : ℕ → ProgramTree → Passed StoreSet
-program_pass turns p = then_pass (declare_pass p.types 0 p.decls (from_list (0 ∷ []))) (λ ns. all_pass p.types turns (sts p.body) (from_list (map (copied p) (items ns))))
+program_pass turns p =
+    then_ok (declare_pass p.types 0 p.decls (from_list (0 ∷ [])))
+    (λ ns. all_pass p.types turns (sts p.body) (from_list (map (copied p) (items ns))))

@@ -1,5 +1,5 @@
 ghost use Rattle.std.specs.Prelude.{◌≡◌};
-ghost use Rattle.kf_core.specs.Dxs.{dx_case_items, dx_items};
+ghost use Rattle.kf_core.specs.Views.{dx_case_items, dx_items};
 
 use crate::Ex;
 

@@ -1,5 +1,5 @@
 ghost use Rattle.std.specs.Prelude.{◌≡◌};
-ghost use Rattle.kf_core.specs.Exs.{ex_items};
+ghost use Rattle.kf_core.specs.Views.{ex_items};
 
 use kf_value::Value;
 

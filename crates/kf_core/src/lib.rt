@@ -10,6 +10,6 @@ mod st;
 pub use dx::{Dx, DxCase, DxCaseList, DxList, DxNode};
 pub use ex::{Ex, ExList};
 pub use kf_value::SlotList;
-pub use laws::{choice_laws, evaluation_laws, run_laws};
+pub use laws::{choice_laws, evaluation_laws, joint_laws, run_laws};
 pub use program::Program;
 pub use st::{St, StList};

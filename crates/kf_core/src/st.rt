@@ -1,5 +1,5 @@
 ghost use Rattle.std.specs.Prelude.{◌≡◌};
-ghost use Rattle.kf_core.specs.Sts.{st_items};
+ghost use Rattle.kf_core.specs.Views.{st_items};
 
 use crate::Dx;
 

@@ -6,11 +6,11 @@ use Rattle.std.specs.Ordering.{is_eq, match_ordering}
 use Rattle.std.specs.List.{AllByRecursion as Each}
 use Rattle.std.specs.List.Sorted.{IsStrictlySortedBy}
 use Rattle.std.proofs.lemmas.List.Sums.{sum_by-cons}
-use Rattle.kf_value.specs.Values.{ValueTree, order}
+use Rattle.kf_value.specs.Values.{ValueTree, order, is_equal}
 use Rattle.kf_value.proofs.ListLemmas.{each_weaker}
 use Rattle.kf_value.proofs.Orders.{goes_on, same, order-itself}
 use Rattle.kf_value.proofs.Sorting.{sorted-nil, sorted-head, sorted-tail}
-use Rattle.kf_ops.specs.Values.{is_equal, inserted}
+use Rattle.kf_ops.specs.Values.{inserted}
 use Rattle.kf_core.specs.Choices.{Weighted, weight_in, gathered, total}
 use Rattle.kf_core.specs.Evaluation.{set_of}
 use Rattle.kf_core.proofs.SetLiterals.{inserted_ascends, set_of_ascends}

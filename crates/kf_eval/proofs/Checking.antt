@@ -4,36 +4,42 @@ use Rattle.std.specs.List.{AllByRecursion as Each}
 use Rattle.std.specs.Option.{option_map}
 use Rattle.std.proofs.lemmas.List.{append_assoc, append-nil, length-map, map-append}
 use Rattle.std.proofs.lemmas.Option.{slice_get_within, get_or_from_slice_get}
-use Rattle.kf_value.specs.Values.{ValueTree, Truth, IsWellFormed}
-use Rattle.kf_value.specs.Kinds.{KindTree, TupleKind, HasKind, kind_parts}
+use Rattle.kf_value.specs.Values.{ValueTree, Truth, truth}
+use Rattle.kf_value.specs.Forms.{IsWellFormed, HasKind}
+use Rattle.kf_value.specs.Kinds.{KindTree, TupleKind, kind_parts, kind_of}
 use Rattle.kf_value.specs.Types.{product}
 use Rattle.kf_value.specs.Shapes.{shape_types, shape_sizes}
-use Rattle.kf_value.specs.Stores.{stores, IsStore}
+use Rattle.kf_value.specs.Stores.{stores}
+use Rattle.kf_value.specs.Numbers.{IsStore}
 use Rattle.kf_value.specs.Views.{value_tree}
 use Rattle.kf_value.specs.declared.shape.Shape.{Shape}
 use Rattle.kf_value.specs.declared.value.Value.{Value}
 use Rattle.kf_value.proofs.ListLemmas.{each_at, left_step}
 use Rattle.kf_ops.specs.Answers.{Answers as OpAnswers}
-use Rattle.kf_ops.specs.Fitting.{FitsRow, IsRow}
+use Rattle.kf_ops.specs.Fitting.{FitsRow}
+use Rattle.kf_ops.specs.Places.{IsRow, pattern_kind}
 use Rattle.kf_ops.specs.Rows.{Row, operators}
-use Rattle.kf_ops.specs.Values.{Fault, DivZero, ArithWide, truth, applied}
+use Rattle.kf_ops.specs.Values.{Fault, DivZero, ArithWide, applied}
 use Rattle.kf_ops.specs.declared.fault.OpFault.{OpFault}
 use Rattle.kf_ops.specs.declared.fault.OpFault.TheVariants as fault
 use Rattle.kf_ops.specs.declared.row.Op.{Op}
 use Rattle.kf_ops.specs.declared.row.Op.TheVariants as op
-use Rattle.kf_core.specs.Exs.{ExTree, Const, Slot, Apply, Tuple, SetOf, Part, exs, exs_list, ex_tree}
-use Rattle.kf_core.specs.Evaluation.{Evaluated, ev, evs, after, joined, all_values, operated, operator_at, at_row}
-use Rattle.kf_core.specs.Checked.{Kinded, EachKinded, AllKinded, pattern_kind, kind_of, truth as truth_kinded, whole, slot, apply, tuple, set, part, none, more, no_more, and_more}
+use Rattle.kf_core.specs.Runs.{store_at}
+use Rattle.kf_core.specs.Exs.{ExTree, Const, Slot, Apply, Tuple, SetOf, Part, exs}
+use Rattle.kf_core.specs.Views.{exs_list, ex_tree}
+use Rattle.kf_core.specs.Results.{then_ok}
+use Rattle.kf_core.specs.Evaluation.{Evaluated, ev, evs, all_values, operated, operator_at, at_row}
+use Rattle.kf_core.specs.Checked.{Kinded, EachKinded, AllKinded, truth as truth_kinded, whole, slot, apply, tuple, set, part, none, more, no_more, and_more}
 use Rattle.kf_core.specs.Laws.{AreOfKinds, GivesKind, KeepsKinds, StoresHaveKinds}
 use Rattle.kf_core.specs.declared.ex.Ex.{Ex}
 use Rattle.kf_core.specs.declared.ex.Ex.TheVariants as ex
-use Rattle.kf_core.proofs.Keeping.{EachGives, all_given, fitting, kinded_length}
+use Rattle.kf_core.proofs.Keeping.{EachGives, all_given, fitting, joined, kinded_length}
 use Rattle.kf_core.proofs.Trees.{ex_tree-Slot, ex_tree-Part}
 use Rattle.kf_eval.specs.Answers.{Answers, IsFaultOf, error_of}
 use Rattle.kf_eval.specs.declared.fault.EvalError.{EvalError}
 use Rattle.kf_eval.specs.declared.fault.EvalError.TheVariants as error
-use Rattle.kf_eval.specs.Kinds.{shape_kinds, store_at, IsKinded, AreKinded, HasPart}
-use Rattle.kf_eval.proofs.Holding.{is_store}
+use Rattle.kf_eval.specs.Kinds.{shape_kinds, IsKinded, AreKinded, HasPart}
+use Rattle.kf_core.proofs.Stores.{store_is}
 
 -- ---- parts of a checked expression
 
@@ -105,7 +111,7 @@ module _ (ks : List KindTree) (place : ℕ) (xs : List ExTree) (calls : CallsRow
       subst (λ c. Needs c (length xs)) (code_of code is)
       (subst (Needs calls.row.code) (sym long) (each_at (λ r. Needs r.code (length (take r.arity r.args))) operators place calls.row row_needs calls.here))
 
-pub plain : (code : Op) (es : List Evaluated) → code ≢ op.Or → code ≢ op.And → code ≢ op.Cond → operated code es ≡ after (all_values es) (applied code)
+pub plain : (code : Op) (es : List Evaluated) → code ≢ op.Or → code ≢ op.And → code ≢ op.Cond → operated code es ≡ then_ok (all_values es) (applied code)
 plain op.Or es a b c = absurd (a refl)
 plain op.And es a b c = absurd (b refl)
 plain op.Not es a b c = refl
@@ -151,8 +157,8 @@ module _ (keeps : KeepsKinds) (ks : List KindTree) (s : List ValueTree) (are : A
       let there = subst (λ (x : Ex). ev s (ex_tree x) ≡ Ok v) same known in
       (inside.0, shown.0, (given_value (ex_tree b.value) (TupleKind (kind_parts inside.0)) v inside.1 there).0, inside.2)
 
-pub store_kinds : StoresHaveKinds → (shape : Shape) (n : ℕ) → n < product (shape_sizes shape) → AreOfKinds (shape_kinds shape) (store_at shape n)
-store_kinds stores shape n below = stores (shape_types shape) n (store_at shape n) shape.formed (is_store shape n below)
+pub store_kinds : StoresHaveKinds → (shape : Shape) (n : ℕ) → n < product (shape_sizes shape) → AreOfKinds (shape_kinds shape) (store_at (shape_types shape) n)
+store_kinds stores shape n below = stores (shape_types shape) n (store_at (shape_types shape) n) shape.formed (store_is (shape_types shape) n below)
 
 -- ---- variables
 
@@ -212,7 +218,7 @@ module _ (ks : List KindTree) (s : List ValueTree) (place : ℕ) (xs : List ExTr
   applied_row =
       ap (λ o. at_row o (evs s (exs xs))) is
       ∙ (plain code (evs s (exs xs)) no_or no_and no_cond
-      ∙ (ap (λ r. after r (applied code)) known ∙ ap (λ c. applied c vs) (sym (code_of ks place xs calls code is))))
+      ∙ (ap (λ r. then_ok r (applied code)) known ∙ ap (λ c. applied c vs) (sym (code_of ks place xs calls code is))))
 
   pub row_value_is : (read : List ValueTree) (v : ValueTree) → read ≡ vs → ((r : Row) → IsRow place r → applied r.code read ≡ Ok v)
       → at_row (operator_at place) (evs s (exs xs)) ≡ Ok v
@@ -282,7 +288,7 @@ item_kinded ks s all items i x done within at so_far = let here = left_step ex_t
 -- ---- the answer
 
 -- in terms of any list of values that is the store's
-pub answer_at : (shape : Shape) (n : ℕ) (s : List ValueTree) (x : ExTree) (r : Result Value EvalError) → IsStore (shape_types shape) n s → Answers r (ev (store_at shape n) x) → Answers r (ev s x)
+pub answer_at : (shape : Shape) (n : ℕ) (s : List ValueTree) (x : ExTree) (r : Result Value EvalError) → IsStore (shape_types shape) n s → Answers r (ev (store_at (shape_types shape) n) x) → Answers r (ev s x)
 answer_at shape n s x r is answers =
     subst (λ (t : List ValueTree). Answers r (ev t x)) (get_or_from_slice_get (stores (shape_types shape)) n s [] is) answers
 

@@ -1,15 +1,20 @@
 -- What rows, tuples and stores hold.
-use Rattle.std.proofs.Common.{◌≡◌, ℕ, ◌<◌, List, [], ◌∷◌, length, map, get_or, slice_get, Some, IfOk, Result, refl, sym, ap, ◌∙◌, subst, false, arith}
-use Rattle.std.specs.Prelude.{slice_index, None}
+use Rattle.std.proofs.Common.{◌≡◌, ℕ, ◌<◌, List, [], ◌∷◌, length, map, get_or, slice_get, zero, suc, Some, IfOk, Result, sym, ap, ◌∙◌, subst, Bool, true, false, arith}
+use Rattle.std.specs.Prelude.{slice_index, None, IsTrue}
+use Rattle.std.specs.List.{list_all}
+use Rattle.std.proofs.lemmas.Bool.{and_parts}
 use Rattle.std.specs.Option.{option_map}
 use Rattle.std.proofs.lemmas.Option.{slice_get-map, slice_get-get_or, slice_get_within, get_or_from_slice_get}
 use Rattle.std.proofs.lemmas.List.{length-map}
 use Rattle.std.proofs.lemmas.List.Elements.{recursion_from_All}
 use Rattle.kf_value.specs.Values.{ValueTree, Truth, Tuple, parts}
-use Rattle.kf_value.specs.Kinds.{HasKind, TupleKind, kind_parts}
-use Rattle.kf_value.specs.Types.{TypeTree, type_tree, count, fault_of, product, values, HasSize}
+use Rattle.kf_value.specs.Kinds.{TupleKind, kind_parts}
+use Rattle.kf_value.specs.Forms.{HasKind}
+use Rattle.kf_value.specs.Types.{TypeTree, count, product, values}
+use Rattle.kf_value.specs.Sizes.{fault_of, well_formed, HasSize}
+use Rattle.kf_value.specs.TypeViews.{type_tree}
 use Rattle.kf_value.specs.Shapes.{shape_types, shape_sizes}
-use Rattle.kf_value.specs.Stores.{stores, IsStore}
+use Rattle.kf_value.specs.Numbers.{IsStore}
 use Rattle.kf_value.specs.Views.{value_tree, value_items, value_trees, type_items, type_trees}
 use Rattle.kf_value.specs.declared.shape.Shape.{Shape}
 use Rattle.kf_value.specs.declared.ty.Ty.{Ty}
@@ -17,15 +22,16 @@ use Rattle.kf_value.specs.declared.ty.TyList.{TyList}
 use Rattle.kf_value.specs.declared.value.Value.{Value}
 use Rattle.kf_value.specs.declared.value.Value.TheVariants as value
 use Rattle.kf_value.specs.declared.value.ValueList.{ValueList}
-use Rattle.kf_value.proofs.Ascending.{length-values}
 use Rattle.kf_value.proofs.ListLemmas.{each_at, mapped_read}
-use Rattle.kf_value.proofs.Places.{length-combinations}
 use Rattle.kf_value.proofs.Trees.{parts_list-parts, value_tree-Tuple}
-use Rattle.kf_ops.specs.Rows.{operators, row_of, rows_of}
+use Rattle.kf_ops.specs.Rows.{operators}
+use Rattle.kf_ops.specs.Views.{row_of, rows_of}
 use Rattle.kf_ops.specs.declared.row.OpRow.{OpRow}
+use Rattle.kf_core.specs.Runs.{store_at}
 use Rattle.kf_core.specs.Evaluation.{operator_at, part_of}
 use Rattle.kf_core.proofs.Keeping.{kinds_length}
-use Rattle.kf_eval.specs.Kinds.{store_at, HasPart}
+use Rattle.kf_core.proofs.Stores.{store_is}
+use Rattle.kf_eval.specs.Kinds.{HasPart}
 
 pub code_found : (rows : List OpRow) (i : ℕ) (d : OpRow) → rows_of rows ≡ operators → i < length operators → operator_at i ≡ Some (get_or rows i d).code
 code_found rows i d same within =
@@ -55,17 +61,12 @@ module _ (v : Value) (vs : ValueList) (k : ℕ) (is : v ≡ value.Tuple vs) wher
 
 -- ---- variables of a store
 
-sizes : (ts : List TypeTree) → map length (map values ts) ≡ map count ts
-sizes [] = refl
-sizes (t ∷ ts) = ap (λ n. n ∷ map length (map values ts)) (length-values t) ∙ ap (λ ns. count t ∷ ns) (sizes ts)
-
--- each number below the product of the sizes is a store's
-pub is_store : (shape : Shape) (n : ℕ) → n < product (shape_sizes shape) → IsStore (shape_types shape) n (store_at shape n)
-unfolding stores
-is_store shape n below =
-    let ts = shape_types shape in
-    let long : length (stores ts) ≡ product (map count ts) = length-combinations (map values ts) ∙ ap product (sizes ts) in
-    slice_get-get_or (stores ts) n [] (rw long below)
+all_at : {X : Type 0} (p : X → Bool) (xs : List X) (i : ℕ) (x : X) → list_all p xs ≡ true → slice_get xs i ≡ Some x → p x ≡ true
+all_at p [] i x all at = (cc)
+all_at p (y ∷ xs) zero x all at =
+    let same : y ≡ x = (cc) in
+    subst (λ z. p z ≡ true) same (and_parts (p y) (list_all p xs) all).0
+all_at p (y ∷ xs) (suc i) x all at = all_at p xs i x (and_parts (p y) (list_all p xs) all).1 at
 
 module _ (shape : Shape) (list : TyList) (read : List Ty) (i : ℕ) (x : Ty) (same : type_trees list ≡ shape_types shape) (is : read ≡ type_items list)
     (within : i < length (shape_types shape)) (at : x ≡ get_or read i x) where
@@ -78,12 +79,15 @@ module _ (shape : Shape) (list : TyList) (read : List Ty) (i : ℕ) (x : Ty) (sa
   pub type_sized : HasSize (type_tree x)
   type_sized = each_at (λ t. fault_of t ≡ None) (shape_types shape) i (type_tree x) (recursion_from_All (λ t. fault_of t ≡ None) (shape_types shape) shape.sized) type_at
 
+  pub type_formed : IsTrue (well_formed (type_tree x))
+  type_formed = all_at well_formed (shape_types shape) i (type_tree x) shape.formed type_at
+
   pub size_at : slice_index (shape_sizes shape) i ≡ count (type_tree x)
   size_at = get_or_from_slice_get (shape_sizes shape) i (count (type_tree x)) 0
       (slice_get-map count (shape_types shape) i ∙ ap (option_map count) type_at)
 
   pub value_found : {E : Type 0} (n k : ℕ) (r : Result Value E) → n < product (shape_sizes shape)
       → ((t : TypeTree) (s : List ValueTree) → slice_get (shape_types shape) i ≡ Some t → IsStore (shape_types shape) n s → slice_get s i ≡ slice_get (values t) k)
-      → IfOk r (λ v. slice_get (values (type_tree x)) k ≡ Some (value_tree v)) → IfOk r (λ v. slice_get (store_at shape n) i ≡ Some (value_tree v))
+      → IfOk r (λ v. slice_get (values (type_tree x)) k ≡ Some (value_tree v)) → IfOk r (λ v. slice_get (store_at (shape_types shape) n) i ≡ Some (value_tree v))
   value_found n k r below digit found =
-      subst (λ o. IfOk r (λ v. o ≡ Some (value_tree v))) (sym (digit (type_tree x) (store_at shape n) type_at (is_store shape n below))) found
+      subst (λ o. IfOk r (λ v. o ≡ Some (value_tree v))) (sym (digit (type_tree x) (store_at (shape_types shape) n) type_at (store_is (shape_types shape) n below))) found

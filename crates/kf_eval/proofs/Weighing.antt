@@ -9,8 +9,9 @@ use Rattle.std.proofs.lemmas.Int.{ints}
 use Rattle.std.proofs.lemmas.List.{append_assoc, append-nil, map-append, length-map}
 use Rattle.std.proofs.lemmas.List.FromFn.{length-range_with_len, map-range_with_len_more}
 use Rattle.std.proofs.lemmas.List.Sums.{sum_by-cons}
-use Rattle.kf_value.specs.Values.{ValueTree, Whole, Set, parts, order, IsWellFormed}
-use Rattle.kf_value.specs.Kinds.{KindTree, WholeKind, HasKind}
+use Rattle.kf_value.specs.Values.{ValueTree, Whole, Set, parts, order, whole, elements}
+use Rattle.kf_value.specs.Forms.{IsWellFormed, HasKind}
+use Rattle.kf_value.specs.Kinds.{KindTree, WholeKind}
 use Rattle.kf_value.specs.Types.{Range, values, counted}
 use Rattle.kf_value.specs.Views.{value_tree, value_trees}
 use Rattle.kf_value.specs.declared.value.Value.{Value}
@@ -18,12 +19,13 @@ use Rattle.kf_value.specs.declared.value.Value.TheVariants as value
 use Rattle.kf_value.specs.declared.value.ValueList.{ValueList}
 use Rattle.kf_value.proofs.Ascending.{values_ascend}
 use Rattle.kf_value.proofs.Trees.{parts_list-parts, value_tree-Int, value_tree-Set}
-use Rattle.kf_ops.specs.Values.{Fault, DivZero, ArithWide, whole, elements}
+use Rattle.kf_ops.specs.Values.{Fault, DivZero, ArithWide}
 use Rattle.kf_core.specs.Checked.{Kinded, CasesKinded, DistKinded, more}
 use Rattle.kf_core.specs.ChoiceLaws.{ChoicesKeepKinds}
 use Rattle.kf_core.specs.Laws.{AreOfKinds}
 use Rattle.kf_core.specs.Choices as core
-use Rattle.kf_core.specs.Choices.{Chosen, ChoiceFault, Arithmetic, NoWeight, NegativeWeight, RangeLong, with_value, with_listed, once, some_of, each_from, weighed, case_listed, cases_listed, gathered, common_factor, lowest, choices, total}
+use Rattle.kf_core.specs.Results.{then_ok}
+use Rattle.kf_core.specs.Choices.{Chosen, ChoiceFault, Arithmetic, NoWeight, NegativeWeight, RangeLong, with_value, once, some_of, each_from, weighed, case_listed, cases_listed, gathered, common_factor, lowest, choices, total}
 use Rattle.kf_core.specs.Dxs.{DxCaseTree, DxShape, DxTree, case_of, dx_at, Sure, UniformSet, UniformRange, Choose}
 use Rattle.kf_core.specs.Evaluation.{Evaluated, ev}
 use Rattle.kf_core.specs.Exs.{ExTree}
@@ -97,7 +99,7 @@ chosen_fault_on go stays r choice.RangeLong h = ap go h ∙ stays RangeLong
 chosen_fault_on go stays r choice.Mem h = tt
 
 abbrev pub finished : Chosen → Chosen
-finished r = with_listed r (λ ws. Ok (lowest (gathered ws)))
+finished r = then_ok r (λ ws. Ok (lowest (gathered ws)))
 
 -- the weights are the defined ones, and few enough to be summed
 abbrev pub AreWeightsOf : Chosen → List Weighted → Type 0
@@ -229,16 +231,16 @@ pub case_parts : {ks : List KindTree} {x y : ExTree} {cs : List DxCaseTree} {k :
 case_parts (more h g others) = (h, g, others)
 
 onto_next : (done ws : List core.Weighted) (r : Chosen)
-    → with_listed r (λ us. Ok ((done ++ ws) ++ us)) ≡ with_listed (with_listed r (λ others. Ok (ws ++ others))) (λ us. Ok (done ++ us))
+    → then_ok r (λ us. Ok ((done ++ ws) ++ us)) ≡ then_ok (then_ok r (λ others. Ok (ws ++ others))) (λ us. Ok (done ++ us))
 onto_next done ws (Ok us) = ap (λ vs. Ok vs) (append_assoc done ws us)
 onto_next done ws (Err f) = refl
 
 onto_same : (done : List core.Weighted) (r : Chosen)
-    → with_listed r (λ us. Ok (done ++ us)) ≡ with_listed (with_listed r (λ others. Ok ([] ++ others))) (λ us. Ok (done ++ us))
+    → then_ok r (λ us. Ok (done ++ us)) ≡ then_ok (then_ok r (λ others. Ok ([] ++ others))) (λ us. Ok (done ++ us))
 onto_same done (Ok us) = refl
 onto_same done (Err f) = refl
 
-onto_none : (r : Chosen) → with_listed r (λ us. Ok ([] ++ us)) ≡ r
+onto_none : (r : Chosen) → then_ok r (λ us. Ok ([] ++ us)) ≡ r
 onto_none (Ok us) = refl
 onto_none (Err f) = refl
 
@@ -257,7 +259,7 @@ module _ (ks : List KindTree) (s : List ValueTree) where
     pub kind : KindTree
     pub kinded : CasesKinded ks left kind
     pub done : List core.Weighted
-    pub listed : with_listed (cases_listed s left) (λ us. Ok (done ++ us)) ≡ cases_listed s all
+    pub listed : then_ok (cases_listed s left) (λ us. Ok (done ++ us)) ≡ cases_listed s all
     pub positive : ArePositive done
     pub gathers : Gathers done items
     pub bound : total items ≤ n * 2 ^ 63
@@ -268,9 +270,9 @@ module _ (ks : List KindTree) (s : List ValueTree) where
 
   module _ (all left : List DxCaseTree) (x y : ExTree) (items : List core.Weighted) (n : ℕ) (before : CasesSoFar all (case_of x y ∷ left) items n) where
     listed_next : (ws : List core.Weighted) → case_listed s (case_of x y) ≡ Ok ws
-        → with_listed (with_listed (cases_listed s left) (λ others. Ok (ws ++ others))) (λ us. Ok (before.done ++ us)) ≡ cases_listed s all
+        → then_ok (then_ok (cases_listed s left) (λ others. Ok (ws ++ others))) (λ us. Ok (before.done ++ us)) ≡ cases_listed s all
     listed_next ws known =
-        ap (λ e. with_listed (with_listed e (λ vs. with_listed (cases_listed s left) (λ others. Ok (vs ++ others)))) (λ us. Ok (before.done ++ us))) (sym known) ∙ before.listed
+        ap (λ e. then_ok (then_ok e (λ vs. then_ok (cases_listed s left) (λ others. Ok (vs ++ others)))) (λ us. Ok (before.done ++ us))) (sym known) ∙ before.listed
 
     pub cases_pass : case_listed s (case_of x y) ≡ Ok [] → CasesSoFar all left items (n + 1)
     cases_pass known = record {
@@ -297,9 +299,9 @@ module _ (ks : List KindTree) (s : List ValueTree) where
 
     pub cases_fault : (err : ChoiceError) → IsChoiceFaultOf (case_listed s (case_of x y)) err → IsChoiceFaultOf (choices s (Choose all)) err
     cases_fault err h =
-        subst (λ (r : Chosen). IsChoiceFaultOf (finished (with_listed r some_of)) err) before.listed
+        subst (λ (r : Chosen). IsChoiceFaultOf (finished (then_ok r some_of)) err) before.listed
         (chosen_fault_on
-        (λ e. finished (with_listed (with_listed (with_listed e (λ vs. with_listed (cases_listed s left) (λ others. Ok (vs ++ others)))) (λ us. Ok (before.done ++ us))) some_of))
+        (λ e. finished (then_ok (then_ok (then_ok e (λ vs. then_ok (cases_listed s left) (λ others. Ok (vs ++ others)))) (λ us. Ok (before.done ++ us))) some_of))
         (λ f. refl) (case_listed s (case_of x y)) err h)
 
   module _ (all : List DxCaseTree) (items : List core.Weighted) (n : ℕ) (at_end : CasesSoFar all [] items n) where
@@ -307,7 +309,7 @@ module _ (ks : List KindTree) (s : List ValueTree) where
     all_listed = sym at_end.listed ∙ ap (λ us. Ok us) (append-nil at_end.done)
 
     chosen : (done : List core.Weighted) → cases_listed s all ≡ Ok done → choices s (Choose all) ≡ finished (some_of done)
-    chosen done is = ap (λ r. finished (with_listed r some_of)) is
+    chosen done is = ap (λ r. finished (then_ok r some_of)) is
 
     no_choice : (done : List core.Weighted) → ArePositive done → Gathers done [] → finished (some_of done) ≡ Err NoWeight
     no_choice [] h is = refl

@@ -1,4 +1,4 @@
--- What the program may answer where a value or a fault is defined.
+-- For bodies: what the program may answer where a value or a fault is defined.
 use Rattle.std.specs.Prelude.{◌≡◌, Result, Ok, Err, MatchResult}
 use Rattle.kf_value.specs.Views.{value_tree}
 use Rattle.kf_value.specs.declared.value.Value.{Value}

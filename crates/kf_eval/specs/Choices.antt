@@ -1,4 +1,4 @@
--- What the program may answer where choices are defined.
+-- For bodies: what the program may answer where choices are defined.
 use Rattle.std.specs.Prelude.{◌≡◌, List, map, Result, Ok, Err, MatchResult}
 use Rattle.kf_value.specs.Views.{value_tree}
 use Rattle.kf_ops.specs.Values.{DivZero, ArithWide}

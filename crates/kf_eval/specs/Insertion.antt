@@ -1,4 +1,4 @@
--- Putting a value at a place of a list.
+-- For bodies: putting a value at a place of a list.
 use Rattle.std.specs.Prelude.{ℕ, List, ◌∷◌, ◌++◌, take, drop, Option, None, Some}
 use Rattle.kf_value.specs.Values.{ValueTree}
 

@@ -1,21 +1,17 @@
--- Stores of a shape, and expressions that read them.
-use Rattle.std.specs.Prelude.{◌≡◌, ℕ, List, [], map, get_or, slice_get, Some}
+-- For bodies: the kinds of a shape's variables, and expressions that have some kind where variables have these.
+use Rattle.std.specs.Prelude.{◌≡◌, ℕ, List, map, slice_get, Some}
 use Rattle.std.specs.List.{AllByRecursion as Each}
 use Rattle.kf_value.specs.Values.{ValueTree}
-use Rattle.kf_value.specs.Kinds.{KindTree, TupleKind, HasKind, kind_parts}
+use Rattle.kf_value.specs.Kinds.{KindTree, TupleKind, kind_parts, kind_of}
+use Rattle.kf_value.specs.Forms.{HasKind}
 use Rattle.kf_value.specs.Shapes.{shape_types}
-use Rattle.kf_value.specs.Stores.{stores}
 use Rattle.kf_value.specs.declared.shape.Shape.{Shape}
 use Rattle.kf_core.specs.Exs.{ExTree}
-use Rattle.kf_core.specs.Checked.{Kinded, kind_of}
+use Rattle.kf_core.specs.Checked.{Kinded}
 
 -- the kinds of the variables
 abbrev pub shape_kinds : Shape → List KindTree
 shape_kinds shape = map kind_of (shape_types shape)
-
--- the values of the variables in the store with this number
-abbrev pub store_at : Shape → ℕ → List ValueTree
-store_at shape n = get_or (stores (shape_types shape)) n []
 
 -- the expression is checked where variables have these kinds
 abbrev pub IsKinded : List KindTree → ExTree → Type 0

@@ -1,3 +1,4 @@
+-- For bodies
 pub mod Answers
 pub mod Kinds
 pub mod Insertion

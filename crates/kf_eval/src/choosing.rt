@@ -2,17 +2,18 @@
 
 ghost use Rattle.std.specs.Prelude.{◌≡◌, ◌<◌, ◌≤◌, ◌+◌, ◌^◌, List, length, map, IfOk, IfSome, OnOk};
 ghost use Rattle.std.specs.List.{All};
-ghost use Rattle.kf_value.specs.Values.{ValueTree, IsWellFormed};
-ghost use Rattle.kf_value.specs.Types.{product};
-ghost use Rattle.kf_value.specs.Kinds.{KindTree, HasKind};
-ghost use Rattle.kf_value.specs.Shapes.{shape_types, shape_sizes};
-ghost use Rattle.kf_value.specs.Stores.{IsStore};
+ghost use Rattle.kf_value.specs.Values.{ValueTree};
+ghost use Rattle.kf_value.specs.Forms.{IsWellFormed, HasKind};
+ghost use Rattle.kf_value.specs.Kinds.{KindTree};
+ghost use Rattle.kf_value.specs.Shapes.{shape_types, shape_size};
+ghost use Rattle.kf_value.specs.Numbers.{IsStore};
+ghost use Rattle.kf_core.specs.Runs.{store_at};
 ghost use Rattle.kf_core.specs.Checked.{DistKinded};
 ghost use Rattle.kf_core.specs.Choices.{choices as choices_of};
-ghost use Rattle.kf_core.specs.Dxs.{dx_tree, dx_shape};
+ghost use Rattle.kf_core.specs.Views.{dx_tree, dx_shape};
 ghost use Rattle.kf_eval.specs.Choices.{AnswersChoice, weighted_trees};
 ghost use Rattle.kf_eval.specs.Gathering.{AnswersWeights};
-ghost use Rattle.kf_eval.specs.Kinds.{shape_kinds, store_at};
+ghost use Rattle.kf_eval.specs.Kinds.{shape_kinds};
 
 use crate::choice::{Choice, ChoiceError, Weighted, WeightedList};
 use crate::weights::{choose, flip, sure, total_of, uniform_range, uniform_set};
@@ -25,7 +26,7 @@ use std::alloc::Global;
 /// Equal values are added, and the weights are in lowest terms. The first fault decides: expressions are evaluated in
 /// order, of a case its weight before its value, and a value of weight 0 isn't evaluated.
 pub fn choices(alloc: Global, d: &Dx, shape: &Shape, store: u64) -> Result<Choice, ChoiceError>
-    requires store { store < product (shape_sizes shape.now) }
+    requires store { store < shape_size shape.now }
     requires kinded { (k : KindTree) × DistKinded (shape_kinds shape.now) (dx_tree d.now) k }
     ensures choice { (s : List ValueTree) → IsStore (shape_types shape.now) store s → AnswersChoice result (choices_of s (dx_shape d.now.node)) }
     ensures kind { (k : KindTree) → DistKinded (shape_kinds shape.now) (dx_tree d.now) k
@@ -48,9 +49,9 @@ fn weights_of(
     shape: &Shape,
     store: u64,
 ) -> Result<Vec<Weighted>, ChoiceError>
-    requires store { store < product (shape_sizes shape.now) }
+    requires store { store < shape_size shape.now }
     requires kinded { (k : KindTree) × DistKinded (shape_kinds shape.now) (dx_tree d.now) k }
-    ensures { AnswersWeights result (choices_of (store_at shape.now store) (dx_shape d.now.node)) }
+    ensures { AnswersWeights result (choices_of (store_at (shape_types shape.now) store) (dx_shape d.now.node)) }
 {
     match &d.node {
         DxNode::Sure(x) => sure(alloc, x, shape, store),

@@ -1,25 +1,27 @@
 //! The value of an expression in a store.
 
 ghost use Rattle.std.specs.Prelude.{◌≡◌, ◌<◌, List, length, map, IfOk, MatchResult};
-ghost use Rattle.kf_value.specs.Values.{ValueTree, IsWellFormed};
-ghost use Rattle.kf_value.specs.Types.{product};
-ghost use Rattle.kf_value.specs.Kinds.{KindTree, HasKind};
-ghost use Rattle.kf_value.specs.Shapes.{shape_types, shape_sizes};
-ghost use Rattle.kf_value.specs.Stores.{IsStore};
+ghost use Rattle.kf_value.specs.Values.{ValueTree};
+ghost use Rattle.kf_value.specs.Forms.{IsWellFormed, HasKind};
+ghost use Rattle.kf_value.specs.Kinds.{KindTree};
+ghost use Rattle.kf_value.specs.Shapes.{shape_types, shape_size};
+ghost use Rattle.kf_value.specs.Numbers.{IsStore};
 ghost use Rattle.kf_value.specs.Views.{value_tree};
-ghost use Rattle.kf_core.specs.Exs.{Apply, SetOf, Tuple, ex_tree, exs as exs_tree};
+ghost use Rattle.kf_core.specs.Runs.{store_at};
+ghost use Rattle.kf_core.specs.Exs.{Apply, SetOf, Tuple, exs as exs_tree};
+ghost use Rattle.kf_core.specs.Views.{ex_tree};
 ghost use Rattle.kf_core.specs.Evaluation.{ev, evs, all_values, operated};
 ghost use Rattle.kf_core.specs.Checked.{Kinded};
 ghost use Rattle.kf_ops.specs.declared.row.Op.TheVariants as op;
 ghost use Rattle.kf_eval.specs.Answers.{Answers, IsFaultOf};
-ghost use Rattle.kf_eval.specs.Kinds.{shape_kinds, store_at, IsKinded, AreKinded};
+ghost use Rattle.kf_eval.specs.Kinds.{shape_kinds, IsKinded, AreKinded};
 
 use crate::fault::EvalError;
-use crate::parts::{code_at, is_true, part_at, variable};
+use crate::parts::{code_at, part_at, value_in};
 use crate::sets::set_of;
 use kf_core::{Ex, evaluation_laws};
 use kf_ops::{Op, apply};
-use kf_value::{Shape, Value, ValueList};
+use kf_value::{Shape, Value, ValueList, is_true};
 use std::alloc::Global;
 
 /// The value of a checked expression in a store, named by its number in the shape.
@@ -27,7 +29,7 @@ use std::alloc::Global;
 /// Arguments are evaluated from left to right, and the first fault decides. `or`, `and` and `cond` evaluate only what
 /// decides.
 pub fn eval(alloc: Global, e: &Ex, shape: &Shape, store: u64) -> Result<Value, EvalError>
-    requires store { store < product (shape_sizes shape.now) }
+    requires store { store < shape_size shape.now }
     requires kinded { (k : KindTree) × Kinded (shape_kinds shape.now) (ex_tree e.now) k }
     ensures value { (s : List ValueTree) → IsStore (shape_types shape.now) store s → Answers result (ev s (ex_tree e.now)) }
     ensures kind { (k : KindTree) → Kinded (shape_kinds shape.now) (ex_tree e.now) k
@@ -39,13 +41,13 @@ pub fn eval(alloc: Global, e: &Ex, shape: &Shape, store: u64) -> Result<Value, E
 
 #[cycle(eval)]
 fn value_of(alloc: Global, e: &Ex, shape: &Shape, store: u64) -> Result<Value, EvalError>
-    requires store { store < product (shape_sizes shape.now) }
+    requires store { store < shape_size shape.now }
     requires kinded { IsKinded (shape_kinds shape.now) (ex_tree e.now) }
-    ensures { Answers result (ev (store_at shape.now store) (ex_tree e.now)) }
+    ensures { Answers result (ev (store_at (shape_types shape.now) store) (ex_tree e.now)) }
 {
     match e {
         Ex::Const(value) => Ok(value.copy(alloc)?),
-        Ex::Slot(i) => Ok(variable(alloc, usize::from(*i), shape, store)?),
+        Ex::Slot(i) => Ok(value_in(alloc, shape, store, usize::from(*i))?),
         Ex::Apply { row, args } => {
             operation(alloc, usize::from(*row), args.as_slice(), shape, store)
         }
@@ -61,9 +63,9 @@ fn value_of(alloc: Global, e: &Ex, shape: &Shape, store: u64) -> Result<Value, E
 
 #[cycle(eval)]
 fn tuple(alloc: Global, parts: &[Ex], shape: &Shape, store: u64) -> Result<Value, EvalError>
-    requires store { store < product (shape_sizes shape.now) }
+    requires store { store < shape_size shape.now }
     requires kinded { IsKinded (shape_kinds shape.now) (Tuple (exs_tree (map ex_tree parts.now))) }
-    ensures { Answers result (ev (store_at shape.now store) (Tuple (exs_tree (map ex_tree parts.now)))) }
+    ensures { Answers result (ev (store_at (shape_types shape.now) store) (Tuple (exs_tree (map ex_tree parts.now)))) }
 {
     let values = values_of(alloc, parts, shape, store)?;
     Ok(Value::Tuple(ValueList::new(values)))
@@ -71,9 +73,9 @@ fn tuple(alloc: Global, parts: &[Ex], shape: &Shape, store: u64) -> Result<Value
 
 #[cycle(eval)]
 fn set(alloc: Global, members: &[Ex], shape: &Shape, store: u64) -> Result<Value, EvalError>
-    requires store { store < product (shape_sizes shape.now) }
+    requires store { store < shape_size shape.now }
     requires kinded { IsKinded (shape_kinds shape.now) (SetOf (exs_tree (map ex_tree members.now))) }
-    ensures { Answers result (ev (store_at shape.now store) (SetOf (exs_tree (map ex_tree members.now)))) }
+    ensures { Answers result (ev (store_at (shape_types shape.now) store) (SetOf (exs_tree (map ex_tree members.now)))) }
 {
     let values = values_of(alloc, members, shape, store)?;
     Ok(Value::Set(ValueList::new(set_of(alloc, values)?)))
@@ -83,9 +85,9 @@ fn set(alloc: Global, members: &[Ex], shape: &Shape, store: u64) -> Result<Value
 #[cycle(eval)]
 #[tactic(auto, using(crate::proofs::Checking::item_kinded))]
 fn values_of(alloc: Global, exs: &[Ex], shape: &Shape, store: u64) -> Result<Vec<Value>, EvalError>
-    requires store { store < product (shape_sizes shape.now) }
+    requires store { store < shape_size shape.now }
     requires kinded { AreKinded (shape_kinds shape.now) (map ex_tree exs.now) }
-    ensures { let defined = all_values (evs (store_at shape.now store) (exs_tree (map ex_tree exs.now))) in
+    ensures { let defined = all_values (evs (store_at (shape_types shape.now) store) (exs_tree (map ex_tree exs.now))) in
         MatchResult result (λ vs. defined ≡ Ok (map value_tree vs.items)) (IsFaultOf defined) }
 {
     let mut values = Vec::new(alloc);
@@ -104,9 +106,9 @@ fn operation(
     shape: &Shape,
     store: u64,
 ) -> Result<Value, EvalError>
-    requires store { store < product (shape_sizes shape.now) }
+    requires store { store < shape_size shape.now }
     requires kinded { IsKinded (shape_kinds shape.now) (Apply row (exs_tree (map ex_tree args.now))) }
-    ensures { Answers result (ev (store_at shape.now store) (Apply row (exs_tree (map ex_tree args.now)))) }
+    ensures { Answers result (ev (store_at (shape_types shape.now) store) (Apply row (exs_tree (map ex_tree args.now)))) }
 {
     match code_at(row) {
         Op::Or => or(alloc, args, shape, store),
@@ -123,10 +125,10 @@ fn operation(
 /// The second argument is evaluated only where the first is false.
 #[cycle(eval)]
 fn or(alloc: Global, args: &[Ex], shape: &Shape, store: u64) -> Result<Value, EvalError>
-    requires store { store < product (shape_sizes shape.now) }
+    requires store { store < shape_size shape.now }
     requires two { length args.now ≡ 2 }
     requires kinded { AreKinded (shape_kinds shape.now) (map ex_tree args.now) }
-    ensures { Answers result (operated op.Or (evs (store_at shape.now store) (exs_tree (map ex_tree args.now)))) }
+    ensures { Answers result (operated op.Or (evs (store_at (shape_types shape.now) store) (exs_tree (map ex_tree args.now)))) }
 {
     let first = value_of(alloc, &args[0], shape, store)?;
     if is_true(&first) {
@@ -139,10 +141,10 @@ fn or(alloc: Global, args: &[Ex], shape: &Shape, store: u64) -> Result<Value, Ev
 /// The second argument is evaluated only where the first is true.
 #[cycle(eval)]
 fn and(alloc: Global, args: &[Ex], shape: &Shape, store: u64) -> Result<Value, EvalError>
-    requires store { store < product (shape_sizes shape.now) }
+    requires store { store < shape_size shape.now }
     requires two { length args.now ≡ 2 }
     requires kinded { AreKinded (shape_kinds shape.now) (map ex_tree args.now) }
-    ensures { Answers result (operated op.And (evs (store_at shape.now store) (exs_tree (map ex_tree args.now)))) }
+    ensures { Answers result (operated op.And (evs (store_at (shape_types shape.now) store) (exs_tree (map ex_tree args.now)))) }
 {
     let left = value_of(alloc, &args[0], shape, store)?;
     if is_true(&left) {
@@ -155,10 +157,10 @@ fn and(alloc: Global, args: &[Ex], shape: &Shape, store: u64) -> Result<Value, E
 /// Only one of the second and the third argument is evaluated.
 #[cycle(eval)]
 fn cond(alloc: Global, args: &[Ex], shape: &Shape, store: u64) -> Result<Value, EvalError>
-    requires store { store < product (shape_sizes shape.now) }
+    requires store { store < shape_size shape.now }
     requires three { length args.now ≡ 3 }
     requires kinded { AreKinded (shape_kinds shape.now) (map ex_tree args.now) }
-    ensures { Answers result (operated op.Cond (evs (store_at shape.now store) (exs_tree (map ex_tree args.now)))) }
+    ensures { Answers result (operated op.Cond (evs (store_at (shape_types shape.now) store) (exs_tree (map ex_tree args.now)))) }
 {
     let test = value_of(alloc, &args[0], shape, store)?;
     if is_true(&test) {

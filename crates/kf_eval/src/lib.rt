@@ -14,4 +14,4 @@ pub use choice::{Choice, ChoiceError, Weighted, WeightedList};
 pub use choosing::choices;
 pub use evaluation::eval;
 pub use fault::EvalError;
-pub use parts::is_true;
+pub use parts::value_in;

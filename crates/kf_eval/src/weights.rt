@@ -3,18 +3,19 @@
 ghost use Rattle.std.specs.Prelude.{◌≡◌, ◌<◌, ◌≤◌, ◌+◌, ◌^◌, List, length, map, pos, ◌-◌, ◌+ℤ◌, ◌≤ℤ◌, IfOk, IfSome, Ok};
 ghost use Rattle.std.specs.List.Sorted.{IsStrictlySortedBy};
 ghost use Rattle.kf_value.specs.Kinds.{KindTree, SetKind, WholeKind};
-ghost use Rattle.kf_value.specs.Shapes.{shape_sizes};
-ghost use Rattle.kf_value.specs.Types.{Range, product, values};
-ghost use Rattle.kf_value.specs.Values.{ValueTree, order};
+ghost use Rattle.kf_value.specs.Shapes.{shape_size, shape_types};
+ghost use Rattle.kf_value.specs.Types.{Range, values};
+ghost use Rattle.kf_value.specs.Values.{ValueTree, order, whole};
 ghost use Rattle.kf_value.specs.Views.{value_tree};
-ghost use Rattle.kf_ops.specs.Values.{whole};
+ghost use Rattle.kf_core.specs.Runs.{store_at};
 ghost use Rattle.kf_core.specs.Checked.{CasesKinded, Kinded};
-ghost use Rattle.kf_core.specs.Choices.{case_listed, choices as choices_of, lowest, gathered, once, some_of, total, with_listed};
-ghost use Rattle.kf_core.specs.Dxs.{Choose, Flip, Sure, UniformRange, UniformSet, dx_case_tree};
-ghost use Rattle.kf_core.specs.Exs.{ex_tree};
+ghost use Rattle.kf_core.specs.Results.{then_ok};
+ghost use Rattle.kf_core.specs.Choices.{case_listed, choices as choices_of, lowest, gathered, once, some_of, total};
+ghost use Rattle.kf_core.specs.Dxs.{Choose, Flip, Sure, UniformRange, UniformSet};
+ghost use Rattle.kf_core.specs.Views.{dx_case_tree, ex_tree};
 ghost use Rattle.kf_eval.specs.Choices.{weighted_tree};
 ghost use Rattle.kf_eval.specs.Gathering.{AnswersCase, AnswersWeights};
-ghost use Rattle.kf_eval.specs.Kinds.{IsKinded, shape_kinds, store_at};
+ghost use Rattle.kf_eval.specs.Kinds.{IsKinded, shape_kinds};
 
 use crate::choice::{ChoiceError, Weighted};
 use crate::evaluation::eval;
@@ -25,9 +26,9 @@ use std::alloc::Global;
 
 /// The value of the expression, for certain.
 pub fn sure(alloc: Global, x: &Ex, shape: &Shape, store: u64) -> Result<Vec<Weighted>, ChoiceError>
-    requires store { store < product (shape_sizes shape.now) }
+    requires store { store < shape_size shape.now }
     requires kinded { IsKinded (shape_kinds shape.now) (ex_tree x.now) }
-    ensures { AnswersWeights result (choices_of (store_at shape.now store) (Sure (ex_tree x.now))) }
+    ensures { AnswersWeights result (choices_of (store_at (shape_types shape.now) store) (Sure (ex_tree x.now))) }
 {
     let value = eval(alloc, x, shape, store)?;
     let mut items = Vec::new(alloc);
@@ -42,9 +43,9 @@ pub fn uniform_set(
     shape: &Shape,
     store: u64,
 ) -> Result<Vec<Weighted>, ChoiceError>
-    requires store { store < product (shape_sizes shape.now) }
+    requires store { store < shape_size shape.now }
     requires kinded { (k : KindTree) × Kinded (shape_kinds shape.now) (ex_tree x.now) (SetKind k) }
-    ensures { AnswersWeights result (choices_of (store_at shape.now store) (UniformSet (ex_tree x.now))) }
+    ensures { AnswersWeights result (choices_of (store_at (shape_types shape.now) store) (UniformSet (ex_tree x.now))) }
 {
     match eval(alloc, x, shape, store)? {
         Value::Set(elements) => each_once(alloc, elements.as_slice()),
@@ -60,10 +61,10 @@ pub fn uniform_range(
     shape: &Shape,
     store: u64,
 ) -> Result<Vec<Weighted>, ChoiceError>
-    requires store { store < product (shape_sizes shape.now) }
+    requires store { store < shape_size shape.now }
     requires first { Kinded (shape_kinds shape.now) (ex_tree x.now) WholeKind }
     requires last { Kinded (shape_kinds shape.now) (ex_tree y.now) WholeKind }
-    ensures { AnswersWeights result (choices_of (store_at shape.now store) (UniformRange (ex_tree x.now) (ex_tree y.now))) }
+    ensures { AnswersWeights result (choices_of (store_at (shape_types shape.now) store) (UniformRange (ex_tree x.now) (ex_tree y.now))) }
 {
     let first = number_in(&eval(alloc, x, shape, store)?);
     let last = number_in(&eval(alloc, y, shape, store)?);
@@ -84,9 +85,9 @@ pub fn choose(
     shape: &Shape,
     store: u64,
 ) -> Result<Vec<Weighted>, ChoiceError>
-    requires store { store < product (shape_sizes shape.now) }
+    requires store { store < shape_size shape.now }
     requires kinded { (k : KindTree) × CasesKinded (shape_kinds shape.now) (map dx_case_tree cases.now) k }
-    ensures { AnswersWeights result (choices_of (store_at shape.now store) (Choose (map dx_case_tree cases.now))) }
+    ensures { AnswersWeights result (choices_of (store_at (shape_types shape.now) store) (Choose (map dx_case_tree cases.now))) }
 {
     let mut items = Vec::new(alloc);
     for case in cases {
@@ -130,10 +131,10 @@ fn weighed(
     shape: &Shape,
     store: u64,
 ) -> Result<Option<Weighted>, ChoiceError>
-    requires store { store < product (shape_sizes shape.now) }
+    requires store { store < shape_size shape.now }
     requires value { IsKinded (shape_kinds shape.now) (ex_tree case.now.value) }
     requires weight { Kinded (shape_kinds shape.now) (ex_tree case.now.weight) WholeKind }
-    ensures listed { AnswersCase result (case_listed (store_at shape.now store) (dx_case_tree case.now)) }
+    ensures listed { AnswersCase result (case_listed (store_at (shape_types shape.now) store) (dx_case_tree case.now)) }
     ensures within { IfOk result (λ item. IfSome item (λ w. (0 < w.weight) × (w.weight < 2 ^ 63))) }
 {
     let weight = number_in(&eval(alloc, &case.weight, shape, store)?);
@@ -164,7 +165,7 @@ fn number_in(value: &Value) -> i64
 /// Distinct values in ascending order, each with weight 1.
 fn each_once(alloc: Global, values: &[Value]) -> Result<Vec<Weighted>, ChoiceError>
     requires { IsStrictlySortedBy order (map value_tree values.now) }
-    ensures { AnswersWeights result (with_listed (some_of (map once (map value_tree values.now))) (λ ws. Ok (lowest (gathered ws)))) }
+    ensures { AnswersWeights result (then_ok (some_of (map once (map value_tree values.now))) (λ ws. Ok (lowest (gathered ws)))) }
 {
     if values.is_empty() {
         return Err(ChoiceError::NoWeight);
@@ -183,7 +184,7 @@ fn each_once(alloc: Global, values: &[Value]) -> Result<Vec<Weighted>, ChoiceErr
 fn each_number(alloc: Global, first: i64, count: u32) -> Result<Vec<Weighted>, ChoiceError>
     requires some { 1 ≤ count }
     requires fits { (first +ℤ pos count) ≤ℤ pos (2 ^ 63) }
-    ensures { AnswersWeights result (with_listed (some_of (map once (values (Range first (first +ℤ pos (count - 1)))))) (λ ws. Ok (lowest (gathered ws)))) }
+    ensures { AnswersWeights result (then_ok (some_of (map once (values (Range first (first +ℤ pos (count - 1)))))) (λ ws. Ok (lowest (gathered ws)))) }
 {
     let mut items = Vec::new(alloc);
     for k in 0..count {

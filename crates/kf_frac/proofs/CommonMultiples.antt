@@ -4,7 +4,8 @@ use Rattle.std.proofs.Math.Nat.{mul-div_cancel', dvd-mul_right, dvd-mul_left, dv
 use Rattle.std.proofs.lemmas.Bool.Decides.{nat_tests}
 use Rattle.std.proofs.lemmas.Nat.Gcd.{le_of_dvd, dvd_of_mod-eq-zero, mod-eq-zero_of_dvd}
 use Rattle.std.specs.Int.{IsGcd, ◌∣◌}
-use Rattle.kf_frac.specs.Divisors.{gcd_of, IsLcm, first_multiple, lcm_of}
+use Rattle.kf_frac.specs.Divisors.{gcd_of, first_multiple, lcm_of}
+use Rattle.kf_frac.specs.Laws.{IsLcm}
 use Rattle.kf_frac.proofs.CommonDivisors.{gcd_is, gcd_positive, gcd_quotients, divides_other, by_test}
 
 -- ---- the product of two numbers over their greatest common divisor

@@ -6,7 +6,8 @@ use Rattle.std.proofs.Math.Nat.{mul-div_cancel', div-mul_cancel, div-one, mul_co
 use Rattle.std.specs.Int.{◌∣◌}
 use Rattle.kf_frac.specs.declared.frac.Frac.{Frac}
 use Rattle.kf_frac.specs.Divisors.{gcd_of}
-use Rattle.kf_frac.specs.Fractions.{reduced_num, reduced_den, signed, PartsFit, limit}
+use Rattle.kf_frac.specs.Fractions.{reduced_num, reduced_den, limit}
+use Rattle.kf_frac.specs.Parts.{signed, PartsFit}
 use Rattle.kf_frac.proofs.CommonDivisors.{gcd_is, gcd_positive, gcd_quotients, gcd_swap, coprime_part, coprime_product}
 use Rattle.kf_frac.proofs.CommonMultiples.{product_positive}
 use Rattle.kf_frac.proofs.LowestTerms.{reduced_num_signed, reduced_den_signed, unsigned_of_signed, reduced_num_same, reduced_den_same, reduced_coprime}

@@ -3,7 +3,8 @@ use Rattle.std.proofs.Common.{◌≡◌, ℕ, ◌*◌, ◌/◌, ◌<◌, Bool, t
 use Rattle.std.proofs.Math.Nat.{mul-div_cancel', div-mul_cancel, mul-div-mul_left, div-eq_of_eq-mul_left, div-le_self, mul_comm}
 use Rattle.std.specs.Int.{IsGcd}
 use Rattle.kf_frac.specs.Divisors.{gcd_of, lcm_of}
-use Rattle.kf_frac.specs.Fractions.{reduced_num, reduced_den, signed, PartsFit}
+use Rattle.kf_frac.specs.Fractions.{reduced_num, reduced_den}
+use Rattle.kf_frac.specs.Parts.{signed, PartsFit}
 use Rattle.kf_frac.proofs.CommonDivisors.{gcd_is, gcd_positive, gcd_multiples}
 use Rattle.kf_frac.proofs.CommonMultiples.{lcm_quotient}
 use Rattle.kf_frac.proofs.LowestTerms.{reduced_num_signed, reduced_den_signed, signed_parts, reduced_num_abs, reduced_den_is}

@@ -1,7 +1,6 @@
--- Sums of two fractions, and the value of a product in two words.
-use Rattle.std.specs.Prelude.{ℕ, ◌+◌, ◌*◌, ◌/◌, ◌^◌, ℤ, pos, ◌+ℤ◌, ◌*ℤ◌}
+-- For bodies: sums of two fractions.
+use Rattle.std.specs.Prelude.{ℕ, ◌/◌, ℤ, pos, ◌+ℤ◌, ◌*ℤ◌}
 use Rattle.kf_frac.specs.declared.frac.Frac.{Frac}
-use Rattle.kf_frac.specs.declared.product.Product.{Product}
 use Rattle.kf_frac.specs.Views.{num_of, den_of}
 
 -- the sum's numerator over the product of the denominators
@@ -11,7 +10,3 @@ sum_num a b = num_of a *ℤ pos (den_of b) +ℤ num_of b *ℤ pos (den_of a)
 -- the sum's numerator over a common multiple m of the denominators
 abbrev pub sum_over : ℕ → Frac → Frac → ℤ
 sum_over m a b = num_of a *ℤ pos (m / den_of a) +ℤ num_of b *ℤ pos (m / den_of b)
-
--- the number that two words hold
-abbrev pub value_of : Product → ℕ
-value_of p = p.high * 2 ^ 128 + p.low

@@ -1,6 +1,5 @@
--- Common divisors and common multiples of whole numbers.
-use Rattle.std.specs.Prelude.{ℕ, zero, suc, ◌*◌, ◌%◌, ◌<◌, ◌≤◌, ◌==◌, ◌&&◌, max, Bool, if◌then◌else◌}
-use Rattle.std.specs.Int.{◌∣◌}
+-- Believed: common divisors and common multiples of whole numbers.
+use Rattle.std.specs.Prelude.{ℕ, zero, suc, ◌*◌, ◌%◌, ◌==◌, ◌&&◌, max, Bool, if◌then◌else◌}
 
 -- whether d divides both a and b
 abbrev pub divides_both : ℕ → ℕ → ℕ → Bool
@@ -14,13 +13,6 @@ greatest_divisor (suc k) a b = if divides_both (suc k) a b then suc k else great
 -- the greatest common divisor: the greatest number that divides both; 0 for 0 and 0
 unfoldable pub gcd_of : ℕ → ℕ → ℕ
 gcd_of a b = greatest_divisor (max a b) a b
-
--- m is the least positive number that both a and b divide
-pub record IsLcm (a b m : ℕ) : Type 0 where
-  pub positive : 0 < m
-  pub left : a ∣ m
-  pub right : b ∣ m
-  pub least : (k : ℕ) → 0 < k → a ∣ k → b ∣ k → m ≤ k
 
 -- the first of the k numbers from m on that both a and b divide; 0 where there is none
 unfoldable pub first_multiple : ℕ → ℕ → ℕ → ℕ → ℕ

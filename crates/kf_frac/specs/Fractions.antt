@@ -1,5 +1,5 @@
--- Fractions in lowest terms and their texts. A fraction is a whole number over a positive one.
-use Rattle.std.specs.Prelude.{ℕ, ◌/◌, ◌-◌, ◌^◌, ◌≤◌, ◌==◌, Bool, ℤ, pos, neg_ℤ, int_div, unsigned_abs, List, [], ◌++◌, codes, if◌then◌else◌}
+-- Believed: fractions in lowest terms and their texts. A fraction is a whole number over a positive one.
+use Rattle.std.specs.Prelude.{ℕ, ◌*◌, ◌/◌, ◌-◌, ◌^◌, ◌==◌, ℤ, pos, int_div, unsigned_abs, List, [], ◌++◌, codes, if◌then◌else◌}
 use Rattle.std.specs.Fmt.{decimal, signed_decimal}
 use Rattle.kf_frac.specs.Divisors.{gcd_of}
 
@@ -11,18 +11,9 @@ reduced_num n d = int_div n (pos (gcd_of (unsigned_abs n) d))
 unfoldable pub reduced_den : ℤ → ℕ → ℕ
 reduced_den n d = d / gcd_of (unsigned_abs n) d
 
--- m, or minus m where it is to be negative
-abbrev pub signed : Bool → ℕ → ℤ
-signed negative m = if negative then neg_ℤ (pos m) else pos m
-
 -- the greatest number that a part of a fraction may be in absolute value
 abbrev pub limit : ℕ
 limit = 2 ^ 127 - 1
-
--- both parts are within the limit
-pub record PartsFit (n : ℤ) (d : ℕ) : Type 0 where
-  pub num : unsigned_abs n ≤ limit
-  pub den : d ≤ limit
 
 -- a denominator with its bar; none where it is 1
 abbrev pub denominator_text : ℕ → List ℕ
@@ -31,3 +22,7 @@ denominator_text d = if d == 1 then [] else codes "/" ++ decimal d
 -- the text of n / d in lowest terms
 unfoldable pub fraction_text : ℤ → ℕ → List ℕ
 fraction_text n d = signed_decimal (reduced_num n d) ++ denominator_text (reduced_den n d)
+
+-- how many n-ths part / whole is, where n is a multiple of its denominator in lowest terms
+abbrev pub parts_of : ℕ → ℕ → ℕ → ℕ
+parts_of n part whole = unsigned_abs (reduced_num (pos part) whole) * (n / reduced_den (pos part) whole)

@@ -1,4 +1,8 @@
-pub mod Arithmetic
+-- Believed
 pub mod Divisors
 pub mod Fractions
+-- For bodies
+pub mod Arithmetic
+pub mod Laws
+pub mod Parts
 pub mod Views

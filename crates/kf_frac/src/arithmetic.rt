@@ -1,9 +1,10 @@
 ghost use Rattle.std.specs.Prelude.{◌≡◌, ◌≤◌, ◌+◌, ◌*◌, ◌↔◌, IfOk, IsOk, IfSome, IsSome, IsTrue, ◌<ℤ◌, ◌+ℤ◌, ◌*ℤ◌, pos, unsigned_abs};
 ghost use Rattle.std.specs.Ordering.{int_cmp};
-ghost use Rattle.kf_frac.specs.Arithmetic.{sum_num, sum_over, value_of};
+ghost use Rattle.kf_frac.specs.Arithmetic.{sum_num, sum_over};
 ghost use Rattle.kf_frac.specs.Divisors.{lcm_of};
-ghost use Rattle.kf_frac.specs.Fractions.{PartsFit, limit, reduced_num, reduced_den, signed};
-ghost use Rattle.kf_frac.specs.Views.{num_of, den_of};
+ghost use Rattle.kf_frac.specs.Fractions.{limit, reduced_num, reduced_den};
+ghost use Rattle.kf_frac.specs.Parts.{PartsFit, signed};
+ghost use Rattle.kf_frac.specs.Views.{num_of, den_of, value_of};
 
 use crate::making::{lowest_terms, sign_and_size};
 use crate::product::Product;
@@ -39,11 +40,11 @@ fn sum(a_negative: bool, a: Product, b_negative: bool, b: Product) -> Option<(bo
     ensures fits { IsSome result ↔ (unsigned_abs (signed a_negative (value_of a) +ℤ signed b_negative (value_of b)) ≤ limit) }
 {
     let size = if a_negative == b_negative {
-        a.plus(b)?
+        a.sum_in_limit(b)?
     } else if a.compare(b) == Ordering::Less {
-        return Some((b_negative, b.minus(a)?));
+        return Some((b_negative, b.difference_in_limit(a)?));
     } else {
-        a.minus(b)?
+        a.difference_in_limit(b)?
     };
     Some((a_negative, size))
 }

@@ -1,5 +1,6 @@
 ghost use Rattle.std.specs.Prelude.{◌≡◌, ◌≤◌, IfSome, SomeIff};
-ghost use Rattle.kf_frac.specs.Divisors.{gcd_of, IsLcm, lcm_of};
+ghost use Rattle.kf_frac.specs.Divisors.{gcd_of, lcm_of};
+ghost use Rattle.kf_frac.specs.Laws.{IsLcm};
 ghost use Rattle.kf_frac.specs.Fractions.{limit};
 
 use crate::LIMIT;

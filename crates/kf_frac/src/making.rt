@@ -1,5 +1,6 @@
 ghost use Rattle.std.specs.Prelude.{◌≡◌, ◌≤◌, ◌↔◌, IfOk, IsOk, IsTrue, pos, ◌<ℤ◌};
-ghost use Rattle.kf_frac.specs.Fractions.{PartsFit, reduced_num, reduced_den, limit, signed};
+ghost use Rattle.kf_frac.specs.Fractions.{reduced_num, reduced_den, limit};
+ghost use Rattle.kf_frac.specs.Parts.{PartsFit, signed};
 ghost use Rattle.kf_frac.specs.Views.{num_of, den_of};
 
 use crate::{Frac, LIMIT, gcd};

@@ -93,3 +93,36 @@ fn finds_divisors_and_multiples(rt: HostRuntime) {
     assert_eq!(rt; lcm(1 << 126, 2), Some(1 << 126));
     assert_eq!(rt; lcm(1 << 126, 3), None);
 }
+
+#[test]
+fn compares_sums_of_products(rt: HostRuntime) -> Result<(), Fail> {
+    let limit = L as u128;
+    let square = Product::new(limit, limit);
+    let two_squares = square.plus(square);
+    assert!(rt;
+        two_squares.is_some_and(|sum| sum.compare(Product::new(limit, 2 * limit))
+            == Ordering::Equal)
+    );
+    assert!(rt;
+        two_squares.is_some_and(|sum| sum.compare(Product::new(limit, 2 * limit + 1))
+            == Ordering::Less)
+    );
+    assert!(rt;
+        two_squares.is_some_and(|sum| sum.compare(Product::new(2 * limit, limit - 1))
+            == Ordering::Greater)
+    );
+    let most = Product::new(u128::MAX, u128::MAX).plus(Product::new(u128::MAX, 2));
+    assert!(rt; most.is_some(), "2^256 - 1 fits");
+    assert!(rt;
+        most.is_some_and(|sum| sum.plus(Product::new(1, 1)).is_none()),
+        "2^256 doesn't"
+    );
+    Ok(())
+}
+
+#[test]
+fn shares_a_whole(rt: HostRuntime) {
+    assert_eq!(rt; parts(share(6, 8)), (3, 4));
+    assert_eq!(rt; parts(share(0, 8)), (0, 1));
+    assert_eq!(rt; parts(share(L as u128, L as u128)), (1, 1));
+}

@@ -1,5 +1,5 @@
 -- Ordered classes of columns make their hyper.
-use Rattle.std.proofs.Common.{◌≡◌, ℕ, ◌+◌, ◌<◌, ◌≤◌, ◌^◌, ◌-◌, List, [], ◌∷◌, Bool, true, All, map, sum_by, count_by, refl, sym, ◌∙◌, ap, subst, arith, length, get_or, if◌then◌else◌}
+use Rattle.std.proofs.Common.{◌≡◌, ℕ, ◌+◌, ◌<◌, ◌≤◌, List, [], ◌∷◌, Bool, true, All, map, sum_by, count_by, refl, sym, ◌∙◌, ap, subst, arith, length, get_or, if◌then◌else◌}
 use Rattle.std.specs.List.{AllByRecursion}
 use Rattle.std.specs.List.Sorted.{IsStrictlySortedBy}
 use Rattle.std.specs.Map.{keys_of}
@@ -8,13 +8,14 @@ use Rattle.std.proofs.lemmas.Nat.Gcd.{le_of_dvd}
 use Rattle.std.specs.declared.cmp.Ordering.TheVariants.{Less}
 use Rattle.std.proofs.lemmas.List.Elements.{All-map, All-head, All-tail}
 use Rattle.std.proofs.lemmas.List.Sums.{sum_by-cons, get_or-le-sum_by}
+use Rattle.kf_frac.specs.Fractions.{limit}
 use Rattle.kf_hyper.specs.declared.entry.Entry.{Entry}
 use Rattle.kf_hyper.specs.declared.column.Column.{Column}
-use Rattle.kf_hyper.specs.Columns.{IsBelow, total, proportional}
+use Rattle.kf_hyper.specs.Columns.{total, proportional}
+use Rattle.kf_hyper.specs.Shapes.{IsBelow, IsShape, as_inner}
 use Rattle.kf_hyper.specs.Joint.{Joint, IsJoint, mass}
 use Rattle.kf_hyper.specs.Hypers.{Inner, IsInner, IsHyper, list_order, class_total}
-use Rattle.kf_hyper.specs.Classes.{key_order, ClassesOf, HasInner, keyed, gathered}
-use Rattle.kf_hyper.specs.Shapes.{IsShape, shown}
+use Rattle.kf_hyper.specs.Classes.{key_order, ClassesOf, HasInner, keyed, total_in}
 use Rattle.kf_hyper.proofs.Gathering.{Key}
 use Rattle.kf_hyper.proofs.Ordered.{Ordered, ordered, one_class, own_totals}
 use Rattle.kf_hyper.proofs.Scaling.{proportional_reduced, proportional_itself}
@@ -22,11 +23,11 @@ use Rattle.kf_hyper.proofs.Scaling.{proportional_reduced, proportional_itself}
 abbrev Pair : Type 0
 Pair = List Entry × ℕ
 
-sum-shown : (f : Inner → ℕ) (ps : List Pair) → sum_by f (map shown ps) ≡ sum_by (λ (c : Pair). f (shown c)) ps
+sum-shown : (f : Inner → ℕ) (ps : List Pair) → sum_by f (map as_inner ps) ≡ sum_by (λ (c : Pair). f (as_inner c)) ps
 sum-shown f [] = refl
-sum-shown f (p ∷ ps) = sum_by-cons f (shown p) (map shown ps) ∙ ap (λ (n : ℕ). f (shown p) + n) (sum-shown f ps) ∙ sym (sum_by-cons (λ (c : Pair). f (shown c)) p ps)
+sum-shown f (p ∷ ps) = sum_by-cons f (as_inner p) (map as_inner ps) ∙ ap (λ (n : ℕ). f (as_inner p) + n) (sum-shown f ps) ∙ sym (sum_by-cons (λ (c : Pair). f (as_inner c)) p ps)
 
-entries-shown : (ps : List Pair) → map (λ (i : Inner). i.entries) (map shown ps) ≡ map (λ (c : Pair). c.0) ps
+entries-shown : (ps : List Pair) → map (λ (i : Inner). i.entries) (map as_inner ps) ≡ map (λ (c : Pair). c.0) ps
 entries-shown [] = refl
 entries-shown (p ∷ ps) = ap (λ (l : List (List Entry)). p.0 ∷ l) (entries-shown ps)
 
@@ -43,11 +44,8 @@ agreeing : (f g : Pair → ℕ) → ((c : Pair) → f c ≡ g c) → (ps : List 
 agreeing f g same [] = refl
 agreeing f g same (p ∷ ps) = sum_by-cons f p ps ∙ (λ i. same p i + agreeing f g same ps i) ∙ sym (sum_by-cons g p ps)
 
-module _ (columns : List Column) (es : List (Key × ℕ)) (had : ClassesOf columns (keyed es)) (sorted : IsStrictlySortedBy key_order (keys_of es)) where
-  abbrev pairs : List Pair
-  pairs = keyed es
-
-  covered : (k : ℕ) (d : Column) → k < length columns → 0 < total (get_or columns k d) → count_by (λ (i : Inner). proportional (get_or columns k d) i.entries) (map shown pairs) ≡ 1
+module _ (columns : List Column) (pairs : List Pair) (had : ClassesOf columns pairs) (sorted : Ordered pairs) where
+  covered : (k : ℕ) (d : Column) → k < length columns → 0 < total (get_or columns k d) → count_by (λ (i : Inner). proportional (get_or columns k d) i.entries) (map as_inner pairs) ≡ 1
   covered k d below some =
       let c : Column = get_or columns k d in
       let h : HasInner c = had.reduced k d below in
@@ -55,44 +53,44 @@ module _ (columns : List Column) (es : List (Key × ℕ)) (had : ClassesOf colum
       let itself : proportional c r ≡ true = proportional_reduced c r r h.is_reduced ∙ proportional_itself r in
       let at_least : (if proportional c r then total c else 0) ≤ class_total columns r = get_or-le-sum_by (λ (c : Column). if proportional c r then total c else 0) columns k d below in
       let whole : (if proportional c r then total c else 0) ≡ total c = ap (λ (b : Bool). if b then total c else 0) itself in
-      let gathers : 0 < gathered pairs r = omega (arith, had.totals r h.is_reduced.is_inner, at_least, whole, some) in
+      let gathers : 0 < total_in pairs r = omega (arith, had.totals r h.is_reduced.is_inner, at_least, whole, some) in
       sum-shown (λ (i : Inner). if proportional c i.entries then 1 else 0) pairs
       ∙ agreeing (λ (p : Pair). if proportional c p.0 then 1 else 0) (λ (p : Pair). if proportional r p.0 then 1 else 0) (λ p. ap (λ (b : Bool). if b then 1 else 0) (proportional_reduced c r p.0 h.is_reduced)) pairs
-      ∙ one_class r h.is_reduced.is_inner pairs had.inners (ordered es sorted) gathers
+      ∙ one_class r h.is_reduced.is_inner pairs had.inners sorted gathers
 
-  ascends : IsStrictlySortedBy list_order (map (λ (i : Inner). i.entries) (map shown pairs))
-  ascends = subst (IsStrictlySortedBy list_order) (sym (entries-shown pairs)) (sorted_again pairs (ordered es sorted))
+  ascends : IsStrictlySortedBy list_order (map (λ (i : Inner). i.entries) (map as_inner pairs))
+  ascends = subst (IsStrictlySortedBy list_order) (sym (entries-shown pairs)) (sorted_again pairs sorted)
 
-  pub is_hyper : IsHyper columns (map shown pairs)
+  pub is_hyper : IsHyper columns (map as_inner pairs)
   is_hyper = record {
     covered = covered;
-    totals = All-map (λ (i : Inner). i.total ≡ class_total columns i.entries) shown pairs
-        (λ k d below. let c : Pair = get_or pairs k d in sym (own_totals pairs had.inners (ordered es sorted) k d below) ∙ had.totals c.0 (had.inners k d below));
-    used = All-map (λ (i : Inner). 0 < i.total) shown pairs had.used;
-    inner = All-map (λ (i : Inner). IsInner i.entries) shown pairs had.inners;
+    totals = All-map (λ (i : Inner). i.total ≡ class_total columns i.entries) as_inner pairs
+        (λ k d below. let c : Pair = get_or pairs k d in sym (own_totals pairs had.inners sorted k d below) ∙ had.totals c.0 (had.inners k d below));
+    used = All-map (λ (i : Inner). 0 < i.total) as_inner pairs had.used;
+    inner = All-map (λ (i : Inner). IsInner i.entries) as_inner pairs had.inners;
     ascending = ascends;
   }
 
-  pub is_shape : (size scale : ℕ) → 0 < scale → scale ≤ 2 ^ 127 - 1 → mass columns ≡ scale → All (IsBelow size) columns → IsShape size scale (map shown pairs)
+  pub is_shape : (size scale : ℕ) → 0 < scale → scale ≤ limit → mass columns ≡ scale → All (IsBelow size) columns → IsShape size scale (map as_inner pairs)
   is_shape size scale some narrow whole below = record {
     some = some;
     narrow = narrow;
-    within = All-map (λ (i : Inner). IsBelow size i.entries) shown pairs (had.within size below);
-    inner = All-map (λ (i : Inner). IsInner i.entries) shown pairs had.inners;
+    within = All-map (λ (i : Inner). IsBelow size i.entries) as_inner pairs (had.within size below);
+    inner = All-map (λ (i : Inner). IsInner i.entries) as_inner pairs had.inners;
     ascending = ascends;
-    used = All-map (λ (i : Inner). 0 < i.total) shown pairs had.used;
-    multiple = All-map (λ (i : Inner). total i.entries ∣ i.total) shown pairs had.whole;
+    used = All-map (λ (i : Inner). 0 < i.total) as_inner pairs had.used;
+    multiple = All-map (λ (i : Inner). total i.entries ∣ i.total) as_inner pairs had.whole;
     whole = sum-shown (λ (i : Inner). i.total) pairs ∙ had.mass ∙ whole;
   }
 
 module _ (joint : Joint) (columns : List Column) (scale : ℕ) (es : List (Key × ℕ)) (inners : List Inner) (columns_are : columns ≡ joint.columns) (scale_is : scale ≡ joint.scale)
-    (had : ClassesOf columns (keyed es)) (sorted : IsStrictlySortedBy key_order (keys_of es)) (listed : inners ≡ map shown (keyed es)) where
+    (had : ClassesOf columns (keyed es)) (sorted : IsStrictlySortedBy key_order (keys_of es)) (listed : inners ≡ map as_inner (keyed es)) where
   pub hyper_made : IsHyper joint.columns inners
-  hyper_made = rw listed (subst (λ (cs : List Column). IsHyper cs (map shown (keyed es))) columns_are (is_hyper columns es had sorted))
+  hyper_made = rw listed (subst (λ (cs : List Column). IsHyper cs (map as_inner (keyed es))) columns_are (is_hyper columns (keyed es) had (ordered es sorted)))
 
   pub shape_made : (size : ℕ) → IsJoint joint → mass joint.columns ≡ joint.scale → All (IsBelow size) joint.columns → IsShape size scale inners
   shape_made size is whole below =
-      rw listed (is_shape columns es had sorted size scale (rw scale_is is.some) (rw scale_is is.narrow) (ap mass columns_are ∙ whole ∙ sym scale_is) (rw columns_are below))
+      rw listed (is_shape columns (keyed es) had (ordered es sorted) size scale (rw scale_is is.some) (rw scale_is is.narrow) (ap mass columns_are ∙ whole ∙ sym scale_is) (rw columns_are below))
 
 -- no inner's sum passes what all columns sum to
 pub inners_fit : (columns : List Column) (es : List (Key × ℕ)) (bound : ℕ) → ClassesOf columns (keyed es) → mass columns < bound → All (λ (c : Pair). total c.0 < bound) (keyed es)

@@ -11,7 +11,8 @@ use Rattle.std.proofs.lemmas.List.Sums.{sum_by-cons}
 use Rattle.kf_hyper.specs.declared.entry.Entry.{Entry}
 use Rattle.kf_hyper.specs.declared.column.Column.{Column}
 use Rattle.kf_hyper.specs.Columns.{weight_at, total, proportional}
-use Rattle.kf_hyper.specs.Hypers.{Inner, IsInner, IsHyper, AtMostOneHyper, list_order, class_total}
+use Rattle.kf_hyper.specs.Hypers.{Inner, IsInner, IsHyper, list_order, class_total}
+use Rattle.kf_hyper.specs.Laws.{AtMostOneHyper}
 use Rattle.kf_hyper.proofs.Weights.{weight_at-cons, weight_at_head}
 use Rattle.kf_hyper.proofs.Proportions.{AreProportional, proportional_all}
 use Rattle.kf_hyper.proofs.Posteriors.{same_inner}

@@ -10,7 +10,8 @@ use Rattle.kf_frac.specs.Divisors.{gcd_of}
 use Rattle.kf_frac.proofs.CommonDivisors.{gcd_is}
 use Rattle.kf_hyper.specs.declared.entry.Entry.{Entry}
 use Rattle.kf_hyper.specs.Columns.{IsColumn}
-use Rattle.kf_hyper.specs.Classes.{IsCommonFactor, IsReduced, scaled}
+use Rattle.kf_hyper.specs.Classes.{IsCommonFactor, IsReduced}
+use Rattle.kf_hyper.specs.Averages.{scaled}
 
 pub factor_none : (entries : List Entry) → IsCommonFactor 0 (take 0 entries)
 factor_none entries = record { divides = All-nil (λ (e : Entry). 0 ∣ e.weight); greatest = λ d all. dvd-zero d }

@@ -2,7 +2,9 @@
 use Rattle.std.proofs.Common.{◌≡◌, ℕ, ◌+◌, List, [], ◌∷◌, None, Option, unwrap_or, All, map, sum_by, refl, sym, ◌∙◌, ap, subst, arith, zero-add, ◌⊎◌, ⊎_elim, inl, inr}
 use Rattle.std.specs.declared.cmp.Ordering.{Ordering}
 use Rattle.std.specs.declared.cmp.Ordering.TheVariants.{Less, Equal, Greater}
+use Rattle.std.specs.Ordering.{ordering_reverse}
 use Rattle.std.specs.Cmp.{IsTotalOrder}
+use Rattle.std.specs.List.{AllByRecursion}
 use Rattle.std.specs.BTreeMap.{insert_entry, is_at}
 use Rattle.std.specs.Map.{lookup, keys_of}
 use Rattle.std.specs.List.Sorted.{IsStrictlySortedBy}
@@ -48,6 +50,31 @@ module _ {K V : Type 0} (shown : K → V) (order : K → K → Ordering) (total 
   inserted key t (e ∷ es) sorted =
       ⊎_elim (insert_fresh key t e es sorted)
       (⊎_elim (insert_added key t e es) (λ (r : order key e.0 ≡ Greater). insert_past key t e es r (inserted key t es (sorted_tail e es sorted))))
+      (orderings (order key e.0))
+
+  -- ---- the keys stay in order
+
+  all_before : (first key : K) (n : ℕ) (es : List (K × ℕ)) → order first key ≡ Less → AllByRecursion (λ (k : K). order first k ≡ Less) (keys_of es)
+      → AllByRecursion (λ (k : K). order first k ≡ Less) (keys_of (insert_entry order es key n))
+  all_before first key n [] less all = (less, tt)
+  all_before first key n (e ∷ es) less all =
+      ⊎_elim (λ (r : order key e.0 ≡ Less). rw r (less, all))
+      (⊎_elim (λ (r : order key e.0 ≡ Equal). rw r all) (λ (r : order key e.0 ≡ Greater). rw r (all.0, all_before first key n es less all.1)))
+      (orderings (order key e.0))
+
+  before_rest : (key first : K) (ks : List K) → order key first ≡ Less → AllByRecursion (λ (k : K). order first k ≡ Less) ks → AllByRecursion (λ (k : K). order key k ≡ Less) ks
+  before_rest key first [] less all = tt
+  before_rest key first (k ∷ ks) less all = (total.trans key first k less all.0, before_rest key first ks less all.1)
+
+  pub stays_sorted : (key : K) (n : ℕ) (es : List (K × ℕ)) → IsStrictlySortedBy order (keys_of es) → IsStrictlySortedBy order (keys_of (insert_entry order es key n))
+  unfolding IsStrictlySortedBy
+  stays_sorted key n [] sorted = (tt, tt)
+  stays_sorted key n (e ∷ es) sorted =
+      ⊎_elim (λ (r : order key e.0 ≡ Less). rw r ((r, before_rest key e.0 (keys_of es) r sorted.0), sorted))
+      (⊎_elim (λ (r : order key e.0 ≡ Equal). rw r sorted)
+      (λ (r : order key e.0 ≡ Greater).
+      let less : order e.0 key ≡ Less = total.antisymm e.0 key ∙ ap ordering_reverse r in
+      rw r (all_before e.0 key n es less sorted.0, stays_sorted key n es sorted.1)))
       (orderings (order key e.0))
 
 -- the entries by what their keys show

@@ -6,7 +6,7 @@ use Rattle.kf_hyper.specs.declared.entry.Entry.{Entry}
 use Rattle.kf_hyper.specs.declared.class.Class.{Class}
 use Rattle.kf_hyper.specs.Hypers.{Inner}
 use Rattle.kf_hyper.specs.Classes.{keyed}
-use Rattle.kf_hyper.specs.Shapes.{inner_of, shown}
+use Rattle.kf_hyper.specs.Shapes.{inner_of, as_inner}
 use Rattle.kf_hyper.proofs.Gathering.{Key}
 
 abbrev Pair : Type 0
@@ -20,14 +20,14 @@ module _ (left : List (Key × ℕ)) (entry : Key × ℕ) (rest : List (Key × �
   pub still_left : (P : Pair → Type 0) → All P (keyed left) → All P (keyed rest)
   still_left P all = All-tail P (entry.0.items, entry.1) (keyed rest) (subst (λ es. All P (keyed es)) is all)
 
-  pub listed_more : (list now : List Class) (class : Class) (whole : List Inner) → now ≡ list ++ class ∷ [] → inner_of class ≡ shown (entry.0.items, entry.1)
-      → map inner_of list ++ map shown (keyed left) ≡ whole → map inner_of now ++ map shown (keyed rest) ≡ whole
+  pub listed_more : (list now : List Class) (class : Class) (whole : List Inner) → now ≡ list ++ class ∷ [] → inner_of class ≡ as_inner (entry.0.items, entry.1)
+      → map inner_of list ++ map as_inner (keyed left) ≡ whole → map inner_of now ++ map as_inner (keyed rest) ≡ whole
   listed_more list now class whole grown same had =
-      ap (λ (l : List Class). map inner_of l ++ map shown (keyed rest)) grown
-      ∙ ap (λ (l : List Inner). l ++ map shown (keyed rest)) (map-append inner_of list (class ∷ []))
-      ∙ append_assoc (map inner_of list) (inner_of class ∷ []) (map shown (keyed rest))
-      ∙ ap (λ (i : Inner). map inner_of list ++ i ∷ map shown (keyed rest)) same
-      ∙ ap (λ es. map inner_of list ++ map shown (keyed es)) (sym is) ∙ had
+      ap (λ (l : List Class). map inner_of l ++ map as_inner (keyed rest)) grown
+      ∙ ap (λ (l : List Inner). l ++ map as_inner (keyed rest)) (map-append inner_of list (class ∷ []))
+      ∙ append_assoc (map inner_of list) (inner_of class ∷ []) (map as_inner (keyed rest))
+      ∙ ap (λ (i : Inner). map inner_of list ++ i ∷ map as_inner (keyed rest)) same
+      ∙ ap (λ es. map inner_of list ++ map as_inner (keyed es)) (sym is) ∙ had
 
-pub listed_all : (list : List Class) (left : List (Key × ℕ)) (whole : List Inner) → left ≡ [] → map inner_of list ++ map shown (keyed left) ≡ whole → map inner_of list ≡ whole
-listed_all list left whole none had = sym (append-nil (map inner_of list)) ∙ ap (λ es. map inner_of list ++ map shown (keyed es)) (sym none) ∙ had
+pub listed_all : (list : List Class) (left : List (Key × ℕ)) (whole : List Inner) → left ≡ [] → map inner_of list ++ map as_inner (keyed left) ≡ whole → map inner_of list ≡ whole
+listed_all list left whole none had = sym (append-nil (map inner_of list)) ∙ ap (λ es. map inner_of list ++ map as_inner (keyed es)) (sym none) ∙ had

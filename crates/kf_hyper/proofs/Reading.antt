@@ -1,35 +1,18 @@
 -- What a hyper's shape says of one of its classes.
-use Rattle.std.proofs.Common.{◌≡◌, ℕ, ◌*◌, ◌/◌, ◌<◌, ◌≤◌, ◌==◌, pos, List, Bool, true, false, if◌then◌else◌, map, sum_by, sym, ◌∙◌, ap, subst, arith, length, get_or, ⊎_elim}
+use Rattle.std.proofs.Common.{◌≡◌, ℕ, ◌*◌, ◌/◌, ◌<◌, ◌≤◌, ◌==◌, List, Bool, true, false, if◌then◌else◌, map, sum_by, sym, ◌∙◌, ap, subst, arith, length, get_or, ⊎_elim}
 use Rattle.std.proofs.Math.Nat.{div-mul_cancel, eq-zero-or-pos, zero-mul, mul-le-mul_left, mul_comm}
 use Rattle.std.proofs.lemmas.List.{get_or-map, length-map}
 use Rattle.std.proofs.lemmas.List.Sums.{get_or-le-sum_by, sum_by-le-sum_by}
 use Rattle.std.proofs.lemmas.Nat.Gcd.{le_of_dvd}
 use Rattle.std.specs.Int.{◌∣◌}
-use Rattle.kf_frac.specs.Divisors.{gcd_of}
-use Rattle.kf_frac.specs.Fractions.{limit, PartsFit, reduced_num, reduced_den}
-use Rattle.kf_frac.proofs.CommonDivisors.{gcd_positive}
-use Rattle.kf_frac.proofs.LowestTerms.{reduced_num_abs, reduced_den_is}
+use Rattle.kf_frac.specs.Fractions.{limit}
 use Rattle.kf_hyper.specs.declared.entry.Entry.{Entry}
 use Rattle.kf_hyper.specs.declared.class.Class.{Class}
-use Rattle.kf_hyper.specs.Columns.{IsBelow, weight_at, total}
+use Rattle.kf_hyper.specs.Columns.{weight_at, total}
+use Rattle.kf_hyper.specs.Shapes.{IsBelow, IsShape, inner_of}
 use Rattle.kf_hyper.specs.Hypers.{Inner, IsInner}
-use Rattle.kf_hyper.specs.Shapes.{IsShape, inner_of}
-use Rattle.kf_hyper.specs.Sums.{joint_weight}
+use Rattle.kf_hyper.specs.Averages.{joint_weight}
 use Rattle.kf_hyper.proofs.Scaling.{total_positive}
-
--- a quotient is at most what is divided
-quotient_le : (m g : ℕ) → 0 < g → m / g ≤ m
-quotient_le m g some = grind arith
-
--- a fraction whose parts fit is not too wide in lowest terms
-pub reduced_fit : (n d : ℕ) → 0 < d → n ≤ limit → d ≤ limit → PartsFit (reduced_num (pos n) d) (reduced_den (pos n) d)
-reduced_fit n d some num den =
-    let g : ℕ = gcd_of n d in
-    let pg : 0 < g = gcd_positive n d some in
-    record {
-      num = omega (arith, reduced_num_abs (pos n) d, quotient_le n g pg, num);
-      den = omega (arith, reduced_den_is (pos n) d, quotient_le d g pg, den);
-    }
 
 -- what a value weighs is at most the sum
 pub weight_within : (entries : List Entry) (x : ℕ) → weight_at entries x ≤ total entries

@@ -4,7 +4,8 @@ use Rattle.std.proofs.Math.Nat.{mul_assoc, mul_comm, mul-add, mul-zero, mul-div_
 use Rattle.std.proofs.lemmas.List.Sums.{sum_by-cons}
 use Rattle.kf_hyper.specs.declared.entry.Entry.{Entry}
 use Rattle.kf_hyper.specs.Columns.{weight_at, total, IsColumn, proportional}
-use Rattle.kf_hyper.specs.Classes.{scaled, IsReduced}
+use Rattle.kf_hyper.specs.Classes.{IsReduced}
+use Rattle.kf_hyper.specs.Averages.{scaled}
 use Rattle.kf_hyper.proofs.Weights.{weight_at-cons, above_column}
 use Rattle.kf_hyper.proofs.Proportions.{proportional_all, all_proportional}
 

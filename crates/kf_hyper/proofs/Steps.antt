@@ -12,12 +12,14 @@ use Rattle.std.specs.List.Sorted.{IsStrictlySortedBy}
 use Rattle.std.specs.Int.{◌∣◌}
 use Rattle.kf_hyper.specs.declared.entry.Entry.{Entry}
 use Rattle.kf_hyper.specs.declared.column.Column.{Column}
-use Rattle.kf_hyper.specs.Columns.{IsBelow, total, proportional}
+use Rattle.kf_hyper.specs.Columns.{total, proportional}
+use Rattle.kf_hyper.specs.Shapes.{IsBelow}
 use Rattle.kf_hyper.specs.Joint.{mass}
 use Rattle.kf_hyper.specs.Hypers.{IsInner, class_total}
-use Rattle.kf_hyper.specs.Classes.{key_order, scaled, IsReduced, HasInner, ClassesOf, keyed, gathered}
+use Rattle.kf_hyper.specs.Classes.{key_order, IsReduced, HasInner, ClassesOf, keyed, total_in}
+use Rattle.kf_hyper.specs.Averages.{scaled}
 use Rattle.kf_hyper.proofs.Gathering.{Key, shown_key, key_total, same_key}
-use Rattle.kf_hyper.proofs.Inserting.{Inserts, inserted, sum_inserts, all_inserts}
+use Rattle.kf_hyper.proofs.Inserting.{Inserts, inserted, paired, sum_inserts, all_inserts}
 use Rattle.kf_hyper.proofs.Scaling.{product_positive, total_positive, total_reduced, proportional_reduced}
 
 abbrev Pair : Type 0
@@ -51,34 +53,35 @@ classes_none = record {
   within = λ size below. All-nil (λ (c : Pair). IsBelow size c.0);
 }
 
-pub classes_more : (columns : List Column) (column : Column) (key : Key) {es fs : List (Key × ℕ)} → IsReduced column key.items → ClassesOf columns (keyed es) → Inserts shown_key key (total column) es fs
-    → ClassesOf (columns ++ column ∷ []) (keyed fs)
-classes_more columns column key {es} {fs} is had how =
-    let t : ℕ = total column in
-    let some : 0 < t = reduced_positive column key.items is in
-    let divides : total key.items ∣ t = subst (λ (n : ℕ). total key.items ∣ n) (sym (total_reduced column key.items is)) (dvd-mul_left (total key.items) is.factor) in
-    record {
-      reduced = All-push HasInner columns column had.reduced (record { inner = key.items; is_reduced = is });
-      inners = all_inserts shown_key key t (λ (c : Pair). IsInner c.0) is.is_inner (λ n h. h) how had.inners;
-      used = all_inserts shown_key key t (λ (c : Pair). 0 < c.1) some (λ n h. omega arith) how had.used;
-      whole = all_inserts shown_key key t (λ (c : Pair). total c.0 ∣ c.1) divides (λ n h. dvd-add (total key.items) h divides) how had.whole;
-      totals = λ inner is_inner.
-          let grown : gathered (keyed fs) inner ≡ gathered (keyed es) inner + (if proportional key.items inner then t else 0) =
-          sum_inserts shown_key key t (λ (k : List Entry) (n : ℕ). if proportional k inner then n else 0) (λ k a b. if_adds (proportional k inner) a b) how in
-          let same : (if proportional key.items inner then t else 0) ≡ (if proportional column inner then t else 0) =
-          ap (λ (b : Bool). if b then t else 0) (sym (proportional_reduced column key.items inner is)) in
-          let push : class_total (columns ++ column ∷ []) inner ≡ class_total columns inner + (if proportional column inner then t else 0) =
-          sum_by_push (λ (c : Column). if proportional c inner then total c else 0) columns column in
-          omega (arith, grown, same, push, had.totals inner is_inner);
-      mass =
-          let grown : sum_by (λ (c : Pair). c.1) (keyed fs) ≡ sum_by (λ (c : Pair). c.1) (keyed es) + t =
-          sum_inserts shown_key key t (λ (k : List Entry) (n : ℕ). n) (λ k a b. refl) how in
-          let push : mass (columns ++ column ∷ []) ≡ mass columns + t = sum_by_push total columns column in
-          omega (arith, grown, push, had.mass);
-      within = λ size below.
-          let parts = All-pop (IsBelow size) (columns ++ column ∷ []) columns (Some column) refl below in
-          all_inserts shown_key key t (λ (c : Pair). IsBelow size c.0) (below_reduced size is.factor column key.items is.multiple parts.1) (λ n h. h) how (had.within size parts.0);
-    }
+module _ {K : Type 0} (shown : K → List Entry) where
+  pub classes_more : (columns : List Column) (column : Column) (key : K) {es fs : List (K × ℕ)} → IsReduced column (shown key) → ClassesOf columns (paired shown es) → Inserts shown key (total column) es fs
+      → ClassesOf (columns ++ column ∷ []) (paired shown fs)
+  classes_more columns column key {es} {fs} is had how =
+      let t : ℕ = total column in
+      let some : 0 < t = reduced_positive column (shown key) is in
+      let divides : total (shown key) ∣ t = subst (λ (n : ℕ). total (shown key) ∣ n) (sym (total_reduced column (shown key) is)) (dvd-mul_left (total (shown key)) is.factor) in
+      record {
+        reduced = All-push HasInner columns column had.reduced (record { inner = (shown key); is_reduced = is });
+        inners = all_inserts shown key t (λ (c : Pair). IsInner c.0) is.is_inner (λ n h. h) how had.inners;
+        used = all_inserts shown key t (λ (c : Pair). 0 < c.1) some (λ n h. omega arith) how had.used;
+        whole = all_inserts shown key t (λ (c : Pair). total c.0 ∣ c.1) divides (λ n h. dvd-add (total (shown key)) h divides) how had.whole;
+        totals = λ inner is_inner.
+            let grown : total_in (paired shown fs) inner ≡ total_in (paired shown es) inner + (if proportional (shown key) inner then t else 0) =
+            sum_inserts shown key t (λ (k : List Entry) (n : ℕ). if proportional k inner then n else 0) (λ k a b. if_adds (proportional k inner) a b) how in
+            let same : (if proportional (shown key) inner then t else 0) ≡ (if proportional column inner then t else 0) =
+            ap (λ (b : Bool). if b then t else 0) (sym (proportional_reduced column (shown key) inner is)) in
+            let push : class_total (columns ++ column ∷ []) inner ≡ class_total columns inner + (if proportional column inner then t else 0) =
+            sum_by_push (λ (c : Column). if proportional c inner then total c else 0) columns column in
+            omega (arith, grown, same, push, had.totals inner is_inner);
+        mass =
+            let grown : sum_by (λ (c : Pair). c.1) (paired shown fs) ≡ sum_by (λ (c : Pair). c.1) (paired shown es) + t =
+            sum_inserts shown key t (λ (k : List Entry) (n : ℕ). n) (λ k a b. refl) how in
+            let push : mass (columns ++ column ∷ []) ≡ mass columns + t = sum_by_push total columns column in
+            omega (arith, grown, push, had.mass);
+        within = λ size below.
+            let parts = All-pop (IsBelow size) (columns ++ column ∷ []) columns (Some column) refl below in
+            all_inserts shown key t (λ (c : Pair). IsBelow size c.0) (below_reduced size is.factor column (shown key) is.multiple parts.1) (λ n h. h) how (had.within size parts.0);
+      }
 
 sum-keyed : (es : List (Key × ℕ)) → sum_by (λ (n : ℕ). n) (values_of es) ≡ sum_by (λ (c : Pair). c.1) (keyed es)
 sum-keyed [] = refl
@@ -97,4 +100,4 @@ pub classes_step : (columns : List Column) (i : ℕ) (column : Column) (key : Ke
     → ClassesOf (take (i + 1) columns) (keyed (insert_entry key_order es key n))
 classes_step columns i column key es n within is reduced had sorted sum =
     let end : take (i + 1) columns ≡ take i columns ++ column ∷ [] = take_more columns i column within ∙ ap (λ (c : Column). take i columns ++ c ∷ []) (sym is) in
-    rw (end, sum) (classes_more (take i columns) column key reduced had (inserted shown_key key_order key_total same_key key (total column) es sorted))
+    rw (end, sum) (classes_more shown_key (take i columns) column key reduced had (inserted shown_key key_order key_total same_key key (total column) es sorted))

@@ -93,7 +93,7 @@ above_from low (e ∷ f ∷ es) from ascending positive = (
 pub above_column : (column : List Entry) → IsColumn column → Above 0 column
 above_column column is = above_from 0 column (λ _. omega arith) is.ascending is.positive
 
-ascending_above : (low : ℕ) (column : List Entry) → Above low column → IsStrictlyIncreasing (map (λ (e : Entry). e.value) column)
+pub ascending_above : (low : ℕ) (column : List Entry) → Above low column → IsStrictlyIncreasing (map (λ (e : Entry). e.value) column)
 ascending_above low [] above k below = absurd (omega arith)
 ascending_above low (e ∷ []) above k below = absurd (omega arith)
 ascending_above low (e ∷ f ∷ es) (from, some, rest) zero below = omega (arith, rest.0)

@@ -1,22 +1,19 @@
--- The classes of proportional columns while they are gathered.
-use Rattle.std.specs.Prelude.{◌≡◌, ℕ, ◌*◌, ◌<◌, List, All, Vec, map, sum_by, if◌then◌else◌}
+-- For bodies: the classes of proportional columns while they are gathered.
+use Rattle.std.specs.Prelude.{◌≡◌, ℕ, ◌<◌, List, All, Vec, map, sum_by, if◌then◌else◌}
 use Rattle.std.specs.declared.alloc.Global.{Global}
 use Rattle.std.specs.declared.cmp.Ordering.{Ordering}
 use Prim.Native.Nat.{◌∣◌}
 use Rattle.kf_hyper.specs.declared.entry.Entry.{Entry}
-use Rattle.kf_hyper.specs.declared.column.Column.{Column}
-use Rattle.kf_hyper.specs.Columns.{IsBelow, total, proportional}
+use Rattle.kf_hyper.specs.Columns.{total, proportional}
+use Rattle.kf_hyper.specs.Shapes.{IsBelow}
 use Rattle.kf_hyper.specs.Joint.{mass}
 use Rattle.kf_hyper.specs.Hypers.{IsInner, list_order, class_total}
+use Rattle.kf_hyper.specs.Averages.{scaled}
 
 -- the greatest number that divides every weight
 pub record IsCommonFactor (factor : ℕ) (entries : List Entry) : Type 0 where
   pub divides : All (λ e. factor ∣ e.weight) entries
   pub greatest : (d : ℕ) → All (λ e. d ∣ e.weight) entries → d ∣ factor
-
--- an entry with a multiple of its weight
-abbrev pub scaled : ℕ → Entry → Entry
-scaled factor e = record { value = e.value; weight = factor * e.weight }
 
 -- an inner of which the column is a multiple
 pub record IsReduced (column inner : List Entry) : Type 0 where
@@ -39,15 +36,15 @@ abbrev pub key_order : Vec Entry Global → Vec Entry Global → Ordering
 key_order a b = list_order a.items b.items
 
 -- the sum of the totals of the classes that are proportional to this column
-abbrev pub gathered : List (List Entry × ℕ) → List Entry → ℕ
-gathered classes inner = sum_by (λ c. if proportional c.0 inner then c.1 else 0) classes
+abbrev pub total_in : List (List Entry × ℕ) → List Entry → ℕ
+total_in classes inner = sum_by (λ c. if proportional c.0 inner then c.1 else 0) classes
 
 -- these classes, each by its inner and its total, are those of the columns
-pub record ClassesOf (columns : List Column) (classes : List (List Entry × ℕ)) : Type 0 where
+pub record ClassesOf (columns : List (List Entry)) (classes : List (List Entry × ℕ)) : Type 0 where
   pub reduced : All HasInner columns
   pub inners : All (λ c. IsInner c.0) classes
   pub used : All (λ c. 0 < c.1) classes
   pub whole : All (λ c. total c.0 ∣ c.1) classes
-  pub totals : (inner : List Entry) → IsInner inner → gathered classes inner ≡ class_total columns inner
+  pub totals : (inner : List Entry) → IsInner inner → total_in classes inner ≡ class_total columns inner
   pub mass : sum_by (λ c. c.1) classes ≡ mass columns
   pub within : (size : ℕ) → All (IsBelow size) columns → All (λ c. IsBelow size c.0) classes

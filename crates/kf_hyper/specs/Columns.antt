@@ -1,5 +1,5 @@
--- Columns of a joint matrix, as lists of values with whole weights.
-use Rattle.std.specs.Prelude.{◌≢◌, ℕ, ◌*◌, ◌<◌, ◌==◌, List, [], ◌++◌, Bool, map, All, sum_by, slice_index_or, if◌then◌else◌}
+-- Believed: columns of a joint matrix, as lists of values with whole weights, and which of them have one posterior.
+use Rattle.std.specs.Prelude.{◌≢◌, ℕ, ◌*◌, ◌<◌, ◌==◌, List, [], ◌++◌, Bool, map, All, sum_by, if◌then◌else◌}
 use Rattle.std.specs.List.{list_all}
 use Rattle.std.specs.List.Sorted.{IsStrictlyIncreasing}
 use Rattle.kf_hyper.specs.declared.entry.Entry.{Entry}
@@ -12,22 +12,14 @@ total column = sum_by (λ e. e.weight) column
 abbrev pub weight_at : List Entry → ℕ → ℕ
 weight_at column x = sum_by (λ e. if e.value == x then e.weight else 0) column
 
+abbrev pub values : List Entry → List ℕ
+values column = map (λ e. e.value) column
+
 -- a column names each of its values once, in ascending order and with a weight
 pub record IsColumn (column : List Entry) : Type 0 where
   pub some : column ≢ []
   pub ascending : IsStrictlyIncreasing (map (λ e. e.value) column)
   pub positive : All (λ e. 0 < e.weight) column
-
--- the k-th entry, from 0
-abbrev pub entry_at : List Entry → ℕ → Entry
-entry_at column k = slice_index_or column k (record { value = 0; weight = 0 })
-
--- the values are numbers of a target with so many values
-abbrev pub IsBelow : ℕ → List Entry → Type 0
-IsBelow size column = All (λ e. e.value < size) column
-
-abbrev pub values : List Entry → List ℕ
-values column = map (λ e. e.value) column
 
 -- two columns normalise to one distribution: at any two values that they name their weights stand in one ratio
 -- (Alvim et al. 2020, columns of one posterior)

@@ -1,13 +1,12 @@
--- Hyper-distributions: one inner for each class of proportional columns (Alvim et al. 2020, from a joint matrix to its hyper).
-use Rattle.std.specs.Prelude.{◌≡◌, ◌↔◌, ℕ, ◌*◌, ◌<◌, List, true, All, map, sum_by, count_by, if◌then◌else◌}
+-- Believed: hyper-distributions: one inner for each class of proportional columns (Alvim et al. 2020, from a joint matrix to its hyper).
+use Rattle.std.specs.Prelude.{◌≡◌, ℕ, ◌<◌, List, All, map, sum_by, count_by, if◌then◌else◌}
 use Rattle.std.specs.Ordering.{ordering_then, nat_cmp}
 use Rattle.std.specs.declared.cmp.Ordering.{Ordering}
 use Rattle.std.specs.Cmp.Lexicographic.{slice_cmp}
 use Rattle.std.specs.List.Sorted.{IsStrictlySortedBy}
 use Prim.Native.Nat.{◌∣◌}
 use Rattle.kf_hyper.specs.declared.entry.Entry.{Entry}
-use Rattle.kf_hyper.specs.declared.column.Column.{Column}
-use Rattle.kf_hyper.specs.Columns.{IsColumn, weight_at, total, proportional}
+use Rattle.kf_hyper.specs.Columns.{IsColumn, total, proportional}
 
 -- only 1 divides every weight
 abbrev pub HasNoCommonFactor : List Entry → Type 0
@@ -31,22 +30,14 @@ abbrev pub list_order : List Entry → List Entry → Ordering
 list_order = slice_cmp entry_order
 
 -- the sum of all weights of the columns that are proportional to this one
-abbrev pub class_total : List Column → List Entry → ℕ
+abbrev pub class_total : List (List Entry) → List Entry → ℕ
 class_total columns inner = sum_by (λ c. if proportional c inner then total c else 0) columns
 
 -- the inners are those of these columns
-pub record IsHyper (columns : List Column) (inners : List Inner) : Type 0 where
+pub record IsHyper (columns : List (List Entry)) (inners : List Inner) : Type 0 where
   -- every column with a weight above 0 is proportional to exactly one inner
   pub covered : All (λ c. 0 < total c → count_by (λ i. proportional c i.entries) inners ≡ 1) columns
   pub totals : All (λ i. i.total ≡ class_total columns i.entries) inners
   pub used : All (λ i. 0 < i.total) inners
   pub inner : All (λ i. IsInner i.entries) inners
   pub ascending : IsStrictlySortedBy list_order (map (λ i. i.entries) inners)
-
--- columns have one hyper at the most
-abbrev pub AtMostOneHyper : Type 0
-AtMostOneHyper = (columns : List Column) (inners others : List Inner) → IsHyper columns inners → IsHyper columns others → inners ≡ others
-
--- two columns are proportional exactly where all their cross products agree
-abbrev pub ProportionalMeans : Type 0
-ProportionalMeans = (u v : List Entry) → (proportional u v ≡ true) ↔ ((x y : ℕ) → weight_at u x * weight_at v y ≡ weight_at u y * weight_at v x)

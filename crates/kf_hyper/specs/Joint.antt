@@ -1,5 +1,6 @@
--- Joint matrices: columns of whole weights over one scale.
-use Rattle.std.specs.Prelude.{ℕ, ◌≤◌, ◌<◌, ◌^◌, ◌-◌, List, sum_by}
+-- For bodies: joint matrices: columns of whole weights over one scale.
+use Rattle.std.specs.Prelude.{ℕ, ◌≤◌, ◌<◌, List, sum_by}
+use Rattle.kf_frac.specs.Fractions.{limit}
 use Rattle.kf_hyper.specs.declared.column.Column.{Column}
 use Rattle.kf_hyper.specs.Columns.{total}
 
@@ -15,5 +16,5 @@ mass columns = sum_by total columns
 -- the scale is a number of 127 bits, and the probabilities sum to at most 1
 pub record IsJoint (joint : Joint) : Type 0 where
   pub some : 0 < joint.scale
-  pub narrow : joint.scale ≤ 2 ^ 127 - 1
+  pub narrow : joint.scale ≤ limit
   pub fits : mass joint.columns ≤ joint.scale

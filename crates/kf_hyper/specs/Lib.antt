@@ -1,9 +1,14 @@
-pub mod Classes
+-- Believed
 pub mod Columns
 pub mod Hypers
+pub mod Traces
+-- For bodies
+pub mod Averages
+pub mod Classes
 pub mod Joint
+pub mod Laws
 pub mod Projection
 pub mod Shapes
 pub mod Sums
-pub mod Traces
+pub mod Tables
 pub mod Views

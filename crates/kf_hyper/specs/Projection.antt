@@ -1,6 +1,6 @@
--- Joint matrices about some of the variables.
+-- For bodies: joint matrices about some of the variables.
 use Rattle.std.specs.Prelude.{ℕ, ◌==◌, List, map, sum_by, slice_index, if◌then◌else◌}
-use Rattle.kf_value.specs.Stores.{digits, mixed_radix}
+use Rattle.kf_value.specs.Numbers.{digits, mixed_radix}
 use Rattle.kf_hyper.specs.declared.entry.Entry.{Entry}
 
 -- the numbers at these places

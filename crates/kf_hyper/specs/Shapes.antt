@@ -1,23 +1,28 @@
--- What a hyper keeps of its inners, whatever columns it is made of.
-use Rattle.std.specs.Prelude.{◌≡◌, ℕ, ◌<◌, ◌≤◌, ◌^◌, ◌-◌, List, All, map, sum_by}
+-- For bodies: what a hyper keeps of its inners, whatever columns it is made of.
+use Rattle.std.specs.Prelude.{◌≡◌, ℕ, ◌<◌, ◌≤◌, List, All, map, sum_by}
 use Rattle.std.specs.List.Sorted.{IsStrictlySortedBy}
 use Prim.Native.Nat.{◌∣◌}
+use Rattle.kf_frac.specs.Fractions.{limit}
 use Rattle.kf_hyper.specs.declared.entry.Entry.{Entry}
 use Rattle.kf_hyper.specs.declared.class.Class.{Class}
-use Rattle.kf_hyper.specs.Columns.{IsBelow, total}
+use Rattle.kf_hyper.specs.Columns.{total}
 use Rattle.kf_hyper.specs.Hypers.{Inner, IsInner, list_order}
+
+-- the values are numbers of a target with so many values
+abbrev pub IsBelow : ℕ → List Entry → Type 0
+IsBelow size column = All (λ e. e.value < size) column
 
 abbrev pub inner_of : Class → Inner
 inner_of c = record { entries = c.inner; total = c.total }
 
 -- a class by its inner and its total
-abbrev pub shown : List Entry × ℕ → Inner
-shown c = record { entries = c.0; total = c.1 }
+abbrev pub as_inner : List Entry × ℕ → Inner
+as_inner c = record { entries = c.0; total = c.1 }
 
--- inners of a target of `size` values, over a scale
+-- inners of a target of `size` values, over a scale: its totals sum to the scale, and each inner's sum divides its total
 pub record IsShape (size scale : ℕ) (inners : List Inner) : Type 0 where
   pub some : 0 < scale
-  pub narrow : scale ≤ 2 ^ 127 - 1
+  pub narrow : scale ≤ limit
   pub within : All (λ i. IsBelow size i.entries) inners
   pub inner : All (λ i. IsInner i.entries) inners
   pub ascending : IsStrictlySortedBy list_order (map (λ i. i.entries) inners)

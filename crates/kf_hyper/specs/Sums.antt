@@ -1,8 +1,7 @@
--- Weights of values, added up.
-use Rattle.std.specs.Prelude.{◌≡◌, ℕ, ◌+◌, ◌*◌, ◌/◌, ◌<◌, ◌==◌, List, All, map, sum_by, if◌then◌else◌}
+-- For bodies: weights of values, added up.
+use Rattle.std.specs.Prelude.{◌≡◌, ℕ, ◌+◌, ◌<◌, ◌==◌, List, All, map, if◌then◌else◌}
 use Rattle.kf_hyper.specs.declared.entry.Entry.{Entry}
 use Rattle.kf_hyper.specs.Columns.{weight_at, total}
-use Rattle.kf_hyper.specs.Hypers.{Inner}
 
 -- the entries of a map from values to weights
 abbrev pub summed : List (ℕ × ℕ) → List Entry
@@ -20,11 +19,3 @@ pub record Gains (gained : ℕ → ℕ) (sum : ℕ) (old new : List Entry) : Typ
 -- a weight at one value
 abbrev pub weight_alone : ℕ → ℕ → ℕ → ℕ
 weight_alone value weight x = if value == x then weight else 0
-
--- the joint weight that an inner gives to a value: its share of the total of its class
-abbrev pub joint_weight : ℕ → Inner → ℕ
-joint_weight x inner = weight_at inner.entries x * (inner.total / total inner.entries)
-
--- what all inners together give to a value
-abbrev pub average_weight : List Inner → ℕ → ℕ
-average_weight inners x = sum_by (joint_weight x) inners

@@ -1,12 +1,18 @@
--- What hypers and trace tables show of themselves.
+-- For bodies: what columns, hypers and trace tables show of themselves.
 use Rattle.std.specs.Prelude.{ℕ, List, [], map, slice_index_or}
 use Rattle.kf_value.specs.Targets.{Item}
 use Rattle.kf_value.specs.Views.{items_of}
+use Rattle.kf_hyper.specs.declared.entry.Entry.{Entry}
 use Rattle.kf_hyper.specs.declared.hyper.Hyper.{Hyper}
 use Rattle.kf_hyper.specs.declared.traces.TraceTable.{TraceTable}
 use Rattle.kf_hyper.specs.Hypers.{Inner}
 use Rattle.kf_hyper.specs.Shapes.{inner_of}
-use Rattle.kf_hyper.specs.Traces.{Row, row_of}
+use Rattle.kf_hyper.specs.Traces.{Row}
+use Rattle.kf_hyper.specs.Tables.{table_row}
+
+-- the k-th entry of a column, from 0
+abbrev pub entry_at : List Entry → ℕ → Entry
+entry_at column k = slice_index_or column k (record { value = 0; weight = 0 })
 
 -- its inners with their totals, in their order
 abbrev pub inners_of : Hyper → List Inner
@@ -26,4 +32,4 @@ target_of h = items_of h.target
 
 -- the rows of a trace table
 abbrev pub rows_of : TraceTable → List Row
-rows_of t = map row_of t.rows
+rows_of t = map table_row t.rows

@@ -1,6 +1,7 @@
 ghost use Rattle.std.specs.Prelude.{◌≡◌, ◌≤◌, ◌<◌, ◌+◌, ◌^◌, ◌-◌, ℕ, All, IfOk, map, sum_by};
 ghost use Rattle.std.specs.Map.{keys_of};
 ghost use Rattle.std.specs.List.Sorted.{IsStrictlySortedBy};
+ghost use Rattle.kf_frac.specs.Fractions.{limit};
 ghost use Rattle.kf_hyper.specs.Columns.{IsColumn, total};
 ghost use Rattle.kf_hyper.specs.Joint.{mass};
 ghost use Rattle.kf_hyper.specs.Classes.{IsCommonFactor, IsReduced, ClassesOf, keyed, key_order};
@@ -38,22 +39,9 @@ fn reduced(alloc: Global, column: &Column) -> Result<Vec<Entry>, Mem>
     Ok(inner)
 }
 
-// The sum of a column's weights.
-pub fn total_of(column: &Column) -> u128
-    requires { total column.now < 2 ^ 128 }
-    ensures { result ≡ total column.now }
-{
-    column
-        .entries()
-        .as_slice()
-        .iter()
-        .map(|entry| entry.weight)
-        .sum()
-}
-
 // The classes of proportional columns, each under its inner and with its total.
 pub fn classes_of(alloc: Global, columns: &[Column]) -> Result<BTreeMap<Vec<Entry>, u128>, Mem>
-    requires { mass columns.now ≤ 2 ^ 127 - 1 }
+    requires { mass columns.now ≤ limit }
     ensures classes { IfOk result (λ classes. ClassesOf columns.now (keyed classes.entries)) }
     ensures ordered { IfOk result (λ classes. IsStrictlySortedBy key_order (keys_of classes.entries)) }
 {
@@ -61,7 +49,7 @@ pub fn classes_of(alloc: Global, columns: &[Column]) -> Result<BTreeMap<Vec<Entr
     for column in columns {
         let inner = reduced(alloc, column)?;
         let before = classes.get(&inner).copied().unwrap_or(0);
-        classes.insert(inner, before + total_of(column))?;
+        classes.insert(inner, before + column.total())?;
     }
     Ok(classes)
 }

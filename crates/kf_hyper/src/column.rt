@@ -1,5 +1,5 @@
-ghost use Rattle.std.specs.Prelude.{◌≡◌, IfOk};
-ghost use Rattle.kf_hyper.specs.Columns.{IsColumn, weight_at};
+ghost use Rattle.std.specs.Prelude.{◌≡◌, ◌<◌, ◌^◌, IfOk};
+ghost use Rattle.kf_hyper.specs.Columns.{IsColumn, weight_at, total};
 
 use crate::EntryList;
 use kf_value::Mem;
@@ -50,6 +50,18 @@ impl Column {
             Ok(place) => entries[place].weight,
             Err(_) => 0,
         }
+    }
+
+    /// The sum of all weights.
+    pub fn total(&self) -> u128
+        requires { total self.now < 2 ^ 128 }
+        ensures { result ≡ total self.now }
+    {
+        self.entries
+            .as_slice()
+            .iter()
+            .map(|entry| entry.weight)
+            .sum()
     }
 
     /// An equal column.

@@ -1,6 +1,7 @@
 ghost use Rattle.std.specs.Prelude.{◌≡◌, ◌≤◌, ◌<◌, ◌^◌, All, IfOk, length, map};
 ghost use Rattle.std.proofs.Props.{props};
-ghost use Rattle.kf_value.specs.Targets.{target_size, item_of};
+ghost use Rattle.kf_value.specs.Numbers.{target_size};
+ghost use Rattle.kf_value.specs.TypeViews.{item_of};
 ghost use Rattle.kf_hyper.specs.Shapes.{IsShape, inner_of};
 
 use crate::class::Class;
@@ -15,7 +16,7 @@ pub struct Hyper {
     pub(crate) target: Target,
     pub(crate) scale: u128,
     pub(crate) classes: Vec<Class>,
-    ghost shape: { IsShape (target_size (map item_of target.items)) scale (map inner_of classes.items) } by { Prim.hlevel props },
+    pub ghost shape: { IsShape (target_size (map item_of target.items)) scale (map inner_of classes.items) } by { Prim.hlevel props },
 }
 
 mod abstraction;

@@ -1,12 +1,26 @@
-ghost use Rattle.kf_hyper.specs.Hypers.{AtMostOneHyper, ProportionalMeans};
+ghost use Rattle.kf_hyper.specs.Laws.{SomeHyper, AtMostOneHyper, ProportionalMeans, JointColumnWeighs, ClassesWeigh, AveragesWeigh, ProjectedNumbers};
 
-/// A law of the definitions: a list of columns has at most one hyper.
-pub fn at_most_one_hyper()
-    ensures { AtMostOneHyper }
+/// A law of the definitions: a list of columns has exactly one hyper.
+pub fn one_hyper()
+    ensures some { SomeHyper }
+    ensures at_most_one { AtMostOneHyper }
 {}
 
 /// A law of the definitions: the test on the values that two columns name says that their weights stand in one
 /// ratio at all values (Alvim et al. 2020).
 pub fn proportional_means()
     ensures { ProportionalMeans }
+{}
+
+/// Laws of the definitions: a hyper keeps the weights of the columns that it is made of. An inner's joint column has
+/// the inner's joint weights; these are the sums of its class's columns, and all of them together that of all columns.
+pub fn hyper_laws()
+    ensures column { JointColumnWeighs }
+    ensures classes { ClassesWeigh }
+    ensures average { AveragesWeigh }
+{}
+
+/// A law of the definitions: a store's projection is the number of its values at the slots.
+pub fn projection_laws()
+    ensures { ProjectedNumbers }
 {}

@@ -9,7 +9,6 @@ mod entry;
 mod hyper;
 mod law;
 mod projection;
-mod shares;
 mod sums;
 mod traces;
 
@@ -17,9 +16,8 @@ pub use column::{Column, ColumnList};
 pub use columns::{Columns, join};
 pub use entry::{Entry, EntryList};
 pub use hyper::{Hyper, abstract_columns};
-pub use law::{at_most_one_hyper, proportional_means};
+pub use law::{hyper_laws, one_hyper, projection_laws, proportional_means};
 pub use projection::project;
-pub use shares::share;
 pub use sums::column_of;
 pub use traces::{TraceRow, TraceRowList, TraceTable};
 

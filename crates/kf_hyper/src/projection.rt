@@ -1,8 +1,9 @@
 ghost use Rattle.std.specs.Prelude.{◌≡◌, ◌<◌, ◌^◌, ◌==◌, All, IfOk, length, map};
 ghost use Rattle.std.specs.List.{IsDistinct};
 ghost use Rattle.kf_value.specs.Types.{product};
-ghost use Rattle.kf_value.specs.Shapes.{shape_types, shape_sizes};
-ghost use Rattle.kf_hyper.specs.Columns.{IsBelow, weight_at, total};
+ghost use Rattle.kf_value.specs.Shapes.{shape_types, shape_sizes, shape_size};
+ghost use Rattle.kf_hyper.specs.Columns.{weight_at, total};
+ghost use Rattle.kf_hyper.specs.Shapes.{IsBelow};
 ghost use Rattle.kf_hyper.specs.Joint.{mass};
 ghost use Rattle.kf_hyper.specs.Projection.{at_places, projected as projected_store, weight_through};
 
@@ -14,7 +15,7 @@ use std::collections::BTreeMap;
 
 // The number of a store's values at the slots.
 fn projected(shape: &Shape, slots: &[u8], store: u64) -> u64
-    requires store { store < product (shape_sizes shape.now) }
+    requires store { store < shape_size shape.now }
     requires places { All (λ i. i < length (shape_types shape.now)) slots.now }
     requires apart { IsDistinct (λ i j. i == j) slots.now }
     ensures number { result ≡ projected_store (shape_sizes shape.now) slots.now store }
@@ -36,7 +37,7 @@ fn projected_column(
     slots: &[u8],
 ) -> Result<Column, Mem>
     requires fits { total column.now < 2 ^ 128 }
-    requires stores { IsBelow (product (shape_sizes shape.now)) column.now }
+    requires stores { IsBelow (shape_size shape.now) column.now }
     requires places { All (λ i. i < length (shape_types shape.now)) slots.now }
     requires apart { IsDistinct (λ i j. i == j) slots.now }
     ensures weights { IfOk result (λ new. weight_at new ≡ weight_through (projected_store (shape_sizes shape.now) slots.now) column.now) }
@@ -64,7 +65,7 @@ pub fn project(
     shape: &Shape,
     slots: &SlotList,
 ) -> Result<Columns, Mem>
-    requires stores { All (IsBelow (product (shape_sizes shape.now))) columns.now.columns }
+    requires stores { All (IsBelow (shape_size shape.now)) columns.now.columns }
     requires places { All (λ i. i < length (shape_types shape.now)) slots.now }
     requires apart { IsDistinct (λ i j. i == j) slots.now }
     ensures scale { IfOk result (λ joint. joint.scale ≡ columns.now.scale) }

@@ -1,5 +1,6 @@
 ghost use Rattle.std.specs.Prelude.{◌≡◌, ◌≢◌, ◌+◌, ◌*◌, ◌<◌, ◌≤◌, ◌^◌, ◌-◌, [], ℕ, IfOk, OnOk};
-ghost use Rattle.kf_hyper.specs.Columns.{IsBelow, weight_at, total};
+ghost use Rattle.kf_hyper.specs.Columns.{weight_at, total};
+ghost use Rattle.kf_hyper.specs.Shapes.{IsBelow};
 ghost use Rattle.kf_hyper.specs.Sums.{summed, ArePositive, Gains, weight_alone};
 
 use crate::{Column, Entry, EntryList};
@@ -27,6 +28,7 @@ pub fn add_all(sums: &mut BTreeMap<u64, u128>, entries: &[Entry], times: u128) -
     requires fits { total (summed sums.old.entries) + times * total entries.now < 2 ^ 128 }
     ensures gains { OnOk result (Gains (λ x. times * weight_at entries.now x) (times * total entries.now) (summed sums.old.entries) (summed sums.new.entries)) }
     ensures positive { OnOk result (ArePositive (summed sums.old.entries) → ArePositive (summed sums.new.entries)) }
+    ensures below { OnOk result ((size : ℕ) → IsBelow size entries.now → IsBelow size (summed sums.old.entries) → IsBelow size (summed sums.new.entries)) }
 {
     for entry in entries {
         add(sums, entry.value, times * entry.weight)?;

@@ -1,11 +1,14 @@
 // Small joint matrices and their hypers, worked out by hand.
 ghost use Rattle.std.specs.Prelude.{◌≡◌, ◌<◌, ◌≤◌, ◌^◌, ◌-◌, ◌==◌, ◌∷◌, [], pos, All, IfOk};
 ghost use Rattle.std.specs.List.{IsDistinct};
+ghost use Rattle.kf_frac.specs.Fractions.{limit};
 ghost use Rattle.kf_value.specs.Shapes.{shape_types};
-ghost use Rattle.kf_value.specs.Types.{type_tree, Range};
-ghost use Rattle.kf_value.specs.Targets.{target_size};
+ghost use Rattle.kf_value.specs.Types.{Range};
+ghost use Rattle.kf_value.specs.TypeViews.{type_tree};
+ghost use Rattle.kf_value.specs.Numbers.{target_size};
 ghost use Rattle.kf_value.specs.Views.{items_of};
-ghost use Rattle.kf_hyper.specs.Columns.{IsColumn, IsBelow};
+ghost use Rattle.kf_hyper.specs.Columns.{IsColumn};
+ghost use Rattle.kf_hyper.specs.Shapes.{IsBelow};
 ghost use Rattle.kf_hyper.specs.Joint.{mass};
 
 use super::*;
@@ -47,7 +50,7 @@ fn column(alloc: Global, entries: &[Entry]) -> Result<Column, Mem>
 // the count, and then, for each inner, its total, its outer, and its values with weights and chances.
 fn shown(alloc: Global, scale: u128, columns: Vec<Column>) -> Result<String, Mem>
     requires some { 0 < scale }
-    requires narrow { scale ≤ 2 ^ 127 - 1 }
+    requires narrow { scale ≤ limit }
     requires whole { mass columns.items ≡ scale }
     requires within { All (IsBelow 10) columns.items }
 {
@@ -250,5 +253,6 @@ fn average_of_a_uniform_value(rt: HostRuntime) -> Result<(), Fail> {
         " 0:1 1:1 2:1 3:1",
         "as it began"
     );
+    assert_eq!(rt; average.total(), 4, "the scale");
     Ok(())
 }

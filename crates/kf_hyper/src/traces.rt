@@ -1,7 +1,8 @@
 ghost use Rattle.std.specs.Prelude.{map};
 ghost use Rattle.std.proofs.Props.{props};
-ghost use Rattle.kf_value.specs.Targets.{target_size, item_of};
-ghost use Rattle.kf_hyper.specs.Traces.{IsTable, row_of};
+ghost use Rattle.kf_value.specs.Numbers.{target_size};
+ghost use Rattle.kf_value.specs.TypeViews.{item_of};
+ghost use Rattle.kf_hyper.specs.Tables.{IsTable, table_row};
 
 use crate::Column;
 use crate::sums::{add_all, column_of};
@@ -47,16 +48,16 @@ pub struct TraceTable {
     /// What every weight is divided by to give a probability: 1 to 2^127 - 1, and the sum of all weights.
     pub scale: u128,
     pub rows: TraceRowList,
-    pub ghost table: { IsTable (target_size (map item_of target.items)) scale (map row_of rows) } by { Prim.hlevel props },
+    pub ghost table: { IsTable (target_size (map item_of target.items)) scale (map table_row rows) } by { Prim.hlevel props },
 }
 
 impl TraceRow {
     ghost use Rattle.std.specs.Prelude.{◌≡◌, IfOk};
-    ghost use Rattle.kf_hyper.specs.Traces.{row_of};
+    ghost use Rattle.kf_hyper.specs.Tables.{table_row};
 
     /// An equal row.
     pub fn copy(&self, alloc: Global) -> Result<TraceRow, Mem>
-        ensures { IfOk result (λ copied. row_of copied ≡ row_of self.now) }
+        ensures { IfOk result (λ copied. table_row copied ≡ table_row self.now) }
     {
         Ok(TraceRow {
             trace: self.trace.copy(alloc)?,
@@ -67,7 +68,6 @@ impl TraceRow {
 
 impl TraceRowList {
     ghost use Rattle.std.specs.Prelude.{◌≡◌, IfOk, map};
-    ghost use Rattle.kf_hyper.specs.Traces.{row_of};
 
     pub fn new(items: Vec<TraceRow>) -> Self
         ensures { result ≡ items.items }
@@ -89,7 +89,7 @@ impl TraceRowList {
 
     /// An equal list.
     pub fn copy(&self, alloc: Global) -> Result<TraceRowList, Mem>
-        ensures { IfOk result (λ copied. map row_of copied ≡ map row_of self.now) }
+        ensures { IfOk result (λ copied. map table_row copied ≡ map table_row self.now) }
     {
         let mut items = Vec::new(alloc);
         for row in &self.items {
@@ -102,6 +102,8 @@ impl TraceRowList {
 impl TraceTable {
     ghost use Rattle.std.specs.Prelude.{◌≡◌, ℕ, IfOk};
     ghost use Rattle.kf_hyper.specs.Columns.{weight_at, total};
+    ghost use Rattle.kf_value.specs.Views.{items_of};
+    ghost use Rattle.kf_hyper.specs.Shapes.{IsBelow};
     ghost use Rattle.kf_hyper.specs.Traces.{value_weight};
     ghost use Rattle.kf_hyper.specs.Views.{rows_of};
 
@@ -109,6 +111,7 @@ impl TraceTable {
     pub fn average(&self, alloc: Global) -> Result<Column, Mem>
         ensures weights { IfOk result (λ column. (x : ℕ) → weight_at column x ≡ value_weight (rows_of self.now) x) }
         ensures total { IfOk result (λ column. total column ≡ self.now.scale) }
+        ensures below { IfOk result (IsBelow (target_size (items_of self.now.target))) }
     {
         let mut sums = BTreeMap::new(alloc);
         for row in self.rows.as_slice() {

@@ -3,7 +3,7 @@ use Rattle.std.proofs.Common.{◌≡◌, ℕ, ◌+◌, ◌≤◌, Bool, true, fa
 use Rattle.std.specs.List.{list_all, Contains}
 use Rattle.std.proofs.lemmas.Bool.Decides.{nat_tests}
 use Rattle.std.proofs.lemmas.Grind.{common_steps}
-use Rattle.kf_io.specs.Writes.{SinkState, certain_room, room_left}
+use Rattle.kf_io.specs.Sinks.{SinkState, certain_room, room_left}
 
 -- whether each listed number is below this one
 abbrev passed : List ℕ → ℕ → Bool

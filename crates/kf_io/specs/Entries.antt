@@ -1,4 +1,4 @@
--- Files in memory, by name, and the state of those whose reads may fail.
+-- For bodies: files in memory, by name, and the state of those whose reads may fail.
 use Rattle.std.specs.Prelude.{◌≡◌, ◌≢◌, ◌⊎◌, ℕ, Bool, List, [], None, length, position, replicate, slice_index, Contains}
 use Rattle.std.specs.List.{find}
 use Rattle.std.specs.Option.{option_map_or}

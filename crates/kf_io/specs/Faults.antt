@@ -1,5 +1,5 @@
--- Counts of faults, and when one rose.
-use Rattle.std.specs.Prelude.{◌≡◌, ℕ, ◌+◌, ◌-◌, ◌^◌, ◌≤◌, min, List, Result, OnOk, OnErr}
+-- Believed: counts of faults, and when one rose.
+use Rattle.std.specs.Prelude.{ℕ, ◌+◌, ◌-◌, ◌^◌, ◌≤◌, min}
 
 -- the count after one more: it ends at 2^64 - 1 and stays there
 abbrev pub raised : ℕ → ℕ
@@ -8,15 +8,3 @@ raised count = min (count + 1) (2 ^ 64 - 1)
 -- a count is greater now than it was before, or stood at its end already
 abbrev pub Rose : ℕ → ℕ → Type 0
 Rose before now = raised before ≤ now
-
--- a call on one name: no name's count falls, a fault raises the count of this name, and without one each count stays
-pub record CountsFaults {T E : Type 0} (name : List ℕ) (before now : List ℕ → ℕ) (result : Result T E) : Type 0 where
-  pub later : (n : List ℕ) → before n ≤ now n
-  pub failed : OnErr result (Rose (before name) (now name))
-  pub same : OnOk result (now ≡ before)
-
--- the same for a single count
-pub record CountsFault {T E : Type 0} (before now : ℕ) (result : Result T E) : Type 0 where
-  pub later : before ≤ now
-  pub failed : OnErr result (Rose before now)
-  pub same : OnOk result (now ≡ before)

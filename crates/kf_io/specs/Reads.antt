@@ -1,4 +1,4 @@
--- What a read gives of a file whose bytes are told.
+-- For bodies: what a read gives of a file whose bytes are told.
 use Rattle.std.specs.Prelude.{◌≡◌, ℕ, ◌+◌, ◌<◌, ◌≤◌, List, [], ◌++◌, length, take, drop, Vec, Result, Ok, Err}
 use Rattle.std.specs.declared.alloc.Global.{Global}
 use Rattle.kf_io.specs.declared.errors.ReadError.{ReadError}

@@ -1,6 +1,7 @@
 ghost use Rattle.std.specs.Prelude.{◌≡◌, ◌<◌, ◌≤◌, ◌+◌, ◌++◌, ◌↔◌, [], Some, length, take, IfOk, OnErr, IsOk, IsErr};
-ghost use Rattle.kf_io.specs.Faults.{CountsFault, raised};
-ghost use Rattle.kf_io.specs.Writes.{fresh_sink, certain_room, write_count, WriteFails};
+ghost use Rattle.kf_io.specs.Faults.{raised};
+ghost use Rattle.kf_io.specs.Counts.{CountsFault};
+ghost use Rattle.kf_io.specs.Sinks.{fresh_sink, certain_room, write_count, WriteFails};
 
 use crate::{CallList, Failed, Mem, Sink};
 use std::alloc::Global;
@@ -19,7 +20,7 @@ pub struct MemSink {
 
 impl Model for MemSink {
     ghost use Rattle.std.specs.Prelude.{◌<◌, ◌≤◌, vec_len, vec_capacity};
-    ghost use Rattle.kf_io.specs.Writes.{SinkState};
+    ghost use Rattle.kf_io.specs.Sinks.{SinkState};
 
     ghost Value = { SinkState };
 

@@ -2,7 +2,7 @@ ghost use Rattle.std.specs.Prelude.{◌≡◌, ◌+◌, ◌<◌, ◌≤◌, List
 ghost use Rattle.std.specs.Option.{ForSome};
 ghost use Rattle.std.specs.declared.option.Option.{Option};
 ghost use Rattle.std.specs.Io.KnownBytes.{Appends, Keeps};
-ghost use Rattle.kf_io.specs.Faults.{CountsFaults, CountsFault};
+ghost use Rattle.kf_io.specs.Counts.{CountsFaults, CountsFault};
 ghost use Rattle.kf_io.specs.Reads.{Gives};
 
 use crate::Failed;

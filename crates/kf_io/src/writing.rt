@@ -1,7 +1,7 @@
 ghost use Rattle.std.specs.Prelude.{◌+◌, ◌≤◌, length, OnOk, OnErr, IsOk};
 ghost use Rattle.std.specs.List.{flat_map};
 ghost use Rattle.std.specs.Io.KnownBytes.{Appends};
-ghost use Rattle.kf_io.specs.Faults.{CountsFault};
+ghost use Rattle.kf_io.specs.Counts.{CountsFault};
 ghost use Rattle.kf_io.specs.Writes.{AppendsSome};
 
 use crate::{Failed, Sink};

@@ -69,7 +69,7 @@ run_begins p c text front rest run begins passes =
     run_chars p c text rest run.chars begins passes (run.whole ∙ ap (λ x. x ++ rest) run.spelt) run.stops
 
 -- the first character of a text
-beginning : (text chars : List ℕ) → encode_utf8_all chars ≡ text → all_scalars chars ≡ true
+pub beginning : (text chars : List ℕ) → encode_utf8_all chars ≡ text → all_scalars chars ≡ true
     → (text ≡ []) ⊎ ((c : ℕ) × IsBeginning c text)
 beginning text [] e h = inl (sym e)
 beginning text (c ∷ cs) e h = inr (c, (and_first _ _ h, (encode_utf8_all cs, sym e)))

@@ -7,7 +7,7 @@ use Rattle.std.proofs.Math.Seq.{drop-append_seam}
 use Rattle.kf_lex.specs.declared.token.LexError.{LexError}
 use Rattle.kf_lex.specs.declared.token.LexError.TheVariants as fault
 use Rattle.kf_lex.specs.declared.token.Token.{Token}
-use Rattle.kf_lex.specs.Readings.{Fault, IsFault, IsOneReading, IsTokens, WrongFrom, place, valid_front}
+use Rattle.kf_lex.specs.Readings.{Fault, IsFault, IsTokens, WrongFrom, place, valid_front}
 use Rattle.kf_lex.proofs.Following.{never_wrong, one_list, piece_length, reached, wrong_piece}
 
 seam : (text front left : List ℕ) (at : ℕ) → text ≡ front ++ left → at ≡ length front → left ≡ drop at text
@@ -62,12 +62,9 @@ one_tokens src ts us p q = one_list 0 src ts us p.reads q.reads
 pub whole_front : (src : List ℕ) → IsUtf8 src → valid_front src ≡ src
 whole_front src h = rw (utf8_valid_len-IsUtf8 src h) (take_all (length src) src (omega arith))
 
-no_fault : (src : List ℕ) (ts : List Token) (e : LexError) → IsTokens src ts → Fault src e → ⊥
+pub no_fault : (src : List ℕ) (ts : List Token) (e : LexError) → IsTokens src ts → Fault src e → ⊥
 no_fault src ts (fault.Utf8 at) p q =
     absurd (omega (arith, utf8_valid_len-IsValidUpTo src at q, utf8_valid_len-IsUtf8 src p.utf8, q.short))
 no_fault src ts (fault.Char at) p q = never_wrong 0 (valid_front src) ts (fault.Char at) (rw (whole_front src p.utf8) p.reads) q
 no_fault src ts (fault.Number at) p q = never_wrong 0 (valid_front src) ts (fault.Number at) (rw (whole_front src p.utf8) p.reads) q
 no_fault src ts fault.Mem p q = q
-
-pub IsOneReading-holds : IsOneReading
-IsOneReading-holds = record { tokens = one_tokens; fault = one_fault; not_both = λ src ts e p q. no_fault src ts e p q.is }

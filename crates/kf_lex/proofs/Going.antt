@@ -44,7 +44,7 @@ wrong_past at left a rest e whole is right w =
     (λ (onward : Reaches (at + length a) rest (place e) (w.0 ++ w.1)). (w.0, w.1, onward, w.3))
     (leads_past at (place e) left (w.0 ++ w.1) a rest whole is w.2)
 
-past_blank : (text left a rest : List ℕ) (at : ℕ) (tokens : List Token) → Goes text at left tokens → left ≡ a ++ rest → IsBlank a rest
+pub past_blank : (text left a rest : List ℕ) (at : ℕ) (tokens : List Token) → Goes text at left tokens → left ≡ a ++ rest → IsBlank a rest
     → Goes text (at + length a) rest tokens
 past_blank text left a rest at tokens goes whole blank = record {
   reads = λ us h. goes.reads us (r.blank a rest whole blank h);
@@ -52,7 +52,7 @@ past_blank text left a rest at tokens goes whole blank = record {
   faults = λ e w. wrong_past at left a rest e whole (piece.blank blank) (λ wrong. wrong_no_blank e a rest wrong blank) (goes.faults e w);
 }
 
-past_token : (text left a rest : List ℕ) (at : ℕ) (tokens : List Token) (t : Token) → Goes text at left tokens → left ≡ a ++ rest
+pub past_token : (text left a rest : List ℕ) (at : ℕ) (tokens : List Token) (t : Token) → Goes text at left tokens → left ≡ a ++ rest
     → IsLongest a rest → Spells t.kind a → t.start ≡ at → t.end ≡ at + length a → Goes text (at + length a) rest (tokens ++ t ∷ [])
 past_token text left a rest at tokens t goes whole long spelt starts ends = record {
   reads = λ us h. subst (Reads 0 text) (sym (append_assoc tokens (t ∷ []) us))
@@ -80,7 +80,7 @@ reads_all text left at tokens goes e =
     subst (Reads 0 text) (append-nil tokens) (goes.reads [] (subst (λ x. Reads at x []) (sym e) r.done))
 
 -- the first wrong piece
-first_of : (text left a rest : List ℕ) (at : ℕ) (tokens : List Token) (e : LexError) → Goes text at left tokens → left ≡ a ++ rest
+pub first_of : (text left a rest : List ℕ) (at : ℕ) (tokens : List Token) (e : LexError) → Goes text at left tokens → left ≡ a ++ rest
     → IsWrong e a rest × (place e ≡ at) → WrongFrom 0 text e × ((f : LexError) → WrongFrom 0 text f → place e ≤ place f)
 first_of text left a rest at tokens e goes whole wrong =
     let here : Reaches at left (place e) (a ++ rest) = subst (λ x. Reaches at left x (a ++ rest)) (sym wrong.1) (subst (Reaches at left at) whole r.here) in (

@@ -6,8 +6,8 @@ use Rattle.std.proofs.lemmas.Str.{utf8_valid_len-IsValidUpTo}
 use Rattle.kf_lex.specs.declared.token.LexError.{LexError}
 use Rattle.kf_lex.specs.declared.token.LexError.TheVariants as fault
 use Rattle.kf_lex.specs.declared.token.Token.{Token}
-use Rattle.kf_lex.specs.Cuts.{IsFirstWrong}
-use Rattle.kf_lex.specs.Readings.{Fault, IsFault, IsFaultOrMem, IsTokens, Reads, WrongFrom, place, valid_front}
+use Rattle.kf_lex.specs.Cuts.{IsFirstWrong, IsFaultOrMem}
+use Rattle.kf_lex.specs.Readings.{Fault, IsFault, IsTokens, Reads, WrongFrom, place, valid_front}
 use Rattle.kf_lex.proofs.Faults.{before_end, front_length}
 use Rattle.kf_lex.proofs.Following.{never_wrong}
 
@@ -44,7 +44,7 @@ wrong_first src e w least (fault.Char j) h = least (fault.Char j) h
 wrong_first src e w least (fault.Number j) h = least (fault.Number j) h
 wrong_first src e w least fault.Mem h = absurd h
 
-fault_of_front : (src : List ℕ) (e : LexError) → IsFirstWrong (valid_front src) e → IsFaultOrMem src e
+pub fault_of_front : (src : List ℕ) (e : LexError) → IsFirstWrong (valid_front src) e → IsFaultOrMem src e
 fault_of_front src fault.Mem h = tt
 fault_of_front src (fault.Utf8 i) h = absurd h.0.3
 fault_of_front src (fault.Char i) h = record { is = h.0; first = wrong_first src (fault.Char i) h.0 h.1 }

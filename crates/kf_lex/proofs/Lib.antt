@@ -12,3 +12,6 @@ pub mod Both
 pub mod LongestCuts
 pub mod Going
 pub mod Judging
+pub mod ValidFront
+pub mod EachPiece
+pub mod EachSource

@@ -94,14 +94,14 @@ continues_too c h =
     ] refl h
 
 -- the characters of a text that goes on go on with those of its front
-encodes_front : (ds cs more : List ℕ) → encode_utf8_all cs ≡ encode_utf8_all ds ++ more → (es : List ℕ) × (cs ≡ ds ++ es) × (encode_utf8_all es ≡ more)
+pub encodes_front : (ds cs more : List ℕ) → encode_utf8_all cs ≡ encode_utf8_all ds ++ more → (es : List ℕ) × (cs ≡ ds ++ es) × (encode_utf8_all es ≡ more)
 encodes_front [] cs more e = (cs, refl, e)
 encodes_front (d ∷ ds) cs more e =
     let first = cons_from_encodes cs (encode_utf8_all ds ++ more) d (e ∙ append_assoc (encode_utf8 d) (encode_utf8_all ds) more) in
     let others = encodes_front ds first.0 more first.2 in
     (others.0, first.1 ∙ ap (λ x. d ∷ x) others.1, others.2)
 
-scalars_behind : (front rest : List ℕ) → all_scalars (front ++ rest) ≡ true → all_scalars rest ≡ true
+pub scalars_behind : (front rest : List ℕ) → all_scalars (front ++ rest) ≡ true → all_scalars rest ≡ true
 scalars_behind [] rest h = h
 scalars_behind (x ∷ front) rest h = scalars_behind front rest (and_second _ _ h)
 

@@ -3,6 +3,7 @@ use Rattle.std.proofs.Common.{◌≡◌, ◌&&◌, ℕ, Bool, true, false, not, 
 use Rattle.std.specs.List.{AllByRecursion}
 use Rattle.std.proofs.lemmas.List.Elements.{All-from_recursion}
 use Rattle.std.specs.Map.{lookup}
+use Rattle.std.specs.Option.{option_or}
 use Rattle.std.specs.Str.{bytes_eq}
 use Rattle.std.proofs.lemmas.Slice.Eq.{bytes_eq-Decides}
 use Rattle.std.proofs.lemmas.Bool.Decides.{nat_tests}
@@ -13,8 +14,9 @@ use Rattle.kf_lex.specs.declared.token.Tok.{Tok}
 use Rattle.kf_lex.specs.declared.token.Tok.TheVariants as tok
 use Rattle.kf_lex.specs.declared.token.Word.{Word}
 use Rattle.kf_lex.specs.Cuts.{first_sign}
-use Rattle.kf_lex.specs.Words.{operator_word, own_words, own_word, or_else, reserved, sign_text, word_of}
-use Rattle.kf_lex.specs.Lexemes.{AreOperatorsReserved, IsWord, Spells}
+use Rattle.kf_lex.specs.Words.{operator_word, own_words, own_word, reserved, sign_text, word_of}
+use Rattle.kf_lex.specs.Lexemes.{IsWord, Spells}
+use Rattle.kf_lex.specs.Laws.{AreOperatorsReserved}
 use Rattle.kf_lex.proofs.Both.{and_first, and_second}
 use Rattle.kf_lex.proofs.SignSearch.{found_again}
 use Rattle.kf_lex.proofs.FirstBytes.{Begins, number_sort, same_sort, sign_sort, sort, word_sort}
@@ -68,7 +70,7 @@ word_found (row ∷ rows) text w all h =
       | false ↦ λ _ rest. word_found rows text w (and_second _ _ all) rest
     ] refl h
 
-either_word : (a b : Option Word) (w : Word) (P : Type 0) → (a ≡ Some w → P) → (b ≡ Some w → P) → or_else a b ≡ Some w → P
+either_word : (a b : Option Word) (w : Word) (P : Type 0) → (a ≡ Some w → P) → (b ≡ Some w → P) → option_or a b ≡ Some w → P
 either_word (Some v) b w P f g h = f h
 either_word None b w P f g h = g h
 

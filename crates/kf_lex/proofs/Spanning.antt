@@ -9,7 +9,8 @@ use Rattle.kf_lex.specs.declared.token.Tok.{Tok}
 use Rattle.kf_lex.specs.declared.token.Tok.TheVariants as tok
 use Rattle.kf_lex.specs.declared.token.Token.{Token}
 use Rattle.kf_lex.specs.Lexemes.{IsWord, Spells}
-use Rattle.kf_lex.specs.Readings.{HasName, HasSpans, IsTokens, IsWithin, Reads}
+use Rattle.kf_lex.specs.Readings.{IsTokens, Reads}
+use Rattle.kf_lex.specs.Laws.{HasName, HasSpans, IsWithin}
 use Rattle.kf_lex.specs.Readings as r
 use Rattle.kf_lex.proofs.Following.{lexeme_length}
 

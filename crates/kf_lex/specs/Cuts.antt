@@ -1,4 +1,4 @@
--- What the functions that cut a text promise each other.
+-- For bodies: what the functions that cut a text promise each other.
 use Rattle.std.specs.Prelude.{◌≡◌, ◌+◌, ◌≤◌, ◌⊎◌, ◌==◌, ℕ, Bool, true, false, not, List, [], ◌∷◌, ◌++◌, Option, Some, None, Result, Ok, Err, if◌then◌else◌, nat_eq, length, take, drop}
 use Rattle.std.specs.Char.{IsScalar, encode_utf8}
 use Rattle.std.specs.List.{AllByRecursion, starts_with}
@@ -14,7 +14,7 @@ use Rattle.kf_lex.specs.declared.token.Token.{Token}
 use Rattle.kf_lex.specs.Words.{sign_text}
 use Rattle.kf_lex.specs.Lexemes.{IsLongest, IsNumber, IsWord, Spells}
 use Rattle.kf_lex.specs.Pieces.{IsBlank, IsOther}
-use Rattle.kf_lex.specs.Readings.{WrongFrom, IsWrong, place}
+use Rattle.kf_lex.specs.Readings.{IsFault, WrongFrom, IsWrong, place}
 
 -- the first of these signs with which the text begins
 abbrev pub first_sign : List Sign → List ℕ → Option Sign
@@ -85,3 +85,8 @@ IsRefused cut at e = IsWrong e cut.text.now cut.rest.now × (place e ≡ at)
 abbrev pub IsFirstWrong : List ℕ → LexError → Type 0
 IsFirstWrong text fault.Mem = Unit {0}
 IsFirstWrong text e = WrongFrom 0 text e × ((f : LexError) → WrongFrom 0 text f → place e ≤ place f)
+
+-- the first fault of a source, or want of memory
+abbrev pub IsFaultOrMem : List ℕ → LexError → Type 0
+IsFaultOrMem src fault.Mem = Unit {0}
+IsFaultOrMem src e = IsFault src e

@@ -1,14 +1,13 @@
--- The shapes of tokens, and which texts each kind of token has.
-use Rattle.std.specs.Prelude.{◌≡◌, ◌≤◌, ◌⊎◌, ◌||◌, ◌==◌, ℕ, Bool, true, List, [], ◌∷◌, ◌++◌, Some, None, IsSome}
-use Rattle.std.specs.List.{All, AllByRecursion}
+-- Believed: the shapes of tokens, and which texts each kind of token has.
+use Rattle.std.specs.Prelude.{◌≡◌, ◌≤◌, ◌⊎◌, ◌||◌, ◌==◌, ℕ, Bool, true, List, [], ◌∷◌, ◌++◌, Some, None}
+use Rattle.std.specs.List.{AllByRecursion}
 use Rattle.std.specs.Str.{encode_utf8_all, all_scalars}
 use Rattle.std.specs.Str.Parse.{IsNumeral, digits_value}
 use Rattle.unicode_ident.specs.Ident.{is_xid_start, is_xid_continue}
-use Rattle.kf_ops.specs.Rows.{operators}
 use Rattle.kf_lex.specs.declared.token.Sign.{Sign}
 use Rattle.kf_lex.specs.declared.token.Tok.{Tok}
 use Rattle.kf_lex.specs.declared.token.Tok.TheVariants as tok
-use Rattle.kf_lex.specs.Words.{sign_text, reserved, word_of}
+use Rattle.kf_lex.specs.Words.{sign_text, reserved}
 
 -- a sign
 abbrev pub IsSign : List ℕ → Type 0
@@ -51,7 +50,3 @@ Spells (tok.Sign s) text = text ≡ sign_text s
 Spells (tok.Number n) text = IsNumber text × (digits_value 10 text ≡ n) × (n ≤ greatest_number)
 Spells (tok.Word w) text = reserved text ≡ Some w
 Spells tok.Name text = IsWord text × (reserved text ≡ None)
-
--- every operator that is written as a word has a reserved word
-abbrev pub AreOperatorsReserved : Type 0
-AreOperatorsReserved = All (λ row. IsWord row.word → IsSome (word_of row.code)) operators

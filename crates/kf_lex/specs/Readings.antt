@@ -1,12 +1,10 @@
--- The tokens of a source, and the first fault of one that has none.
-use Rattle.std.specs.Prelude.{◌≡◌, ◌<◌, ◌≤◌, ◌+◌, ℕ, List, [], ◌∷◌, ◌++◌, length, take, slice_range}
-use Rattle.std.specs.List.{All, AllPairs}
+-- Believed: the tokens of a source, and the first fault of one that has none.
+use Rattle.std.specs.Prelude.{◌≡◌, ◌<◌, ◌≤◌, ◌+◌, ℕ, List, [], ◌∷◌, ◌++◌, length, take}
 use Rattle.std.specs.Str.{IsUtf8, IsValidUpTo}
 use Rattle.std.specs.Str.Lossy.{utf8_valid_len}
 use Rattle.std.specs.Str.Parse.{digits_value}
 use Rattle.kf_lex.specs.declared.token.LexError.{LexError}
 use Rattle.kf_lex.specs.declared.token.LexError.TheVariants as fault
-use Rattle.kf_lex.specs.declared.token.Tok.TheVariants as tok
 use Rattle.kf_lex.specs.declared.token.Token.{Token}
 use Rattle.kf_lex.specs.Lexemes.{IsNumber, IsLongest, Spells, greatest_number}
 use Rattle.kf_lex.specs.Pieces.{IsBlank, IsOther, IsPiece}
@@ -67,27 +65,3 @@ Fault src fault.Mem = ⊥
 pub record IsFault (src : List ℕ) (e : LexError) : Type 0 where
   pub is : Fault src e
   pub first : (f : LexError) → Fault src f → place e ≤ place f
-
--- or want of memory
-abbrev pub IsFaultOrMem : List ℕ → LexError → Type 0
-IsFaultOrMem src fault.Mem = Unit {0}
-IsFaultOrMem src e = IsFault src e
-
--- a source has at most one list of tokens, at most one first fault, and never both
-pub record IsOneReading : Type 0 where
-  pub tokens : (src : List ℕ) (ts us : List Token) → IsTokens src ts → IsTokens src us → ts ≡ us
-  pub fault : (src : List ℕ) (e f : LexError) → IsFault src e → IsFault src f → e ≡ f
-  pub not_both : (src : List ℕ) (ts : List Token) (e : LexError) → IsTokens src ts → ¬ (IsFault src e)
-
--- a token has some text, and that is within the source
-abbrev pub IsWithin : List ℕ → Token → Type 0
-IsWithin src t = (t.start < t.end) × (t.end ≤ length src)
-
--- the tokens stand in the source one behind the other
-pub record HasSpans (src : List ℕ) (tokens : List Token) : Type 0 where
-  pub within : All (IsWithin src) tokens
-  pub ascending : AllPairs (λ t u. t.end ≤ u.start) tokens
-
--- the text of a name is UTF-8
-abbrev pub HasName : List ℕ → Token → Type 0
-HasName src t = t.kind ≡ tok.Name → IsUtf8 (slice_range src t.start t.end)

@@ -1,6 +1,7 @@
--- How signs and reserved words are written. All of it is ASCII.
+-- Believed: how signs and reserved words are written. All of it is ASCII.
 use Rattle.std.specs.Prelude.{ℕ, List, [], ◌∷◌, Option, Some, None, if◌then◌else◌, codes}
 use Rattle.std.specs.Map.{lookup}
+use Rattle.std.specs.Option.{option_or}
 use Rattle.std.specs.Str.{bytes_eq}
 use Rattle.kf_ops.specs.Rows.{Row, operators}
 use Rattle.kf_ops.specs.declared.row.Op.{Op}
@@ -36,10 +37,12 @@ sign_text sign.Star = codes "*"
 -- the reserved words that are no operators, each with its letters
 abbrev pub own_words : List (List ℕ × Word)
 own_words =
-    (codes "var", word.VarWord) ∷ (codes "bool", word.BoolWord) ∷ (codes "set", word.SetWord) ∷ (codes "of", word.OfWord)
-    ∷ (codes "about", word.AboutWord) ∷ (codes "old", word.OldWord) ∷ (codes "skip", word.SkipWord) ∷ (codes "observe", word.ObserveWord)
-    ∷ (codes "if", word.IfWord) ∷ (codes "else", word.ElseWord) ∷ (codes "while", word.WhileWord) ∷ (codes "uniform", word.UniformWord)
-    ∷ (codes "choose", word.ChooseWord) ∷ (codes "flip", word.FlipWord) ∷ (codes "true", word.TrueWord) ∷ (codes "false", word.FalseWord) ∷ []
+    (codes "var", word.VarWord) ∷ (codes "bool", word.BoolWord) ∷ (codes "set", word.SetWord)
+    ∷ (codes "of", word.OfWord) ∷ (codes "about", word.AboutWord) ∷ (codes "old", word.OldWord)
+    ∷ (codes "skip", word.SkipWord) ∷ (codes "observe", word.ObserveWord) ∷ (codes "if", word.IfWord)
+    ∷ (codes "else", word.ElseWord) ∷ (codes "while", word.WhileWord) ∷ (codes "uniform", word.UniformWord)
+    ∷ (codes "choose", word.ChooseWord) ∷ (codes "flip", word.FlipWord)
+    ∷ (codes "true", word.TrueWord) ∷ (codes "false", word.FalseWord) ∷ []
 
 -- the word of an operator, where it is written with letters; the letters themselves stand in the operator's row
 abbrev pub word_of : Op → Option Word
@@ -65,11 +68,6 @@ operator_word (row ∷ rows) text = if bytes_eq row.word text then word_of row.c
 abbrev pub own_word : List ℕ → Option Word
 own_word text = lookup (λ letters. bytes_eq letters text) own_words
 
--- the first, or else the second
-abbrev pub or_else : Option Word → Option Word → Option Word
-or_else (Some w) other = Some w
-or_else None other = other
-
 -- the reserved word with these letters, if there is one
 unfoldable pub reserved : List ℕ → Option Word
-reserved text = or_else (own_word text) (operator_word operators text)
+reserved text = option_or (own_word text) (operator_word operators text)

@@ -3,11 +3,11 @@
 ghost use Rattle.std.specs.Prelude.{List, ℕ};
 ghost use Rattle.kf_lex.specs.declared.token.Token.{Token};
 ghost use Rattle.std.specs.List.{All};
-ghost use Rattle.kf_lex.specs.Lexemes.{AreOperatorsReserved};
-ghost use Rattle.kf_lex.specs.Readings.{HasName, HasSpans, IsOneReading, IsTokens};
+ghost use Rattle.kf_lex.specs.Laws.{AreOperatorsReserved, HasName, HasSpans, IsOneReading};
+ghost use Rattle.kf_lex.specs.Readings.{IsTokens};
 
-/// A source has at most one list of tokens, at most one first fault, and never both. It does nothing
-/// when it runs.
+/// Every source has tokens or a first fault: one list of tokens at most, one first fault at most, and never
+/// both. It does nothing when it runs.
 pub fn one_reading()
     ensures { IsOneReading }
 {}

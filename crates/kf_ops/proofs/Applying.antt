@@ -4,14 +4,17 @@ use Rattle.std.specs.List.{All, AllByRecursion as Each}
 use Rattle.std.proofs.lemmas.List.{length-map}
 use Rattle.std.proofs.lemmas.List.Elements.{All-from_recursion, recursion_from_All}
 use Rattle.kf_value.specs.Kinds.{KindTree}
-use Rattle.kf_value.specs.Values.{ValueTree, IsWellFormed}
+use Rattle.kf_value.specs.Values.{ValueTree}
+use Rattle.kf_value.specs.Forms.{IsWellFormed}
 use Rattle.kf_value.specs.Views.{value_tree}
 use Rattle.kf_value.specs.declared.value.Value.{Value}
 use Rattle.kf_value.proofs.ListLemmas.{each_at}
 use Rattle.kf_ops.specs.Answers.{Answers}
-use Rattle.kf_ops.specs.Fitting.{EachFits, Fits, FitsRow, FitsWell, IsRow}
+use Rattle.kf_ops.specs.Fitting.{EachFits, Fits, FitsRow, FitsWell}
+use Rattle.kf_ops.specs.Places.{IsRow}
 use Rattle.kf_ops.specs.Laws.{KeepsKinds}
-use Rattle.kf_ops.specs.Rows.{Row, operators, row_of, rows_of}
+use Rattle.kf_ops.specs.Rows.{Row, operators}
+use Rattle.kf_ops.specs.Views.{row_of, rows_of}
 use Rattle.kf_ops.specs.Values.{Fault, applied}
 use Rattle.kf_ops.specs.declared.fault.OpFault.{OpFault}
 use Rattle.kf_ops.specs.declared.row.Op.{Op}
@@ -35,6 +38,12 @@ pub code_at : (table : List OpRow) (place : ℕ) (d : OpRow) → rows_of table �
 code_at table place d same within r here =
     let inside : place < length table = subst (λ n. place < n) (sym (ap length same) ∙ length-map table row_of) within in
     same_code r (row_of (get_or table place d)) (sym here ∙ (ap (λ rows. slice_get rows place) (sym same) ∙ read_row table place d inside))
+
+pub row_at : (table : List OpRow) (place number : ℕ) (d : OpRow) → rows_of table ≡ operators → place ≡ number → place < length operators
+    → IsRow number (row_of (get_or table place d))
+row_at table place number d same is within =
+    let inside : place < length table = subst (λ n. place < n) (sym (ap length same) ∙ length-map table row_of) within in
+    ap (slice_get operators) (sym is) ∙ (ap (λ rows. slice_get rows place) (sym same) ∙ read_row table place d inside)
 
 -- ---- fitting arguments
 

@@ -5,14 +5,15 @@ use Rattle.std.specs.Prelude.{if◌then◌else◌}
 use Rattle.std.specs.Ordering.{int_eq}
 use Rattle.std.specs.List.{AllByRecursion as Each, filter}
 use Rattle.std.specs.List.Sorted.{IsStrictlySortedBy}
-use Rattle.kf_value.specs.Kinds.{KindTree, HasKind, AllHaveKind}
-use Rattle.kf_value.specs.Values.{ValueTree, ValueTrees, Truth, Whole, Tuple, Set, no_value, more_values, parts, parts_list, order, IsWellFormed, EachWellFormed}
+use Rattle.kf_value.specs.Kinds.{KindTree}
+use Rattle.kf_value.specs.Forms.{HasKind, AllHaveKind, IsWellFormed, EachWellFormed}
+use Rattle.kf_value.specs.Values.{ValueTree, ValueTrees, Truth, Whole, Tuple, Set, no_value, more_values, parts, parts_list, order, elements, truth, whole}
 use Rattle.kf_value.proofs.Ascending.{formed_set}
 use Rattle.kf_value.proofs.ListLemmas.{each_weaker}
 use Rattle.kf_ops.specs.Rows.{operators}
 use Rattle.kf_ops.specs.Fitting.{EachFits, FitsWell}
 use Rattle.kf_ops.specs.Laws.{KeepsKinds}
-use Rattle.kf_ops.specs.Values.{applied, row_value, elements, either, narrow, is_i64, is_in, truth, whole, Fault, DivZero, ArithWide}
+use Rattle.kf_ops.specs.Values.{applied, row_value, either, narrow, is_i64, is_in, Fault, DivZero, ArithWide}
 use Rattle.kf_ops.specs.declared.row.Op.{Op}
 use Rattle.kf_ops.specs.declared.row.Op.TheVariants as op
 use Rattle.kf_ops.specs.declared.row.Pat.{Pat}

@@ -6,6 +6,7 @@ mod Keeping
 pub mod Mapped
 mod Merging
 mod Naming
+mod OperatorLaws
 mod Readings
 mod SetLaws
 mod Sound

@@ -4,10 +4,10 @@ use Rattle.std.specs.Prelude.{if◌then◌else◌}
 use Rattle.std.specs.Int.{int_rem_euclid}
 use Rattle.std.specs.Ordering.{int_eq}
 use Rattle.std.specs.List.{AllByRecursion as Each}
-use Rattle.kf_value.specs.Values.{ValueTree, Truth, Whole}
+use Rattle.kf_value.specs.Values.{ValueTree, Truth, Whole, whole}
 use Rattle.kf_ops.specs.Rows.{Row, operators}
 use Rattle.kf_ops.specs.Laws.{NamesFaults}
-use Rattle.kf_ops.specs.Values.{applied, row_value, is_i64, whole, Fault, DivZero, ArithWide}
+use Rattle.kf_ops.specs.Values.{applied, row_value, is_i64, Fault, DivZero, ArithWide}
 use Rattle.kf_ops.specs.declared.row.Op.{Op}
 
 -- the result is another than this fault

@@ -1,13 +1,13 @@
 -- What values of each form hold.
 use Rattle.std.proofs.Common.{◌≡◌, ap, ◌∙◌}
 use Rattle.std.specs.List.Sorted.{IsStrictlySortedBy}
-use Rattle.kf_value.specs.Values.{ValueTree, Truth, Whole, Tuple, Set, order, IsWellFormed}
+use Rattle.kf_value.specs.Values.{ValueTree, Truth, Whole, Tuple, Set, order, elements}
+use Rattle.kf_value.specs.Forms.{IsWellFormed}
 use Rattle.kf_value.proofs.Sorting.{sorted-nil}
 use Rattle.kf_value.specs.Views.{value_tree, value_trees}
 use Rattle.kf_value.specs.declared.value.Value.TheVariants as value
 use Rattle.kf_value.specs.declared.value.ValueList.{ValueList}
 use Rattle.kf_value.proofs.Trees.{constructors, parts_list-parts, value_tree-Set}
-use Rattle.kf_ops.specs.Values.{elements}
 
 pub elements-Set : (vs : ValueList) → elements (value_tree (value.Set vs)) ≡ value_trees vs
 elements-Set vs = ap elements (value_tree-Set vs) ∙ parts_list-parts (value_trees vs)

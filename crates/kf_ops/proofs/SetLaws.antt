@@ -7,11 +7,12 @@ use Rattle.std.specs.Ordering.{is_eq}
 use Rattle.std.specs.List.{AllByRecursion as Each, filter}
 use Rattle.std.specs.List.Sorted.{IsStrictlySortedBy}
 use Rattle.std.proofs.lemmas.Bool.{or_cases, or_left, or_right}
-use Rattle.kf_value.specs.Values.{ValueTree, order, IsIn}
+use Rattle.kf_value.specs.Values.{ValueTree, order, is_equal}
+use Rattle.kf_value.specs.Laws.{IsIn}
 use Rattle.kf_value.proofs.Orders.{order-itself, same}
 use Rattle.kf_value.proofs.Sorting.{sorted-cons, sorted-head, sorted-tail}
-use Rattle.kf_ops.specs.Laws.{MakesSets}
-use Rattle.kf_ops.specs.Values.{either, without, both, inserted, is_in, is_equal}
+use Rattle.kf_ops.specs.Laws.{IsSetOf}
+use Rattle.kf_ops.specs.Values.{either, without, both, inserted, is_in}
 use Rattle.kf_ops.proofs.Ascending.{Below, below_lower, turned_greater, each_inserted, placed}
 
 abbrev Ascends : List ValueTree → Type 0
@@ -110,11 +111,11 @@ in_either u (v ∷ vs) ws =
 no_both : (b : Bool) → b ≡ true → b ≡ false → ⊥
 no_both b h g = (cc)
 
-not_both : (b : Bool) → not b ≡ true → b ≡ true → ⊥
+pub not_both : (b : Bool) → not b ≡ true → b ≡ true → ⊥
 not_both true h t = (cc)
 not_both false h t = (cc)
 
-not_from : (b : Bool) → (b ≡ true → ⊥) → not b ≡ true
+pub not_from : (b : Bool) → (b ≡ true → ⊥) → not b ≡ true
 not_from true h = absurd (h refl)
 not_from false h = refl
 
@@ -136,10 +137,14 @@ module _ (test : ValueTree → Bool) (u : ValueTree) where
 
 -- ---- the laws
 
-pub union_law : MakesSets either (λ v vs ws. IsIn v vs ⊎ IsIn v ws)
+-- the operation makes a set of two sets, with exactly the elements of which the property holds
+abbrev pub SetsAre : (List ValueTree → List ValueTree → List ValueTree) → (ValueTree → List ValueTree → List ValueTree → Type 0) → Type 0
+SetsAre operation Has = (vs ws : List ValueTree) → Ascends vs → Ascends ws → IsSetOf (λ v. Has v vs ws) (operation vs ws)
+
+pub union_law : SetsAre either (λ v vs ws. IsIn v vs ⊎ IsIn v ws)
 union_law vs ws hv hw = record { ascends = sorted_either vs ws hw; has = λ u. in_either u vs ws }
 
-pub both_law : MakesSets both (λ v vs ws. IsIn v vs × IsIn v ws)
+pub both_law : SetsAre both (λ v vs ws. IsIn v vs × IsIn v ws)
 both_law vs ws hv hw = record {
   ascends = sorted_filter (λ v. is_in v ws) vs hv;
   has = λ u.
@@ -147,7 +152,7 @@ both_law vs ws hv hw = record {
       (λ h. ((chosen.0 h).0, (holds u ws).0 (chosen.0 h).1), λ h. chosen.1 (h.0, (holds u ws).1 h.1));
 }
 
-pub without_law : MakesSets without (λ v vs ws. IsIn v vs × (IsIn v ws → ⊥))
+pub without_law : SetsAre without (λ v vs ws. IsIn v vs × (IsIn v ws → ⊥))
 without_law vs ws hv hw = record {
   ascends = sorted_filter (λ v. not (is_in v ws)) vs hv;
   has = λ u.

@@ -9,7 +9,8 @@ use Rattle.std.proofs.lemmas.Map.Made.{IsDistinct-from_count, AllPairs-from_IsDi
 use Rattle.std.proofs.lemmas.Slice.Eq.{bytes_eq-Decides}
 use Rattle.std.proofs.lemmas.Cmp.{nat_list_eq_equiv, nat_eq_equiv, on_equiv}
 use Rattle.kf_ops.specs.Rows.{Row, operators}
-use Rattle.kf_ops.specs.Table.{HasArity, HasDistinctCodes, HasDistinctWords, HasLevel, HasRowAtNumber, codes_of, number_of, words_of}
+use Rattle.kf_ops.specs.Table.{HasArity, HasDistinctCodes, HasDistinctWords, HasLevel, HasRowAtNumber, codes_of, words_of}
+use Rattle.kf_ops.specs.Places.{number_of}
 use Rattle.kf_ops.specs.declared.row.Op.{Op}
 use Rattle.kf_ops.specs.declared.row.Op.TheVariants as op
 use Rattle.kf_ops.specs.declared.row.Pat.{Pat}

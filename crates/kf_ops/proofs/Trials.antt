@@ -9,7 +9,8 @@ use Rattle.kf_value.specs.declared.value.Value.TheVariants as value
 use Rattle.kf_value.specs.declared.value.ValueList.{ValueList}
 use Rattle.kf_value.proofs.Sorting.{sorted-nil, sorted-cons}
 use Rattle.kf_value.proofs.Trees.{value_tree-Bool, value_tree-Int, value_tree-Set, value_tree-Tuple}
-use Rattle.kf_ops.specs.Fitting.{EachFits, Fits, FitsRow, FitsWell, IsRow, TakesPatterns}
+use Rattle.kf_ops.specs.Fitting.{EachFits, Fits, FitsRow, FitsWell, TakesPatterns}
+use Rattle.kf_ops.specs.Places.{IsRow}
 use Rattle.kf_ops.specs.Rows.{Row, operators}
 use Rattle.kf_ops.specs.declared.fault.OpFault.{OpFault}
 use Rattle.kf_ops.specs.declared.row.Pat.{Pat}

@@ -1,4 +1,4 @@
--- What the program may answer where a value or a fault is defined.
+-- For bodies: what the program may answer where a value or a fault is defined.
 use Rattle.std.specs.Prelude.{◌≡◌, Bool, true, false, Result, Ok, Err}
 use Rattle.kf_value.specs.Values.{ValueTree}
 use Rattle.kf_value.specs.Views.{value_tree}

@@ -1,9 +1,11 @@
--- Which arguments an operator takes.
+-- For bodies: which arguments an operator takes.
 use Rattle.std.specs.Prelude.{◌≡◌, ℕ, Some, List, [], ◌∷◌, slice_get, take}
 use Rattle.std.specs.Option.{option_map}
-use Rattle.kf_value.specs.Kinds.{KindTree, TruthKind, WholeKind, SetKind, HasKind}
-use Rattle.kf_value.specs.Values.{ValueTree, IsWellFormed}
+use Rattle.kf_value.specs.Kinds.{KindTree, TruthKind, WholeKind, SetKind}
+use Rattle.kf_value.specs.Forms.{HasKind, IsWellFormed}
+use Rattle.kf_value.specs.Values.{ValueTree}
 use Rattle.kf_ops.specs.Rows.{Row, operators}
+use Rattle.kf_ops.specs.Places.{IsRow}
 use Rattle.kf_ops.specs.declared.row.Pat.{Pat}
 use Rattle.kf_ops.specs.declared.row.Pat.TheVariants as pat
 
@@ -28,10 +30,6 @@ EachFits k _ _ = ⊥
 -- the operator takes these arguments
 abbrev pub Fits : KindTree → Row → List ValueTree → Type 0
 Fits k row args = EachFits k (take row.arity row.args) args
-
--- the row stands at this place of the table
-abbrev pub IsRow : ℕ → Row → Type 0
-IsRow place row = slice_get operators place ≡ Some row
 
 -- the row at this place takes arguments of these patterns
 abbrev pub TakesPatterns : ℕ → List Pat → Type 0

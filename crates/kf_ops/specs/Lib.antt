@@ -1,7 +1,11 @@
+-- Believed
+pub mod Places
+pub mod Rows
+pub mod Values
+-- For bodies
 pub mod Answers
 pub mod Fitting
 pub mod Laws
 pub mod Merging
-pub mod Rows
 pub mod Table
-pub mod Values
+pub mod Views

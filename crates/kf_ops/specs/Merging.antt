@@ -1,4 +1,4 @@
--- What one pass over two ascending lists makes.
+-- For bodies: what one pass over two ascending lists makes.
 use Rattle.std.specs.Prelude.{◌≡◌, Bool, true, List, [], ◌∷◌}
 use Rattle.std.specs.declared.cmp.Ordering.{Ordering}
 use Rattle.std.specs.declared.cmp.Ordering.TheVariants.{Less, Equal, Greater}

@@ -1,8 +1,7 @@
--- The operators: the rows of the table as they read.
-use Rattle.std.specs.Prelude.{ℕ, Bool, true, false, List, [], ◌∷◌, map, codes}
+-- Believed: the operators, row by row.
+use Rattle.std.specs.Prelude.{ℕ, Bool, true, false, List, [], ◌∷◌, codes}
 use Rattle.kf_ops.specs.declared.row.Op.{Op}
 use Rattle.kf_ops.specs.declared.row.Op.TheVariants as op
-use Rattle.kf_ops.specs.declared.row.OpRow.{OpRow}
 use Rattle.kf_ops.specs.declared.row.Pat.{Pat}
 use Rattle.kf_ops.specs.declared.row.Pat.TheVariants as pat
 
@@ -16,23 +15,6 @@ pub record Row : Type 0 where
   pub code : Op
   pub div_zero : Bool
   pub wide : Bool
-
--- a row of the code as it reads
-abbrev pub row_of : OpRow → Row
-row_of r = record {
-  word = r.word.now;
-  level = r.level;
-  arity = r.arity;
-  args = r.args;
-  result = r.result;
-  code = r.code;
-  div_zero = r.div_zero;
-  wide = r.wide;
-}
-
--- the same of a whole table
-abbrev pub rows_of : List OpRow → List Row
-rows_of table = map row_of table
 
 -- an operator of one argument that has no faults
 abbrev pub unary : List ℕ → ℕ → Pat → Pat → Op → Row

@@ -1,10 +1,10 @@
--- The row of a word, and what a sound table is.
+-- For bodies: the row of a word, and what a sound table is.
 use Rattle.std.specs.Prelude.{◌≡◌, ◌≢◌, ◌<◌, ◌≤◌, ℕ, Bool, slice_get, List, Option, Some, None, length, map, take, drop}
 use Rattle.std.specs.List.{All, AllPairs, AllWithin, HoldsAt}
 use Rattle.std.specs.Str.{bytes_eq}
 use Rattle.kf_ops.specs.Rows.{Row}
+use Rattle.kf_ops.specs.Places.{number_of}
 use Rattle.kf_ops.specs.declared.row.Op.{Op}
-use Rattle.kf_ops.specs.declared.row.Op.TheVariants as op
 use Rattle.kf_ops.specs.declared.row.Pat.TheVariants as pat
 
 -- this row has this word
@@ -51,30 +51,6 @@ pub record HasArity (row : Row) : Type 0 where
   pub within : row.arity ≤ length row.args
   pub taken : All (λ arg. arg ≢ pat.Nothing) (take row.arity row.args)
   pub rest : All (λ arg. arg ≡ pat.Nothing) (drop row.arity row.args)
-
--- the number of an operator, counted from 0
-abbrev pub number_of : Op → ℕ
-number_of op.Or = 0
-number_of op.And = 1
-number_of op.Not = 2
-number_of op.Equal = 3
-number_of op.NotEqual = 4
-number_of op.Less = 5
-number_of op.AtMost = 6
-number_of op.Greater = 7
-number_of op.AtLeast = 8
-number_of op.Elem = 9
-number_of op.Add = 10
-number_of op.Subtract = 11
-number_of op.Union = 12
-number_of op.Without = 13
-number_of op.Multiply = 14
-number_of op.Div = 15
-number_of op.Mod = 16
-number_of op.Inter = 17
-number_of op.Negate = 18
-number_of op.Size = 19
-number_of op.Cond = 20
 
 -- the row of each operator stands at the operator's number
 abbrev pub HasRowAtNumber : List Row → Type 0

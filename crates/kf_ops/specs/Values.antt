@@ -1,9 +1,9 @@
--- What each operator gives at its arguments.
+-- Believed: what each operator gives at its arguments.
 use Rattle.std.specs.Prelude.{ℤ, pos, negsuc, ◌+ℤ◌, ◌-ℤ◌, ◌*ℤ◌, ◌^◌, neg_ℤ, int_lt, int_le, nat_lt, Bool, false, not, ◌&&◌, ◌||◌, if◌then◌else◌, List, [], ◌∷◌, length, Result, Ok, Err}
 use Rattle.std.specs.Int.{int_div_euclid, int_rem_euclid}
 use Rattle.std.specs.List.{filter, list_any}
-use Rattle.std.specs.Ordering.{int_eq, is_eq, match_ordering}
-use Rattle.kf_value.specs.Values.{ValueTree, Truth, Whole, Set, parts, parts_list, order}
+use Rattle.std.specs.Ordering.{int_eq, match_ordering}
+use Rattle.kf_value.specs.Values.{ValueTree, Truth, Whole, Set, parts, order, truth, whole, elements, is_equal}
 use Rattle.kf_ops.specs.declared.row.Op.{Op}
 use Rattle.kf_ops.specs.declared.row.Op.TheVariants as op
 
@@ -11,23 +11,6 @@ use Rattle.kf_ops.specs.declared.row.Op.TheVariants as op
 pub data Fault : Type 0 where
   DivZero : Fault
   ArithWide : Fault
-
--- what a value of each form holds; at another form, which no row takes there, `false`, 0 and no element
-abbrev pub truth : ValueTree → Bool
-truth (Truth b) = b
-truth _ = false
-
-abbrev pub whole : ValueTree → ℤ
-whole (Whole i) = i
-whole _ = pos 0
-
-abbrev pub elements : ValueTree → List ValueTree
-elements (Set vs) = parts_list vs
-elements _ = []
-
--- neither value comes before the other in the order of values
-abbrev pub is_equal : ValueTree → ValueTree → Bool
-is_equal v w = is_eq (order v w)
 
 -- the value is one of the list
 abbrev pub is_in : ValueTree → List ValueTree → Bool

@@ -2,7 +2,7 @@
 
 ghost use Rattle.std.specs.Prelude.{◌≡◌, map};
 ghost use Rattle.kf_value.specs.Views.{value_tree};
-ghost use Rattle.kf_ops.specs.Values.{truth as truth_in, whole as whole_in, elements as elements_in};
+ghost use Rattle.kf_value.specs.Values.{truth as truth_in, whole as whole_in, elements as elements_in};
 
 use kf_value::Value;
 

@@ -1,23 +1,40 @@
-ghost use Rattle.std.specs.Prelude.{◌≡◌};
+ghost use Rattle.std.specs.Prelude.{◌≡◌, ◌<◌, length};
 ghost use Rattle.std.specs.List.{All};
-ghost use Rattle.kf_ops.specs.Rows.{operators, rows_of};
+ghost use Rattle.kf_ops.specs.Places.{IsRow, number_of};
+ghost use Rattle.kf_ops.specs.Rows.{operators as operator_rows};
+ghost use Rattle.kf_ops.specs.Views.{row_of, rows_of};
 ghost use Rattle.kf_ops.specs.Table.{HasArity, HasDistinctCodes, HasDistinctWords, HasLevel, HasRowAtNumber};
 
-use crate::row::OpRow;
+use crate::row::{Op, OpRow};
 use crate::table::OPS;
 
 /// The table by value, for a caller whose contract speaks of its rows: in a body, one call in place of 21 rows written out.
 pub fn operators() -> [OpRow; 21]
-    ensures { rows_of result ≡ operators }
+    ensures { rows_of result ≡ operator_rows }
 {
     OPS
 }
 
+/// The row of one operator.
+pub fn operator_row(code: Op) -> OpRow
+    ensures { IsRow (number_of code) (row_of result) }
+{
+    operators()[place_of(code)]
+}
+
+// Where the operator's row stands, counted from 0.
+fn place_of(code: Op) -> usize
+    ensures exact { result ≡ number_of code }
+    ensures within { result < length operator_rows }
+{
+    code as usize
+}
+
 /// What holds of the operators. It does nothing when it runs.
 pub fn table_facts()
-    ensures words { HasDistinctWords operators }
-    ensures levels { All HasLevel operators }
-    ensures arities { All HasArity operators }
-    ensures codes { HasDistinctCodes operators }
-    ensures rows { HasRowAtNumber operators }
+    ensures words { HasDistinctWords operator_rows }
+    ensures levels { All HasLevel operator_rows }
+    ensures arities { All HasArity operator_rows }
+    ensures codes { HasDistinctCodes operator_rows }
+    ensures rows { HasRowAtNumber operator_rows }
 {}

@@ -11,12 +11,11 @@ mod sets;
 mod table;
 mod values;
 
-pub use facts::{operators, table_facts};
+pub use facts::{operator_row, operators, table_facts};
 pub use fault::OpFault;
 pub use laws::row_laws;
 pub use lookup::find;
 pub use row::{Op, OpRow, Pat};
-pub use table::OPS;
 pub use values::apply;
 
 #[cfg(test)]

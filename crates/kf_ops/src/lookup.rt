@@ -1,6 +1,6 @@
 ghost use Rattle.std.specs.Prelude.{◌≡◌, position};
 ghost use Rattle.std.specs.Str.{bytes_eq};
-ghost use Rattle.kf_ops.specs.Rows.{rows_of};
+ghost use Rattle.kf_ops.specs.Views.{rows_of};
 ghost use Rattle.kf_ops.specs.Table.{has_word, IsPlaceOf};
 
 use crate::row::OpRow;

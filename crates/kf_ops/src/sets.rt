@@ -2,9 +2,10 @@
 
 ghost use Rattle.std.specs.Prelude.{◌≡◌, ◌++◌, ◌∷◌, [], map, if◌then◌else◌, IfOk, OnOk, MatchOption};
 ghost use Rattle.std.specs.List.Sorted.{IsStrictlySortedBy};
-ghost use Rattle.kf_value.specs.Values.{order, IsWellFormed};
+ghost use Rattle.kf_value.specs.Values.{order, elements as elements_in};
+ghost use Rattle.kf_value.specs.Forms.{IsWellFormed};
 ghost use Rattle.kf_value.specs.Views.{value_tree, value_trees};
-ghost use Rattle.kf_ops.specs.Values.{is_in, elements as elements_in};
+ghost use Rattle.kf_ops.specs.Values.{is_in};
 ghost use Rattle.kf_ops.specs.Merging.{IsNext, is_kept, kept_of};
 
 use crate::arguments::elements;

@@ -1,7 +1,7 @@
 use crate::row::{Op, OpRow, Pat};
 
 /// The operators. A row's place is its number, counted from 0.
-pub const OPS: [OpRow; 21] = [
+pub(crate) const OPS: [OpRow; 21] = [
     OpRow {
         word: "or",
         level: 1,

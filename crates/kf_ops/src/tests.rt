@@ -90,3 +90,10 @@ fn has_the_rows(rt: HostRuntime) {
         is_line(&rt, rows[place], LINES[place]);
     }
 }
+
+#[test]
+fn has_the_row_of_each_operator(rt: HostRuntime) {
+    assert_eq!(rt; operator_row(Op::Or).word, "or");
+    assert_eq!(rt; operator_row(Op::Subtract).level, 5);
+    assert_eq!(rt; operator_row(Op::Cond).arity, 3);
+}

@@ -4,9 +4,11 @@ ghost use Rattle.std.specs.Prelude.{◌≡◌, ◌≢◌, ◌<◌, ◌≤◌, tr
 ghost use Rattle.std.specs.List.{All};
 ghost use Rattle.kf_value.specs.Kinds.{KindTree};
 ghost use Rattle.kf_ops.specs.Rows.{Row, operators as operator_rows};
-ghost use Rattle.kf_ops.specs.Fitting.{Fits, FitsRow, FitsWell, IsRow};
+ghost use Rattle.kf_ops.specs.Fitting.{Fits, FitsRow, FitsWell};
+ghost use Rattle.kf_ops.specs.Places.{IsRow};
 ghost use Rattle.std.specs.Int.{int_div_euclid, int_rem_euclid};
-ghost use Rattle.kf_value.specs.Values.{IsWellFormed, Whole};
+ghost use Rattle.kf_value.specs.Values.{Whole};
+ghost use Rattle.kf_value.specs.Forms.{IsWellFormed};
 ghost use Rattle.kf_value.specs.Views.{value_tree};
 ghost use Rattle.kf_ops.specs.Answers.{Answers, may_want_memory};
 ghost use Rattle.kf_ops.specs.declared.fault.OpFault.TheVariants as fault;

@@ -19,7 +19,7 @@ use Rattle.kf_parse.specs.Grammar as g
 use Rattle.kf_parse.specs.Grammar.{Parts, E, Chain, Operand, Others, TypeOf, OtherTypes, Case, OtherCases, Dist}
 use Rattle.kf_parse.specs.Programs as p
 use Rattle.kf_parse.specs.Programs.{Statement, Block, Statements, Declaration, Declarations}
-use Rattle.kf_parse.specs.Answers.{OnlyBuilt}
+use Rattle.kf_parse.specs.Laws.{OnlyBuilt}
 
 -- ---- operators
 

@@ -38,7 +38,7 @@ shallow_more ts o low here front rest e = elim (one_more ts o front rest e) [
   | inr (back, begun) ↦ low front back begun
 ]
 
-abbrev Tells : Option ℕ → List Token → Type 0
+abbrev pub Tells : Option ℕ → List Token → Type 0
 Tells found ts = MatchOption found (IsShallow ts) (λ at. IsDeep ts at)
 
 tells : (front rest : List Token) (c : Open) → open_after (open_brackets 0) front ≡ c → IsShallow front → Tells (deep_from c rest) (front ++ rest)
@@ -53,7 +53,7 @@ tells front (o ∷ rest) c e low = by_test (nat_lt 64 (stand (opened c o.kind)))
     by_test true many ih = record { front = front; token = o; rest = rest; whole = refl; before = low; above = rw now (let h : 64 < stand (opened c o.kind) = grind arith in h); stands = refl }
     by_test false few ih = ih (grind arith)
 
-told : (ts : List Token) (found : Option ℕ) → deep_from (open_brackets 0) ts ≡ found → Tells found ts
+pub told : (ts : List Token) (found : Option ℕ) → deep_from (open_brackets 0) ts ≡ found → Tells found ts
 told ts found e = let P : Option ℕ → Type 0 = λ v. Tells v ts in subst P e (tells [] ts (open_brackets 0) refl shallow_none)
 
 -- the token at which a loop stops, by what is left from it on

@@ -6,7 +6,7 @@ use Rattle.kf_ast.specs.Sources.{DeclTree, declared, ItemTree, item, SourceTree,
 use Rattle.kf_parse.specs.Grammar.{named}
 use Rattle.kf_parse.specs.Programs as g
 use Rattle.kf_parse.specs.Programs.{Statement, Block, Statements, Declaration, Declarations, Item, OtherItems, Target, IsProgram}
-use Rattle.kf_parse.specs.Answers.{KindsAlone}
+use Rattle.kf_parse.specs.Laws.{KindsAlone}
 use Rattle.kf_parse.proofs.KindsSame.{Same, none_same, more_same, same_of, split, pieces, last, last_of_two, Made, kind_of}
 use Rattle.kf_parse.proofs.KindsExprs.{same_type, same_dist}
 

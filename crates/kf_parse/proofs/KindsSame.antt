@@ -2,7 +2,7 @@
 use Rattle.std.proofs.Common.{◌≡◌, List, [], ◌∷◌, ◌++◌, refl, sym, ◌∙◌, ap, subst}
 use Rattle.kf_lex.specs.declared.token.Token.{Token}
 use Rattle.kf_lex.specs.declared.token.Tok.{Tok}
-use Rattle.kf_parse.specs.Answers.{kinds}
+use Rattle.kf_parse.specs.Laws.{kinds}
 
 pub data Same : List Token → List Token → Type 0 where
   none_same : Same [] []

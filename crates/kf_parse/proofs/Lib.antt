@@ -5,6 +5,9 @@ mod TrimTrees
 mod TrimLong
 mod FirstDeep
 mod OneCause
+mod EitherWay
+mod Closing
+mod Places
 mod TakesTurns
 mod TakesSteps
 mod Takes

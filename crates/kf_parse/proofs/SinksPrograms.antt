@@ -213,7 +213,7 @@ module _ (B : Builder) (src : List ℕ) where
       expect_balanced 0 0 d (is (t.Sign s.Semi)) _ (λ e he. last 0 d e xs (is_same (t.Sign s.Semi) e.kind he) (λ n. refl))))))
       (pure_balanced d [])
 
-  program_balanced : (d : ℕ) → Balanced 0 0 d (r.program B src d)
+  pub program_balanced : (d : ℕ) → Balanced 0 0 d (r.program B src d)
   unfolding r.program
   program_balanced d =
       then_balanced 0 0 d (r.declarations B src d) _ (declarations_balanced d) (λ ds.

@@ -6,7 +6,7 @@ use Rattle.std.proofs.lemmas.Str.{IsUtf8-from_is_utf8, is_utf8-from_IsUtf8}
 use Rattle.std.specs.Prelude.{IsUtf8, true}
 use Rattle.kf_lex.specs.declared.token.Token.{Token}
 use Rattle.kf_lex.specs.declared.token.Tok.TheVariants as t
-use Rattle.kf_lex.specs.Readings.{HasName, HasSpans}
+use Rattle.kf_lex.specs.Laws.{HasName, HasSpans}
 use Rattle.kf_parse.specs.Reads.{IsSpelled}
 use Rattle.kf_parse.specs.Tokens.{is}
 use Rattle.kf_parse.proofs.ToldTokens.{is_same}

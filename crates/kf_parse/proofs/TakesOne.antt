@@ -1,7 +1,7 @@
 -- Tokens are those of one program at most.
 use Rattle.std.proofs.Common.{◌≡◌, ◌+◌, [], sym, ◌∙◌, arith}
 use Rattle.kf_parse.specs.Outcomes.{got}
-use Rattle.kf_parse.specs.Answers.{OneProgram}
+use Rattle.kf_parse.specs.Laws.{OneProgram}
 use Rattle.kf_parse.proofs.TakesPrograms.{program_takes}
 
 pub one_program : OneProgram

@@ -1,6 +1,7 @@
 -- What is kept of an expression, and that it is what the trimming builder makes.
 use Rattle.std.proofs.Common.{◌≡◌, ℕ, ◌+◌, ◌≤◌, ◌<◌, nat_le, if◌then◌else◌, Bool, true, false, List, [], ◌∷◌, ◌++◌, refl, ◌∙◌, ap, Some, None, ◌⊎◌, inl, inr, arith}
-use Rattle.kf_ast.specs.Names.{NameTree, name_place}
+use Rattle.kf_ast.specs.Names.{NameTree}
+use Rattle.kf_ast.specs.Views.{name_place}
 use Rattle.kf_ast.specs.Exprs.{ExprTree, ExprShape, expr_at, Number, Truth, Name, Apply, Part, exprs, place, placed}
 use Rattle.kf_parse.specs.Sizes.{nodes, shape_nodes, all_nodes}
 use Rattle.kf_parse.specs.Trimmed.{Cut, Cuts, capped, kept_to, shaped, leaf, node_over, moved_to, listed, pushed_to, one_cut, push_cut}

@@ -1,4 +1,4 @@
--- Which tokens begin a statement.
+-- For bodies: which tokens begin a statement.
 use Rattle.std.specs.Prelude.{Bool, true, false, List, [], ◌∷◌}
 use Rattle.kf_lex.specs.declared.token.Token.{Token}
 use Rattle.kf_lex.specs.declared.token.Tok.{Tok}

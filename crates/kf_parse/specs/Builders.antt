@@ -1,4 +1,4 @@
--- What reading builds its trees from.
+-- For bodies: what reading builds its trees from.
 use Rattle.std.specs.Prelude.{ℕ, Bool, List}
 use Rattle.kf_ast.specs.Names.{NameTree}
 use Rattle.kf_ast.specs.TypeForms.{TypeForm}

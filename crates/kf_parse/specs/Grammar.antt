@@ -1,4 +1,5 @@
--- The grammar of expressions, types and distributions: which tokens make which tree, by cases.
+-- Believed: the grammar of expressions, types and distributions: which tokens make which tree, by cases. The premises of a rule stand in
+-- the order of its tokens, and then how they are put together.
 use Rattle.std.specs.Prelude.{◌≡◌, ℕ, suc, ℤ, pos, neg_ℤ, true, false, Some, List, [], ◌∷◌, ◌++◌, length, slice_range}
 use Rattle.kf_lex.specs.declared.token.Token.{Token}
 use Rattle.kf_lex.specs.declared.token.Tok.TheVariants as t
@@ -54,42 +55,54 @@ part_of x k = expr_at (place x) (Part x k)
 -- numbers of parts behind an expression
 pub data Parts : ExprTree → List Token → ExprTree → Type 0 where
   no_part : {x : ExprTree} → Parts x [] x
-  part : {a ts : List Token} (d n : Token) {k : ℕ} {x y : ExprTree} → Parts x a y → IsSign s.Dot d → IsNumber k n → ts ≡ a ++ d ∷ n ∷ [] → Parts x ts (part_of y k)
+  part : {a ts : List Token} (d n : Token) {k : ℕ} {x y : ExprTree}
+      → Parts x a y → IsSign s.Dot d → IsNumber k n → ts ≡ a ++ d ∷ n ∷ [] → Parts x ts (part_of y k)
 
 mutual
   -- an expression of a level from 1 to 8
   pub data E (src : List ℕ) : ℕ → List Token → ExprTree → Type 0 where
     -- an operand of the next level, and operators of this level after it
-    chain : {l : ℕ} {a b ts : List Token} {x z : ExprTree} → (l ≡ 4 → ⊥) → E src (suc l) a x → Chain src l x b z → ts ≡ a ++ b → E src l ts z
+    chain : {l : ℕ} {a b ts : List Token} {x z : ExprTree} → (l ≡ 4 → ⊥)
+        → E src (suc l) a x → Chain src l x b z → ts ≡ a ++ b → E src l ts z
     -- a comparison doesn't go on
     alone : {ts : List Token} {x : ExprTree} → E src 5 ts x → E src 4 ts x
-    compare : {a b ts : List Token} (o : Token) (op : Op) {x y : ExprTree} → E src 5 a x → IsInfix 4 op o → E src 5 b y → ts ≡ a ++ o ∷ b → E src 4 ts (joined op x y)
-    prefix : {l : ℕ} {ts : List Token} (o : Token) (op : Op) {x : ExprTree} → IsPrefix l op o → E src (suc l) ts x → E src l (o ∷ ts) (prefixed o op x)
+    compare : {a b ts : List Token} (o : Token) (op : Op) {x y : ExprTree}
+        → E src 5 a x → IsInfix 4 op o → E src 5 b y → ts ≡ a ++ o ∷ b → E src 4 ts (joined op x y)
+    prefix : {l : ℕ} {ts : List Token} (o : Token) (op : Op) {x : ExprTree}
+        → IsPrefix l op o → E src (suc l) ts x → E src l (o ∷ ts) (prefixed o op x)
     -- an operand, and parts of it
     parts : {a b ts : List Token} {x z : ExprTree} → Operand src a x → Parts x b z → ts ≡ a ++ b → E src 8 ts z
 
   -- operators of a level with their right sides, which group to the left behind an expression
   pub data Chain (src : List ℕ) : ℕ → ExprTree → List Token → ExprTree → Type 0 where
     unchained : {l : ℕ} {x : ExprTree} → Chain src l x [] x
-    chained : {l : ℕ} {a b ts : List Token} (o : Token) (op : Op) {x y z : ExprTree} → Chain src l x a y → IsInfix l op o → E src (suc l) b z → ts ≡ a ++ o ∷ b → Chain src l x ts (joined op y z)
+    chained : {l : ℕ} {a b ts : List Token} (o : Token) (op : Op) {x y z : ExprTree}
+        → Chain src l x a y → IsInfix l op o → E src (suc l) b z → ts ≡ a ++ o ∷ b → Chain src l x ts (joined op y z)
 
   pub data Operand (src : List ℕ) : List Token → ExprTree → Type 0 where
     number : (n : Token) {k : ℕ} → IsNumber k n → Operand src (n ∷ []) (expr_at n.start (Number k))
     truth : (o : Token) → IsWord w.TrueWord o → Operand src (o ∷ []) (expr_at o.start (Truth true))
     untruth : (o : Token) → IsWord w.FalseWord o → Operand src (o ∷ []) (expr_at o.start (Truth false))
     variable : (n : Token) → IsName n → Operand src (n ∷ []) (expr_at n.start (Name (named src n)))
-    parens : {a ts : List Token} (p q : Token) {x : ExprTree} → IsSign s.ParenOpen p → E src 1 a x → IsSign s.ParenClose q → ts ≡ a ++ q ∷ [] → Operand src (p ∷ ts) (placed p.start x)
-    tuple : {a b d ts : List Token} (p c q : Token) {x y : ExprTree} {xs : List ExprTree} → IsSign s.ParenOpen p → E src 1 a x → IsSign s.Comma c → E src 1 b y → Others src (x ∷ y ∷ []) d xs → IsSign s.ParenClose q
+    parens : {a ts : List Token} (p q : Token) {x : ExprTree}
+        → IsSign s.ParenOpen p → E src 1 a x → IsSign s.ParenClose q
+        → ts ≡ a ++ q ∷ [] → Operand src (p ∷ ts) (placed p.start x)
+    tuple : {a b d ts : List Token} (p c q : Token) {x y : ExprTree} {xs : List ExprTree}
+        → IsSign s.ParenOpen p → E src 1 a x → IsSign s.Comma c → E src 1 b y → Others src (x ∷ y ∷ []) d xs → IsSign s.ParenClose q
         → ts ≡ a ++ c ∷ (b ++ (d ++ q ∷ [])) → Operand src (p ∷ ts) (expr_at p.start (Tuple (exprs xs)))
-    set : {a b ts : List Token} (p q : Token) {x : ExprTree} {xs : List ExprTree} → IsSign s.BraceOpen p → E src 1 a x → Others src (x ∷ []) b xs → IsSign s.BraceClose q
+    set : {a b ts : List Token} (p q : Token) {x : ExprTree} {xs : List ExprTree}
+        → IsSign s.BraceOpen p → E src 1 a x → Others src (x ∷ []) b xs → IsSign s.BraceClose q
         → ts ≡ a ++ (b ++ q ∷ []) → Operand src (p ∷ ts) (expr_at p.start (SetOf (exprs xs)))
-    call : {a b ts : List Token} (f p q : Token) {arity : ℕ} (op : Op) {x : ExprTree} {xs : List ExprTree} → IsCalled arity op f → IsSign s.ParenOpen p → E src 1 a x → Others src (x ∷ []) b xs → length xs ≡ arity → IsSign s.ParenClose q
+    call : {a b ts : List Token} (f p q : Token) {arity : ℕ} (op : Op) {x : ExprTree} {xs : List ExprTree}
+        → IsCalled arity op f → IsSign s.ParenOpen p
+        → E src 1 a x → Others src (x ∷ []) b xs → length xs ≡ arity → IsSign s.ParenClose q
         → ts ≡ a ++ (b ++ q ∷ []) → Operand src (f ∷ p ∷ ts) (expr_at f.start (Apply (row_of op) (exprs xs)))
 
   -- expressions, each behind a comma, that go on with a list
   pub data Others (src : List ℕ) : List ExprTree → List Token → List ExprTree → Type 0 where
     no_other : {xs : List ExprTree} → Others src xs [] xs
-    other : {a b ts : List Token} (c : Token) {xs ys : List ExprTree} {y : ExprTree} → Others src xs a ys → IsSign s.Comma c → E src 1 b y → ts ≡ a ++ c ∷ b → Others src xs ts (ys ++ y ∷ [])
+    other : {a b ts : List Token} (c : Token) {xs ys : List ExprTree} {y : ExprTree}
+        → Others src xs a ys → IsSign s.Comma c → E src 1 b y → ts ≡ a ++ c ∷ b → Others src xs ts (ys ++ y ∷ [])
 
 -- a whole number and its place
 pub data Whole : List Token → ℕ → ℤ → Type 0 where
@@ -99,29 +112,41 @@ pub data Whole : List Token → ℕ → ℤ → Type 0 where
 mutual
   pub data TypeOf : List Token → TypeForm → Type 0 where
     boolean : (b : Token) → IsWord w.BoolWord b → TypeOf (b ∷ []) (type_at b.start Boolean)
-    range : {a b ts : List Token} (r : Token) {at at' : ℕ} {lo hi : ℤ} → Whole a at lo → IsSign s.Range r → Whole b at' hi → ts ≡ a ++ r ∷ b → TypeOf ts (type_at at (Range lo hi))
-    tuple_type : {a b d ts : List Token} (p c q : Token) {x y : TypeForm} {xs : List TypeForm} → IsSign s.ParenOpen p → TypeOf a x → IsSign s.Comma c → TypeOf b y → OtherTypes (x ∷ y ∷ []) d xs → IsSign s.ParenClose q
+    range : {a b ts : List Token} (r : Token) {at at' : ℕ} {lo hi : ℤ}
+        → Whole a at lo → IsSign s.Range r → Whole b at' hi → ts ≡ a ++ r ∷ b → TypeOf ts (type_at at (Range lo hi))
+    tuple_type : {a b d ts : List Token} (p c q : Token) {x y : TypeForm} {xs : List TypeForm}
+        → IsSign s.ParenOpen p → TypeOf a x → IsSign s.Comma c → TypeOf b y → OtherTypes (x ∷ y ∷ []) d xs → IsSign s.ParenClose q
         → ts ≡ a ++ c ∷ (b ++ (d ++ q ∷ [])) → TypeOf (p ∷ ts) (type_at p.start (TupleOf (types xs)))
-    set_type : {ts : List Token} (o f : Token) {x : TypeForm} → IsWord w.SetWord o → IsWord w.OfWord f → TypeOf ts x → TypeOf (o ∷ f ∷ ts) (type_at o.start (of_type.SetOf x))
+    set_type : {ts : List Token} (o f : Token) {x : TypeForm}
+        → IsWord w.SetWord o → IsWord w.OfWord f → TypeOf ts x → TypeOf (o ∷ f ∷ ts) (type_at o.start (of_type.SetOf x))
 
   -- types, each behind a comma, that go on with a list
   pub data OtherTypes : List TypeForm → List Token → List TypeForm → Type 0 where
     no_other_type : {xs : List TypeForm} → OtherTypes xs [] xs
-    other_type : {a b ts : List Token} (c : Token) {xs ys : List TypeForm} {y : TypeForm} → OtherTypes xs a ys → IsSign s.Comma c → TypeOf b y → ts ≡ a ++ c ∷ b → OtherTypes xs ts (ys ++ y ∷ [])
+    other_type : {a b ts : List Token} (c : Token) {xs ys : List TypeForm} {y : TypeForm}
+        → OtherTypes xs a ys → IsSign s.Comma c → TypeOf b y → ts ≡ a ++ c ∷ b → OtherTypes xs ts (ys ++ y ∷ [])
 
 -- a value and its weight
 pub data Case (src : List ℕ) : List Token → CaseTree → Type 0 where
-  weighted : {a b ts : List Token} (c : Token) {x y : ExprTree} → E src 1 a x → IsSign s.Colon c → E src 1 b y → ts ≡ a ++ c ∷ b → Case src ts (case_of x y)
+  weighted : {a b ts : List Token} (c : Token) {x y : ExprTree}
+      → E src 1 a x → IsSign s.Colon c → E src 1 b y → ts ≡ a ++ c ∷ b → Case src ts (case_of x y)
 
 -- cases, each behind a comma, that go on with a list
 pub data OtherCases (src : List ℕ) : List CaseTree → List Token → List CaseTree → Type 0 where
   no_other_case : {xs : List CaseTree} → OtherCases src xs [] xs
-  other_case : {a b ts : List Token} (c : Token) {xs ys : List CaseTree} {y : CaseTree} → OtherCases src xs a ys → IsSign s.Comma c → Case src b y → ts ≡ a ++ c ∷ b → OtherCases src xs ts (ys ++ y ∷ [])
+  other_case : {a b ts : List Token} (c : Token) {xs ys : List CaseTree} {y : CaseTree}
+      → OtherCases src xs a ys → IsSign s.Comma c → Case src b y → ts ≡ a ++ c ∷ b → OtherCases src xs ts (ys ++ y ∷ [])
 
 pub data Dist (src : List ℕ) : List Token → DistTree → Type 0 where
   sure : {ts : List Token} {x : ExprTree} → E src 1 ts x → Dist src ts (dist_at (place x) (Sure x))
-  uniform_set : {ts : List Token} (u : Token) {x : ExprTree} → IsWord w.UniformWord u → E src 1 ts x → Dist src (u ∷ ts) (dist_at u.start (UniformSet x))
-  uniform_range : {a b ts : List Token} (u r : Token) {x y : ExprTree} → IsWord w.UniformWord u → E src 1 a x → IsSign s.Range r → E src 1 b y → ts ≡ a ++ r ∷ b → Dist src (u ∷ ts) (dist_at u.start (UniformRange x y))
-  choose : {a b ts : List Token} (c p q : Token) {x : CaseTree} {xs : List CaseTree} → IsWord w.ChooseWord c → IsSign s.BraceOpen p → Case src a x → OtherCases src (x ∷ []) b xs → IsSign s.BraceClose q
+  uniform_set : {ts : List Token} (u : Token) {x : ExprTree}
+      → IsWord w.UniformWord u → E src 1 ts x → Dist src (u ∷ ts) (dist_at u.start (UniformSet x))
+  uniform_range : {a b ts : List Token} (u r : Token) {x y : ExprTree}
+      → IsWord w.UniformWord u → E src 1 a x → IsSign s.Range r → E src 1 b y
+      → ts ≡ a ++ r ∷ b → Dist src (u ∷ ts) (dist_at u.start (UniformRange x y))
+  choose : {a b ts : List Token} (c p q : Token) {x : CaseTree} {xs : List CaseTree}
+      → IsWord w.ChooseWord c → IsSign s.BraceOpen p → Case src a x → OtherCases src (x ∷ []) b xs → IsSign s.BraceClose q
       → ts ≡ a ++ (b ++ q ∷ []) → Dist src (c ∷ p ∷ ts) (dist_at c.start (Choose xs))
-  flip : (f n d m : Token) {j k : ℕ} → IsWord w.FlipWord f → IsNumber j n → IsSign s.Slash d → IsNumber k m → Dist src (f ∷ n ∷ d ∷ m ∷ []) (dist_at f.start (Flip j k))
+  flip : (f n d m : Token) {j k : ℕ}
+      → IsWord w.FlipWord f → IsNumber j n → IsSign s.Slash d → IsNumber k m
+      → Dist src (f ∷ n ∷ d ∷ m ∷ []) (dist_at f.start (Flip j k))

@@ -1,17 +1,19 @@
+-- Believed
 pub mod Operators
 pub mod Grammar
 pub mod Programs
 pub mod Depth
 pub mod Sizes
+pub mod Answers
+-- For bodies
+pub mod Laws
+pub mod OperatorTokens
 pub mod Tokens
 pub mod Outcomes
 pub mod Builders
 pub mod Reading
 pub mod Plain
 pub mod Trimmed
-pub mod Answers
 pub mod Reads
-pub mod Built
-pub mod Composed
+pub mod Views
 pub mod Begins
-pub mod OperatorTokens

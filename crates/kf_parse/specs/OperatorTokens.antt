@@ -1,4 +1,4 @@
--- How the operators of the table are written in a source.
+-- For bodies: how the operators of the table are written in a source.
 use Rattle.std.specs.Prelude.{◌≡◌, ◌≤◌, ℕ, slice_get, List, [], Option, Some, None, codes}
 use Rattle.kf_ops.specs.Rows.{Row, operators}
 use Rattle.kf_ops.specs.declared.row.Op.{Op}
@@ -46,3 +46,13 @@ PrefixTokens = (k : Tok) (op : Op) → prefix_op k ≡ Some op → IsPrefixToken
 
 abbrev pub CalledTokens : Type 0
 CalledTokens = (k : Tok) (op : Op) → called_op k ≡ Some op → IsCalledToken k op
+
+-- and the other way round: no operator is forgotten
+abbrev pub EachBetween : Type 0
+EachBetween = (op : Op) → arity_of op ≡ 2 → level_of op ≤ 7 → (k : Tok) × (infix_op k ≡ Some op)
+
+abbrev pub EachBefore : Type 0
+EachBefore = (op : Op) → arity_of op ≡ 1 → level_of op ≤ 7 → (k : Tok) × (prefix_op k ≡ Some op)
+
+abbrev pub EachCalled : Type 0
+EachCalled = (op : Op) → level_of op ≡ 8 → (k : Tok) × (called_op k ≡ Some op)

@@ -1,7 +1,7 @@
--- Which operator a token stands for, by where it stands. How tightly it binds is read from the operator table.
+-- Believed: which operator a token stands for, by where it stands. How tightly it binds is read from the operator table.
 use Rattle.std.specs.Prelude.{ℕ, slice_get, Option, Some, None}
 use Rattle.kf_ops.specs.Rows.{Row, operators}
-use Rattle.kf_ops.specs.Table.{number_of}
+use Rattle.kf_ops.specs.Places.{number_of}
 use Rattle.kf_ops.specs.declared.row.Op.{Op}
 use Rattle.kf_ops.specs.declared.row.Op.TheVariants as op
 use Rattle.kf_lex.specs.declared.token.Tok.{Tok}

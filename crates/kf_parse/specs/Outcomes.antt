@@ -1,4 +1,4 @@
--- Reading from left to right: what was read and the tokens after it, or the tokens at which it is stuck.
+-- For bodies: reading from left to right: what was read and the tokens after it, or the tokens at which it is stuck.
 use Rattle.std.specs.Prelude.{ℕ, zero, suc, Bool, true, false, List, [], ◌∷◌, length, Option, Some, None}
 use Rattle.kf_lex.specs.declared.token.Token.{Token}
 use Rattle.kf_lex.specs.declared.token.Tok.{Tok}

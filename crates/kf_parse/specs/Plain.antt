@@ -1,8 +1,8 @@
--- The builder of whole trees.
+-- For bodies: the builder of whole trees.
 use Rattle.std.specs.Prelude.{List, [], ◌∷◌, ◌++◌}
 use Rattle.kf_ast.specs.Exprs.{ExprTree, expr_at, Number, Truth, Name, Apply, Tuple, SetOf, Part, exprs, place, placed}
 use Rattle.kf_ast.specs.Dists.{CaseTree, case_of, DistTree, dist_at, Sure, UniformSet, UniformRange, Choose, Flip}
-use Rattle.kf_ast.specs.Names.{name_place}
+use Rattle.kf_ast.specs.Views.{name_place}
 use Rattle.kf_ast.specs.Stmts.{StmtTree, stmt_at, Skip, Assign, Observe, If, While, stmts}
 use Rattle.kf_ast.specs.Sources.{DeclTree, declared, SourceTree, source}
 use Rattle.kf_parse.specs.Builders.{Builder}

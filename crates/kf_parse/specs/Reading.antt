@@ -1,4 +1,4 @@
--- Reading a program from left to right, one token ahead.
+-- For bodies: reading a program from left to right, one token ahead.
 use Rattle.std.specs.Prelude.{ℕ, zero, suc, ◌-◌, ℤ, pos, neg_ℤ, Bool, true, false, if◌then◌else◌, ◌==◌, List, [], ◌∷◌, ◌++◌, Option, Some, None}
 use Rattle.kf_ops.specs.declared.row.Op.{Op}
 use Rattle.kf_lex.specs.declared.token.Token.{Token}

@@ -1,4 +1,4 @@
--- What a function that reads answers: the outcome of reading, unless memory runs out.
+-- For bodies: what a function that reads answers: the outcome of reading, unless memory runs out.
 use Rattle.std.specs.Prelude.{◌≡◌, ◌≤◌, ℕ, Bool, List, [], ◌∷◌, length, slice_range, true, false, Result, Ok, Err}
 use Rattle.std.specs.Str.{is_utf8}
 use Rattle.kf_lex.specs.declared.token.Token.{Token}

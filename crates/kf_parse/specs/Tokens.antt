@@ -1,4 +1,4 @@
--- Whether two kinds of token are the same, as a test.
+-- For bodies: whether two kinds of token are the same, as a test.
 use Rattle.std.specs.Prelude.{ℕ, Bool, true, false, ◌==◌}
 use Rattle.kf_lex.specs.declared.token.Tok.{Tok}
 use Rattle.kf_lex.specs.declared.token.Tok.TheVariants as t

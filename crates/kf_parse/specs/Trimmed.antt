@@ -1,6 +1,6 @@
--- The builder that keeps no expression of more than 1,000 nodes.
+-- For bodies: the builder that keeps no expression of more than 1,000 nodes.
 use Rattle.std.specs.Prelude.{ℕ, ◌+◌, min, nat_le, if◌then◌else◌, Option, Some, None, List, [], ◌∷◌, ◌++◌}
-use Rattle.kf_ast.specs.Names.{name_place}
+use Rattle.kf_ast.specs.Views.{name_place}
 use Rattle.kf_ast.specs.Exprs.{ExprTree, ExprShape, expr_at, Number, Truth, Name, Apply, Tuple, SetOf, Part, exprs, placed}
 use Rattle.kf_ast.specs.Dists.{CaseTree, case_of, DistTree, dist_at, Sure, UniformSet, UniformRange, Choose, Flip}
 use Rattle.kf_ast.specs.Stmts.{StmtTree, stmt_at, Skip, Assign, Observe, If, While, stmts}

@@ -1,7 +1,6 @@
 ghost use Rattle.std.specs.Prelude.{◌≡◌, ◌≤◌, []};
-ghost use Rattle.kf_ast.specs.Exprs.{expr_tree};
-ghost use Rattle.kf_ast.specs.Names.{name_tree};
-ghost use Rattle.kf_parse.specs.Built.{cut_of, cuts_of, trimmed_of};
+ghost use Rattle.kf_ast.specs.Views.{expr_tree, name_tree};
+ghost use Rattle.kf_parse.specs.Views.{cut_of, cuts_of, trimmed_of};
 ghost use Rattle.kf_parse.specs.Outcomes.{pure};
 ghost use Rattle.kf_parse.specs.Reads.{Reads};
 ghost use Rattle.kf_parse.specs.Trimmed.{trimmed, trim};

@@ -1,13 +1,8 @@
 //! Distributions, statements and declarations, each with the place of its first expression that is too long.
 
 ghost use Rattle.std.specs.Prelude.{◌≡◌, [], map};
-ghost use Rattle.kf_ast.specs.Dists.{case_tree, dist_tree};
-ghost use Rattle.kf_ast.specs.Names.{name_tree};
-ghost use Rattle.kf_ast.specs.Sources.{decl_tree, item_tree, source_tree, target_items};
-ghost use Rattle.kf_ast.specs.Stmts.{stmt_tree};
-ghost use Rattle.kf_ast.specs.TypeForms.{type_form};
-ghost use Rattle.kf_parse.specs.Built.{cut_of, trimmed_of};
-ghost use Rattle.kf_parse.specs.Composed.{all_of};
+ghost use Rattle.kf_ast.specs.Views.{case_tree, dist_tree, name_tree, type_form, stmt_tree, decl_tree, item_tree, source_tree, target_items};
+ghost use Rattle.kf_parse.specs.Views.{cut_of, trimmed_of, all_of};
 ghost use Rattle.kf_parse.specs.Outcomes.{pure};
 ghost use Rattle.kf_parse.specs.Reads.{Reads};
 ghost use Rattle.kf_parse.specs.Trimmed.{trimmed};

@@ -1,5 +1,5 @@
 ghost use Rattle.std.specs.Prelude.{◌≡◌, [], ◌∷◌, drop, All, MatchOption};
-ghost use Rattle.kf_ast.specs.Names.{name_tree};
+ghost use Rattle.kf_ast.specs.Views.{name_tree};
 ghost use Rattle.kf_parse.specs.Grammar.{named};
 ghost use Rattle.kf_parse.specs.Outcomes.{pure, expect};
 ghost use Rattle.kf_parse.specs.Reading as r;

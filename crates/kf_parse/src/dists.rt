@@ -1,7 +1,6 @@
 ghost use Rattle.std.specs.Prelude.{◌≡◌, ◌-◌, ◌<◌};
-ghost use Rattle.kf_ast.specs.Dists.{case_tree, dist_tree};
-ghost use Rattle.kf_parse.specs.Built.{trimmed_of};
-ghost use Rattle.kf_parse.specs.Composed.{all_of};
+ghost use Rattle.kf_ast.specs.Views.{case_tree, dist_tree};
+ghost use Rattle.kf_parse.specs.Views.{trimmed_of, all_of};
 ghost use Rattle.kf_parse.specs.Outcomes.{and_then, first_or, pure};
 ghost use Rattle.kf_parse.specs.Reading as r;
 ghost use Rattle.kf_parse.specs.Reads.{Reads};

@@ -1,5 +1,5 @@
 ghost use Rattle.std.specs.Prelude.{◌≡◌, ◌≤◌, ◌-◌};
-ghost use Rattle.kf_parse.specs.Built.{cut_of, cuts_of};
+ghost use Rattle.kf_parse.specs.Views.{cut_of, cuts_of};
 ghost use Rattle.kf_parse.specs.Reading as r;
 ghost use Rattle.kf_parse.specs.Reads.{Reads};
 ghost use Rattle.kf_parse.specs.Trimmed.{trimmed};

@@ -3,7 +3,7 @@ ghost use Rattle.kf_parse.specs.Operators.{infix_op, prefix_op, called_op, arity
 ghost use Rattle.kf_parse.specs.Reading as r;
 
 use kf_lex::{Sign, Tok, Word};
-use kf_ops::{OPS, Op};
+use kf_ops::{Op, operator_row};
 
 /// The operator that a token is between two operands.
 pub(crate) fn infix(kind: Tok) -> Option<Op>
@@ -57,14 +57,14 @@ pub(crate) fn called(kind: Tok) -> Option<Op>
 fn level(op: Op) -> u8
     ensures { result ≡ level_of op }
 {
-    OPS[op as usize].level
+    operator_row(op).level
 }
 
 /// How many arguments it takes.
 pub(crate) fn arity(op: Op) -> u8
     ensures { result ≡ arity_of op }
 {
-    OPS[op as usize].arity
+    operator_row(op).arity
 }
 
 /// Its row in the table of operators, counted from 0.

@@ -1,5 +1,5 @@
 ghost use Rattle.std.specs.Prelude.{◌≡◌, ◌≤◌, length, All, IfOk, IfErr};
-ghost use Rattle.kf_ast.specs.Sources.{source_tree};
+ghost use Rattle.kf_ast.specs.Views.{source_tree};
 ghost use Rattle.kf_lex.specs.Readings.{IsTokens};
 ghost use Rattle.kf_parse.specs.Answers.{IsParsed, IsRefused, place_in};
 ghost use Rattle.kf_parse.specs.Depth.{IsShallow};

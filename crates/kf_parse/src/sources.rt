@@ -1,10 +1,9 @@
 ghost use Rattle.std.specs.Prelude.{◌≡◌, map};
-ghost use Rattle.kf_ast.specs.Names.{name_tree};
-ghost use Rattle.kf_ast.specs.Sources.{decl_tree, item, item_tree, source_tree, target_items};
+ghost use Rattle.kf_ast.specs.Views.{name_tree, decl_tree, item_tree, source_tree, target_items};
+ghost use Rattle.kf_ast.specs.Sources.{item};
 ghost use Rattle.kf_lex.specs.declared.token.Sign.TheVariants as s;
 ghost use Rattle.kf_lex.specs.declared.token.Tok.TheVariants as t;
-ghost use Rattle.kf_parse.specs.Built.{trimmed_of};
-ghost use Rattle.kf_parse.specs.Composed.{all_of};
+ghost use Rattle.kf_parse.specs.Views.{trimmed_of, all_of};
 ghost use Rattle.kf_parse.specs.Grammar.{named};
 ghost use Rattle.kf_parse.specs.Outcomes.{and_then, expect, pure};
 ghost use Rattle.kf_parse.specs.Reading as r;

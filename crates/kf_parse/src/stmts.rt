@@ -1,9 +1,7 @@
 ghost use Rattle.std.specs.Prelude.{◌≡◌, ◌-◌, ◌<◌};
-ghost use Rattle.kf_ast.specs.Names.{name_tree};
-ghost use Rattle.kf_ast.specs.Stmts.{stmt_tree};
+ghost use Rattle.kf_ast.specs.Views.{name_tree, stmt_tree};
 ghost use Rattle.kf_parse.specs.Begins.{begins_statement, statement_next};
-ghost use Rattle.kf_parse.specs.Built.{trimmed_of};
-ghost use Rattle.kf_parse.specs.Composed.{all_of};
+ghost use Rattle.kf_parse.specs.Views.{trimmed_of, all_of};
 ghost use Rattle.kf_lex.specs.declared.token.Tok.TheVariants as t;
 ghost use Rattle.kf_lex.specs.declared.token.Sign.TheVariants as s;
 ghost use Rattle.kf_parse.specs.Outcomes.{and_then, expect, first, pure};

@@ -1,5 +1,6 @@
 ghost use Rattle.std.specs.Prelude.{◌≡◌, map};
-ghost use Rattle.kf_ast.specs.TypeForms.{type_form, ty_items, type_at, SetOf};
+ghost use Rattle.kf_ast.specs.TypeForms.{type_at, SetOf};
+ghost use Rattle.kf_ast.specs.Views.{type_form, ty_items};
 ghost use Rattle.kf_lex.specs.declared.token.Tok.TheVariants as t;
 ghost use Rattle.kf_lex.specs.declared.token.Word.TheVariants as w;
 ghost use Rattle.kf_parse.specs.Outcomes.{and_then, expect, first, pure};

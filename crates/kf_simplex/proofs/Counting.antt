@@ -6,7 +6,7 @@ use Rattle.std.proofs.lemmas.Int.{ints}
 use Rattle.std.specs.Prelude.{cond, nat_eq}
 use Rattle.kf_simplex.proofs.Sums.{find_below}
 use Rattle.kf_simplex.proofs.RunFacts.{IsGood, Past, run_facts}
-use Rattle.kf_simplex.specs.RunLaws.{ways, SameColumns, NoneHas, NoRunIsLong}
+use Rattle.kf_simplex.specs.Laws.{ways, SameColumns, NoneHas, NoRunIsLong}
 use Rattle.kf_simplex.specs.Systems.{LinearSystem, IsSystem, right_column}
 use Rattle.kf_simplex.specs.Tableaus.{Tableau}
 use Rattle.kf_simplex.specs.Runs.{IsRun}

@@ -4,8 +4,9 @@ use Rattle.std.proofs.Math.IntN.{pos, ◌*ℤ◌}
 use Rattle.std.proofs.lemmas.Int.{ints}
 use lib.Signed.{◌<ℤ◌, ◌≤ℤ◌}
 use Rattle.kf_simplex.proofs.Sums.{total-ext, total-scale, total-swap, total_at_most}
-use Rattle.kf_simplex.specs.Systems.{total, right_column}
-use Rattle.kf_simplex.specs.Solutions.{WeakDuality}
+use Rattle.kf_simplex.specs.Systems.{right_column}
+use Rattle.kf_simplex.specs.Base.{total}
+use Rattle.kf_simplex.specs.Laws.{WeakDuality}
 use Rattle.kf_frac.proofs.Ring.{ring}
 use Rattle.kf_simplex.proofs.Signs.{product_positive, product_at_most_zero}
 

@@ -6,7 +6,7 @@ use lib.Signed.{◌≤ℤ◌}
 use Rattle.kf_simplex.specs.Systems.{LinearSystem, IsSystem, right_column}
 use Rattle.kf_simplex.specs.Tableaus.{Tableau}
 use Rattle.kf_simplex.specs.Runs.{IsNarrow, NoneEnters, Cause, wide, solution, multipliers, budget, Ends, EndsAt, GoesOn, IsRun}
-use Rattle.kf_simplex.specs.RunLaws.{SameTableau, OneAnswer}
+use Rattle.kf_simplex.specs.Laws.{SameTableau, OneAnswer}
 use Rattle.kf_simplex.proofs.Unique.{one_run}
 
 turned : (s : LinearSystem) (t u : Tableau) → SameTableau s t u → SameTableau s u t

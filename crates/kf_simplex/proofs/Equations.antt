@@ -8,8 +8,8 @@ use Rattle.std.proofs.lemmas.List.{get_or_past}
 use Rattle.std.specs.List.{All}
 use lib.Signed.{◌≤ℤ◌}
 use Rattle.kf_simplex.specs.declared.system.Equation.{Equation}
-use Rattle.kf_simplex.specs.Cells.{at}
-use Rattle.kf_simplex.specs.Systems.{IsSystem, total}
+use Rattle.kf_simplex.specs.Base.{at, total}
+use Rattle.kf_simplex.specs.Systems.{IsSystem}
 use Rattle.kf_simplex.specs.Views.{coefficients, right_side, entry, number_at}
 
 -- ---- the four kinds of columns

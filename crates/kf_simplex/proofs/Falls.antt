@@ -4,16 +4,17 @@ use Rattle.std.proofs.Math.IntN.{ℤ, pos, ◌+ℤ◌, ◌-ℤ◌, ◌*ℤ◌, n
 use Rattle.std.proofs.lemmas.Int.{ints, by_lt_z}
 use Rattle.std.proofs.lemmas.Bool.{cases_eq, cases_lt}
 use lib.Signed.{◌<ℤ◌, ◌≤ℤ◌}
+use Rattle.kf_simplex.specs.Base.{deciding}
 use Rattle.kf_simplex.proofs.Pivots.{one_tableau, crossed_in_space}
 use Rattle.kf_simplex.specs.Tableaus.{Row, IsInRowSpace}
 use Rattle.kf_simplex.specs.Systems.{LinearSystem, right_column}
 use Rattle.kf_simplex.proofs.Forms.{IsPivot, Spans, IsBasic, IsObjective, IsLexPositive, Falls}
-use Rattle.kf_simplex.specs.Runs.{Leaves, key, key_column}
-use Rattle.kf_simplex.specs.RunLaws.{SameColumns}
+use Rattle.kf_simplex.specs.Runs.{Leaves, key}
+use Rattle.kf_simplex.specs.Laws.{SameColumns}
 use Rattle.kf_frac.proofs.Ring.{ring, neg_mul}
 use Rattle.kf_simplex.proofs.Signs.{product_positive, factor_positive, factor_zero}
 
-pub key_in_range : (s : LinearSystem) (m : ℕ) → m ≤ s.equations → key_column s m ≤ right_column s
+pub key_in_range : (s : LinearSystem) (m : ℕ) → m ≤ s.equations → deciding s.unknowns (right_column s) m ≤ right_column s
 key_in_range s zero l = omega arith
 key_in_range s (suc m) l = omega arith
 
@@ -49,10 +50,10 @@ pivot_lex s rows news r c p v h i l =
     let e = s.equations in
     ⊎_elim
     (λ (q : i ≡ r). subst (λ (z : ℕ). IsLexPositive e (key s (news z))) (sym q)
-    (lex_along e (key s (rows r)) (key s (news r)) (λ (m : ℕ) (u : m ≤ e). sym (p.same (key_column s m) (key_in_range s m u))) (h r p.row)))
+    (lex_along e (key s (rows r)) (key s (news r)) (λ (m : ℕ) (u : m ≤ e). sym (p.same (deciding s.unknowns (right_column s) m) (key_in_range s m u))) (h r p.row)))
     (λ (d : i ≢ r). lex_unscale e (p.factor i) (key s (news i)) (p.factor_positive i l)
     (lex_along e (λ m. rows r c *ℤ key s (rows i) m -ℤ rows i c *ℤ key s (rows r) m) (λ m. p.factor i *ℤ key s (news i) m)
-    (λ (m : ℕ) (u : m ≤ e). sym (p.crossed i (key_column s m) l d (key_in_range s m u)))
+    (λ (m : ℕ) (u : m ≤ e). sym (p.crossed i (deciding s.unknowns (right_column s) m) l d (key_in_range s m u)))
     (by_lt_z (pos 0) (rows i c)
     (λ (a : pos 0 <ℤ rows i c). let b = v.least i l d a in
     (b.0, b.1, (λ m u. let q = b.2 m u in omega (arith, ints)), (let q = b.3 in omega (arith, ints))))
@@ -72,9 +73,9 @@ pub objective_falls : (s : LinearSystem) (w w' row : Row) (p a h scale scale' : 
 objective_falls s w w' row p a h scale scale' hp ap' sp e es l =
     lex_unscale s.equations h (λ m. scale' *ℤ key s w m -ℤ scale *ℤ key s w' m) hp
     (lex_along s.equations (λ m. scale *ℤ a *ℤ key s row m) (λ m. h *ℤ (scale' *ℤ key s w m -ℤ scale *ℤ key s w' m))
-    (λ (m : ℕ) (u : m ≤ s.equations). let x = key_column s m in
-    let one = simp ring at (ap (λ (z : ℤ). z *ℤ w (key_column s m)) es) in
-    let two = simp ring at (ap (λ (z : ℤ). scale *ℤ z) (e (key_column s m) (key_in_range s m u))) in
+    (λ (m : ℕ) (u : m ≤ s.equations). let x = deciding s.unknowns (right_column s) m in
+    let one = simp ring at (ap (λ (z : ℤ). z *ℤ w (deciding s.unknowns (right_column s) m)) es) in
+    let two = simp ring at (ap (λ (z : ℤ). scale *ℤ z) (e (deciding s.unknowns (right_column s) m) (key_in_range s m u))) in
     simp ring (omega (arith, ints)))
     (lex_scale s.equations (scale *ℤ a) (key s row) (product_positive scale a sp ap') l))
 
@@ -111,4 +112,4 @@ pub not_the_same : (s : LinearSystem) (basis basis' : ℕ → ℕ) (rows : ℕ �
     → SameColumns s.equations basis basis' → Falls s w o.scale w' o'.scale → ⊥
 not_the_same s basis basis' rows b q w w' o o' same f =
     lex_not_zero s.equations (λ m. o'.scale *ℤ key s w m -ℤ o.scale *ℤ key s w' m) f
-    (λ (m : ℕ) (u : m ≤ s.equations). let e = same_objective s basis basis' rows b q w w' o o' same (key_column s m) (key_in_range s m u) in omega (arith, ints))
+    (λ (m : ℕ) (u : m ≤ s.equations). let e = same_objective s basis basis' rows b q w w' o o' same (deciding s.unknowns (right_column s) m) (key_in_range s m u) in omega (arith, ints))

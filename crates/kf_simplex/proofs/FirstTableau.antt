@@ -6,7 +6,8 @@ use Rattle.std.proofs.lemmas.Int.{ints}
 use Rattle.std.proofs.lemmas.Bool.{cases_lt}
 use Rattle.std.proofs.lemmas.Nat.Gcd.{dvd_antisymm}
 use Rattle.std.specs.Int.{◌∣◌}
-use Rattle.kf_simplex.specs.Systems.{LinearSystem, IsSystem, total, right_column}
+use Rattle.kf_simplex.specs.Systems.{LinearSystem, IsSystem, right_column}
+use Rattle.kf_simplex.specs.Base.{total}
 use Rattle.kf_simplex.specs.Tableaus.{Row, Tableau, IsRowOf, IsTableau}
 use Rattle.kf_simplex.proofs.Sums.{total-ext, total-single}
 use Rattle.kf_simplex.proofs.Primitive.{one_times}

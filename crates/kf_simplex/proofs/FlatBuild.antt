@@ -7,8 +7,8 @@ use Rattle.std.proofs.lemmas.List.{take-append-le, take_all}
 use Rattle.std.proofs.lemmas.Bool.{cases_eq, cases_lt}
 use mir.Syntax.{w128}
 use Rattle.kf_simplex.specs.declared.system.Equation.{Equation}
-use Rattle.kf_simplex.specs.Cells.{at}
-use Rattle.kf_simplex.specs.Systems.{LinearSystem, total}
+use Rattle.kf_simplex.specs.Base.{at, total}
+use Rattle.kf_simplex.specs.Systems.{LinearSystem}
 use Rattle.kf_simplex.specs.Flat.{tableau_of}
 use Rattle.kf_simplex.specs.Turns.{InRun}
 use Rattle.kf_simplex.proofs.FirstTableau.{first_tableau}

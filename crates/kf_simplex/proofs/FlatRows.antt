@@ -11,7 +11,8 @@ use borrow.Author.Differences.{neg_is, product_is}
 use mir.Syntax.{w128}
 use borrow.Rule.Slice.PartMut.{mid_of, put_mid}
 use Rattle.std.proofs.lemmas.List.{places}
-use Rattle.kf_simplex.specs.Cells.{at, IsCommonGcd, IsNarrowNumber, IsReduced, IsCrossed, CrossesAt, CrossesRows, row_at}
+use Rattle.kf_simplex.specs.Cells.{IsCommonGcd, IsNarrowNumber, IsReduced, IsCrossed, CrossesAt, CrossesRows, row_at}
+use Rattle.kf_simplex.specs.Base.{at}
 
 pub narrow_product_fits : (a b : ℤ) → IsNarrowNumber a → IsNarrowNumber b → FitsSigned w128 (a *ℤ b)
 narrow_product_fits a b h k = fits_signed_mul w128 a b 4611686018427387904 4611686018427387904 h k (omega arith)

@@ -15,7 +15,8 @@ use Rattle.kf_simplex.specs.Systems.{LinearSystem, right_column}
 use Rattle.kf_simplex.proofs.Forms.{IsPivot, IsObjective, IsBasic}
 use Rattle.kf_simplex.specs.Runs.{IsStep, Enters, Leaves}
 use Rattle.kf_simplex.proofs.Signs.{cancel, product_positive, factor_positive, factor_zero}
-use Rattle.kf_simplex.specs.Cells.{at, IsReduced, CrossesRows}
+use Rattle.kf_simplex.specs.Cells.{IsReduced, CrossesRows}
+use Rattle.kf_simplex.specs.Base.{at}
 use Rattle.kf_simplex.specs.Flat.{width, tableau_of}
 
 -- how the flat table changes at a pivot

@@ -13,8 +13,9 @@ use Rattle.std.proofs.lemmas.List.{get_or_past}
 use Rattle.std.proofs.lemmas.List.Edits.{get_or-between}
 use Rattle.std.specs.Prelude.{slice_range, IsTrue}
 use Rattle.kf_simplex.specs.Systems.{LinearSystem, right_column, IsSystem}
-use Rattle.kf_simplex.specs.Runs.{IsNarrow, Enters, Leaves, NoneEnters, GoesOn, key_column}
-use Rattle.kf_simplex.specs.Cells.{at, AllNarrow, IsNarrowNumber, IsLeaving, IsEntering, key_at, deciding, CrossesRows}
+use Rattle.kf_simplex.specs.Runs.{IsNarrow, Enters, Leaves, NoneEnters, GoesOn}
+use Rattle.kf_simplex.specs.Cells.{AllNarrow, IsNarrowNumber, IsLeaving, IsEntering, key_at, CrossesRows}
+use Rattle.kf_simplex.specs.Base.{at, deciding}
 use Rattle.kf_simplex.specs.Flat.{width, tableau_of}
 use Rattle.kf_simplex.specs.Turns.{Judges, InRun}
 
@@ -32,7 +33,7 @@ wide_of s cells basis e h k l =
     (λ (m : s.equations ≤ k / width s). let q : k / width s ≡ s.equations = omega arith in subst (λ (z : ℕ). IsNarrowNumber (at cells (z * width s + k % width s))) (sym q) (h.objective (k % width s) inside))
     (cases_lt (k / width s) s.equations))
 
-key_place : (s : LinearSystem) (m : ℕ) → deciding s.unknowns (width s - 1) m ≡ key_column s m
+key_place : (s : LinearSystem) (m : ℕ) → deciding s.unknowns (width s - 1) m ≡ deciding s.unknowns (right_column s) m
 key_place s zero = omega arith
 key_place s (suc m) = refl
 

@@ -2,7 +2,8 @@
 use Rattle.std.proofs.Common.{◌≡◌, ◌≢◌, ℕ, ◌<◌, ◌≤◌}
 use Rattle.std.proofs.Math.IntN.{ℤ, pos, ◌-ℤ◌, ◌*ℤ◌}
 use lib.Signed.{◌<ℤ◌}
-use Rattle.kf_simplex.specs.Systems.{LinearSystem, total, right_column}
+use Rattle.kf_simplex.specs.Systems.{LinearSystem, right_column}
+use Rattle.kf_simplex.specs.Base.{total}
 use Rattle.kf_simplex.specs.Tableaus.{Row, Tableau, IsInRowSpace, IsPrimitive, IsRowOf, IsArtificial}
 use Rattle.kf_simplex.specs.Runs.{key}
 

@@ -1,10 +1,13 @@
 pub mod Choices
 pub mod Counting
+mod Deciding
 pub mod Duality
 pub mod Endings
 pub mod EndsOnce
 pub mod Equations
+mod EveryRunEnds
 pub mod Falls
+mod Filled
 pub mod FirstTableau
 pub mod FlatBuild
 pub mod FlatRows
@@ -19,5 +22,6 @@ pub mod Quotients
 pub mod RowOrder
 pub mod RunFacts
 pub mod Signs
+mod SomeAnswer
 pub mod Sums
 pub mod Unique

@@ -4,7 +4,8 @@ use Rattle.std.proofs.Math.IntN.{ℤ, pos, ◌*ℤ◌}
 use Rattle.std.proofs.lemmas.Int.{ints}
 use Rattle.std.proofs.lemmas.Bool.{cases_lt}
 use Rattle.kf_frac.proofs.Ring.{mul_assoc}
-use Rattle.kf_simplex.specs.Systems.{LinearSystem, total, right_column}
+use Rattle.kf_simplex.specs.Systems.{LinearSystem, right_column}
+use Rattle.kf_simplex.specs.Base.{total}
 use Rattle.kf_simplex.specs.Tableaus.{Row, Tableau, combined, IsInRowSpace, IsRowOf, IsSumOfRows, IsTableau}
 use Rattle.kf_simplex.proofs.Forms.{IsObjective, IsWorking, IsBasic, Spans}
 use Rattle.kf_simplex.proofs.Signs.{cancel, factor_zero, factor_positive}

@@ -8,12 +8,12 @@ use lib.Signed.{◌<ℤ◌, ◌≤ℤ◌}
 use Rattle.kf_frac.specs.declared.frac.Frac.{Frac}
 use Rattle.kf_frac.proofs.Ring.{mul_assoc}
 use Rattle.kf_frac.proofs.CommonMultiples.{product_positive as nat_product_positive}
-use Rattle.kf_simplex.specs.Systems.{LinearSystem, IsSystem, total, right_column}
+use Rattle.kf_simplex.specs.Systems.{LinearSystem, IsSystem, right_column}
+use Rattle.kf_simplex.specs.Base.{total, at}
 use Rattle.kf_simplex.specs.Tableaus.{Tableau}
 use Rattle.kf_simplex.specs.Runs.{Answers, NoneEnters, budget, key}
-use Rattle.kf_simplex.specs.RunLaws.{ways}
+use Rattle.kf_simplex.specs.Laws.{ways}
 use Rattle.kf_simplex.specs.Solutions.{Refutes}
-use Rattle.kf_simplex.specs.Cells.{at}
 use Rattle.kf_simplex.specs.Answers.{num_at, den_at, IsSolutionOf, AreMultipliersOf, AreSolution}
 use Rattle.kf_simplex.proofs.Forms.{IsReadOff, IsLexPositive}
 use Rattle.kf_simplex.proofs.Signs.{cancel, product_not_negative, factor_not_negative, factor_zero}

@@ -6,7 +6,8 @@ use Rattle.std.proofs.lemmas.Bool.{cases_eq, cases_lt}
 use lib.Signed.{◌<ℤ◌, ◌≤ℤ◌}
 use Rattle.kf_simplex.proofs.Sums.{total-ext, total-scale, total-combine, total-swap, total_all_zero, total-single, total-scale_right, total-add, find_below, total_zero_each, choose, choose-same, choose-other}
 use Rattle.kf_simplex.specs.Tableaus.{Row, combined, IsInRowSpace}
-use Rattle.kf_simplex.specs.Systems.{total, LinearSystem, right_column}
+use Rattle.kf_simplex.specs.Systems.{LinearSystem, right_column}
+use Rattle.kf_simplex.specs.Base.{total}
 use Rattle.kf_simplex.proofs.Forms.{IsPivot, Spans, IsBasic, IsReadOff}
 use Rattle.kf_simplex.specs.Solutions.{Solves, Refutes}
 use Rattle.kf_frac.proofs.Ring.{mul_assoc, mul_left_comm, mul_add, add_mul}

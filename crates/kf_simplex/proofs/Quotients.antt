@@ -8,12 +8,14 @@ use mir.Syntax.{w128}
 use Rattle.kf_frac.specs.declared.frac.Frac.{Frac}
 use Rattle.kf_frac.specs.Views.{num_of, den_of}
 use Rattle.kf_frac.specs.Divisors.{gcd_of}
-use Rattle.kf_frac.specs.Fractions.{reduced_num, reduced_den, PartsFit}
+use Rattle.kf_frac.specs.Fractions.{reduced_num, reduced_den}
+use Rattle.kf_frac.specs.Parts.{PartsFit}
 use Rattle.kf_frac.proofs.LowestTerms.{reduced_num_times, reduced_den_times}
 use Rattle.kf_frac.proofs.Ring.{mul_assoc}
 use Rattle.kf_frac.proofs.Scaling.{reduced_fit}
 use Rattle.kf_simplex.specs.Answers.{num_at, den_at}
-use Rattle.kf_simplex.specs.Cells.{at, row_at}
+use Rattle.kf_simplex.specs.Cells.{row_at}
+use Rattle.kf_simplex.specs.Base.{at}
 
 positive_abs : (z : ℤ) → pos 0 <ℤ z → pos (unsigned_abs z) ≡ z
 positive_abs (pos n) h = refl

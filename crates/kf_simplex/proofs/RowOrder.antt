@@ -10,7 +10,8 @@ use borrow.Rule.Slice.PartMut.{mid_of, mid_len}
 use Rattle.kf_simplex.proofs.FlatRows.{at-mid}
 use Rattle.kf_frac.proofs.Ring.{ring}
 use Rattle.kf_simplex.proofs.Signs.{cancel, cancel_lt, product_strict}
-use Rattle.kf_simplex.specs.Cells.{at, row_at, IsFirstDifference, scaled_key, key_at, deciding, IsAtMost, IsLeaving}
+use Rattle.kf_simplex.specs.Cells.{row_at, IsFirstDifference, scaled_key, key_at, IsAtMost, IsLeaving}
+use Rattle.kf_simplex.specs.Base.{at, deciding}
 
 first_along : (f f' g g' : ℕ → ℤ) (n : ℕ) (o : Ordering) → ((m : ℕ) → m < n → f m ≡ f' m) → ((m : ℕ) → m < n → g m ≡ g' m) → IsFirstDifference f g n o → IsFirstDifference f' g' n o
 first_along f f' g g' n Less a b h = (h.0, h.1, (λ (k : ℕ) (l : k < h.0). let q = h.1 in sym (a k (omega arith)) ∙ h.2 k l ∙ b k (omega arith)), rw (sym (a h.0 h.1), sym (b h.0 h.1)) h.3)

@@ -5,6 +5,7 @@ use Rattle.std.proofs.Math.Nat.{dvd-mul_right}
 use Rattle.std.proofs.lemmas.Int.{ints, unsigned_abs-mul, by_lt_z}
 use Rattle.std.proofs.lemmas.Bool.{cases_eq, cases_lt}
 use lib.Signed.{◌<ℤ◌, ◌≤ℤ◌}
+use Rattle.kf_simplex.specs.Base.{deciding}
 use Rattle.kf_simplex.proofs.Sums.{choose, choose-same, choose-other, total-single}
 use Rattle.kf_simplex.proofs.Pivots.{crossed_in_space, pivot_in_space, pivot_positive, pivot_zero, pivot_spans}
 use Rattle.kf_simplex.proofs.Primitive.{one_row, row_multiple, one_times}
@@ -13,8 +14,8 @@ use Rattle.kf_simplex.specs.Tableaus.{Row, Tableau, IsTableau}
 use Rattle.kf_simplex.specs.Systems.{LinearSystem, right_column, IsSystem}
 use Rattle.kf_simplex.proofs.Objective.{working_of}
 use Rattle.kf_simplex.proofs.Forms.{IsWorking, Spans, IsBasic, IsPivot, IsObjective, IsLexPositive, Falls}
-use Rattle.kf_simplex.specs.Runs.{IsStep, IsRun, key, key_column}
-use Rattle.kf_simplex.specs.RunLaws.{NoneHas, NoBasisTwice, NoRunReturns}
+use Rattle.kf_simplex.specs.Runs.{IsStep, IsRun, key}
+use Rattle.kf_simplex.specs.Laws.{NoneHas, NoBasisTwice, NoRunReturns}
 use Rattle.kf_frac.proofs.Ring.{ring}
 use Rattle.kf_simplex.proofs.Signs.{product_positive}
 
@@ -144,7 +145,7 @@ one_from_abs : (z : ℤ) → pos 0 <ℤ z → unsigned_abs z ≡ 1 → z ≡ pos
 one_from_abs (pos n) h e = omega (arith, ints)
 one_from_abs (negsuc n) h e = absurd (omega (arith, ints))
 
-first_zero : (s : LinearSystem) (i : ℕ) → i < s.equations → s.number i (right_column s) ≡ pos 0 → IsSystem s → (m : ℕ) → m < suc i → s.number i (key_column s m) ≡ pos 0
+first_zero : (s : LinearSystem) (i : ℕ) → i < s.equations → s.number i (right_column s) ≡ pos 0 → IsSystem s → (m : ℕ) → m < suc i → s.number i (deciding s.unknowns (right_column s) m) ≡ pos 0
 first_zero s i l z y zero u = z
 first_zero s i l z y (suc m) u = y.other i m l (omega arith) (omega arith)
 
@@ -169,7 +170,7 @@ first_good s t y h e =
         equation = λ k c l m. one_times (s.number k c) ∙ sym (is k c l m) ∙ sym (one_times (t.rows k c)) ∙ ap (λ (z : ℤ). z *ℤ t.rows k c) (sym (choose-same k (pos 1) (pos 0)))
             ∙ sym (total-single n k (λ i. choose i k (pos 1) (pos 0) *ℤ t.rows i c) l (λ (i : ℕ) (u : i < n) (d : i ≢ k). rw (choose-other i k (pos 1) (pos 0) d) (omega (arith, ints))));
       };
-      lex = λ i l. lex_along n (λ m. s.number i (key_column s m)) (key s (t.rows i)) (λ (m : ℕ) (u : m ≤ n). sym (is i (key_column s m) l (key_in_range s m u)))
+      lex = λ i l. lex_along n (λ m. s.number i (deciding s.unknowns (right_column s) m)) (key s (t.rows i)) (λ (m : ℕ) (u : m ≤ n). sym (is i (deciding s.unknowns (right_column s) m) l (key_in_range s m u)))
           (by_lt_z (pos 0) (s.number i (right_column s))
           (λ (p : pos 0 <ℤ s.number i (right_column s)). (0, omega arith, (λ m u. absurd (omega arith)), p))
           (λ (p : s.number i (right_column s) ≤ℤ pos 0). (suc i, omega arith, first_zero s i l (let q = y.right i l in omega (arith, ints)) y, rw (y.same i l) (omega (arith, ints)))));

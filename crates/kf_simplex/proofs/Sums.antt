@@ -6,7 +6,7 @@ use Rattle.std.specs.Prelude.{cond, nat_eq}
 use Rattle.std.proofs.Math.IntN.{ℤ, pos, ◌+ℤ◌, ◌-ℤ◌, ◌*ℤ◌}
 use Rattle.std.proofs.lemmas.Int.{ints}
 use lib.Signed.{◌≤ℤ◌}
-use Rattle.kf_simplex.specs.Systems.{total}
+use Rattle.kf_simplex.specs.Base.{total}
 use Rattle.kf_frac.proofs.Ring.{ring, mul_add, add_mul}
 
 pub total-ext : (n : ℕ) (f g : ℕ → ℤ) → ((k : ℕ) → k < n → f k ≡ g k) → total n f ≡ total n g

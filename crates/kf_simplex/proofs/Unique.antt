@@ -4,14 +4,15 @@ use Rattle.std.proofs.Math.IntN.{ℤ, pos, negsuc, ◌*ℤ◌}
 use Rattle.std.proofs.lemmas.Int.{ints}
 use Rattle.std.proofs.lemmas.Bool.{cases_eq, cases_lt}
 use lib.Signed.{◌<ℤ◌}
+use Rattle.kf_simplex.specs.Base.{deciding}
 use Rattle.kf_simplex.proofs.Primitive.{one_row, primitive_equal}
 use Rattle.kf_simplex.proofs.Falls.{same_objective, key_in_range}
 use Rattle.kf_simplex.proofs.RunFacts.{IsGood, basic_of, run_facts}
 use Rattle.kf_simplex.proofs.Signs.{factor_zero}
 use Rattle.kf_simplex.specs.Tableaus.{Row, Tableau, IsRowOf}
 use Rattle.kf_simplex.specs.Systems.{LinearSystem, IsSystem, right_column}
-use Rattle.kf_simplex.specs.Runs.{Enters, IsRun, Leaves, key, key_column}
-use Rattle.kf_simplex.specs.RunLaws.{SameTableau}
+use Rattle.kf_simplex.specs.Runs.{Enters, IsRun, Leaves, key}
+use Rattle.kf_simplex.specs.Laws.{SameTableau}
 
 row_along : (s : LinearSystem) (a b : ℕ → ℕ) → ((k : ℕ) → k < s.equations → a k ≡ b k) → (i : ℕ) (r : Row) → i < s.equations → IsRowOf s a i r → IsRowOf s b i r
 row_along s a b e i r l h = record {
@@ -83,9 +84,9 @@ one_leaving s rows rows' c r i lc e a b = ⊎_elim (λ (q : r ≡ i). q)
     let x = a.least i b.row (λ z. d (sym z)) (rw ei b.positive) in
     let y = b.least r a.row d (rw (sym er) a.positive) in
     absurd (below_once s.equations (λ m. key s (rows r) m *ℤ rows i c) (λ m. key s (rows i) m *ℤ rows r c) x.0 y.0 x.2 x.3
-    (λ (k : ℕ) (l : k < y.0). rw (e i (key_column s k) b.row (key_in_range s k (let z = y.1 in omega arith)), e r (key_column s k) a.row (key_in_range s k (let z = y.1 in omega arith)), ei, er) (y.2 k l))
-    (carry (rows i (key_column s y.0)) (rows r (key_column s y.0)) (rows r c) (rows i c) (rows' i (key_column s y.0)) (rows' r (key_column s y.0)) (rows' r c) (rows' i c)
-    (e i (key_column s y.0) b.row (key_in_range s y.0 y.1)) (e r (key_column s y.0) a.row (key_in_range s y.0 y.1)) er ei y.3)))
+    (λ (k : ℕ) (l : k < y.0). rw (e i (deciding s.unknowns (right_column s) k) b.row (key_in_range s k (let z = y.1 in omega arith)), e r (deciding s.unknowns (right_column s) k) a.row (key_in_range s k (let z = y.1 in omega arith)), ei, er) (y.2 k l))
+    (carry (rows i (deciding s.unknowns (right_column s) y.0)) (rows r (deciding s.unknowns (right_column s) y.0)) (rows r c) (rows i c) (rows' i (deciding s.unknowns (right_column s) y.0)) (rows' r (deciding s.unknowns (right_column s) y.0)) (rows' r c) (rows' i c)
+    (e i (deciding s.unknowns (right_column s) y.0) b.row (key_in_range s y.0 y.1)) (e r (deciding s.unknowns (right_column s) y.0) a.row (key_in_range s y.0 y.1)) er ei y.3)))
     (cases_eq r i)
 
 -- two runs of one length end with the same numbers

@@ -1,4 +1,4 @@
--- What `solve` answers.
+-- For bodies: what `solve` answers.
 use Rattle.std.specs.Prelude.{◌≡◌, ℕ, ◌+◌, ◌<◌, ℤ, pos, ◌*ℤ◌, List, length, map, slice_index_or, Result, Ok, Err}
 use Rattle.kf_frac.specs.declared.frac.Frac.{Frac}
 use Rattle.kf_frac.specs.Views.{num_of, den_of}
@@ -10,7 +10,7 @@ use Rattle.kf_simplex.specs.Systems.{LinearSystem, right_column}
 use Rattle.kf_simplex.specs.Tableaus.{Tableau}
 use Rattle.kf_simplex.specs.Runs.{EndsAt, Answers, wide, solution, multipliers, budget}
 use Rattle.kf_simplex.specs.Solutions.{Solves, Refutes}
-use Rattle.kf_simplex.specs.Cells.{at}
+use Rattle.kf_simplex.specs.Base.{at}
 
 -- numerators and denominators of a list of fractions; 0 and 1 past its end
 abbrev pub num_at : List Frac → ℕ → ℤ

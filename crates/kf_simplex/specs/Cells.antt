@@ -1,12 +1,9 @@
--- Flat rows of numbers, as the code keeps them.
-use Rattle.std.specs.Prelude.{◌≡◌, ◌≢◌, ℕ, zero, suc, ◌-◌, ◌+◌, ◌*◌, ◌^◌, ◌<◌, ◌≤◌, ◌⊎◌, Option, None, Some, ℤ, pos, ◌-ℤ◌, ◌*ℤ◌, ◌<ℤ◌, ◌≤ℤ◌, unsigned_abs, List, slice_index_or, length}
+-- For bodies: flat rows of numbers, as the code keeps them.
+use Rattle.std.specs.Prelude.{◌≡◌, ◌≢◌, ℕ, ◌-◌, ◌+◌, ◌*◌, ◌^◌, ◌<◌, ◌≤◌, ◌⊎◌, Option, None, Some, ℤ, pos, ◌-ℤ◌, ◌*ℤ◌, ◌<ℤ◌, ◌≤ℤ◌, unsigned_abs, List, length}
 use Rattle.std.specs.declared.cmp.Ordering.{Ordering}
 use Rattle.std.specs.declared.cmp.Ordering.TheVariants.{Less, Equal, Greater}
 use Rattle.std.specs.Int.{◌∣◌}
-
--- the number at an index; 0 past the end
-abbrev pub at : List ℤ → ℕ → ℤ
-at xs k = slice_index_or xs k (pos 0)
+use Rattle.kf_simplex.specs.Base.{at, deciding}
 
 abbrev pub IsNarrowNumber : ℤ → Type 0
 IsNarrowNumber z = unsigned_abs z ≤ 2 ^ 62
@@ -48,11 +45,6 @@ pub record CrossesRows (old new chosen : List ℤ) (r c i : ℕ) : Type 0 where
   pub crossed : (k : ℕ) → k < i → k ≢ r → IsCrossed (row_at old (length chosen) k) (at chosen) c (row_at new (length chosen) k) (length chosen)
   pub rest : (k x : ℕ) → i ≤ k → x < length chosen → row_at new (length chosen) k x ≡ row_at old (length chosen) k x
   pub chosen_row : (x : ℕ) → x < length chosen → row_at new (length chosen) r x ≡ row_at old (length chosen) r x
-
--- the m-th column of the list that decides: the right side, then the artificials
-abbrev pub deciding : ℕ → ℕ → ℕ → ℕ
-deciding unknowns right zero = right
-deciding unknowns right (suc m) = unknowns + m
 
 -- which of two lists of n numbers is less at their first difference
 abbrev pub IsFirstDifference : (ℕ → ℤ) → (ℕ → ℤ) → ℕ → Ordering → Type 0

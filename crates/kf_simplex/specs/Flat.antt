@@ -1,8 +1,8 @@
--- A flat table as a tableau.
+-- For bodies: a flat table as a tableau.
 use Rattle.std.specs.Prelude.{ℕ, ◌+◌, ◌*◌, ℤ, List, slice_index}
 use Rattle.kf_simplex.specs.Systems.{LinearSystem, right_column}
 use Rattle.kf_simplex.specs.Tableaus.{Tableau}
-use Rattle.kf_simplex.specs.Cells.{at}
+use Rattle.kf_simplex.specs.Base.{at}
 
 abbrev pub width : LinearSystem → ℕ
 width s = right_column s + 1

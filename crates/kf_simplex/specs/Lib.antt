@@ -1,7 +1,9 @@
+-- For bodies
 pub mod Answers
+pub mod Base
 pub mod Cells
 pub mod Flat
-pub mod RunLaws
+pub mod Laws
 pub mod Runs
 pub mod Solutions
 pub mod Systems

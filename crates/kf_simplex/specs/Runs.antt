@@ -1,15 +1,12 @@
--- The run of the simplex: from the basis of artificials to an answer, one pivot after another.
-use Rattle.std.specs.Prelude.{◌≡◌, ◌≢◌, ℕ, zero, suc, ◌+◌, ◌^◌, ◌<◌, ◌≤◌, ℤ, pos, ◌*ℤ◌, ◌<ℤ◌, ◌≤ℤ◌, unsigned_abs, List, [], ◌∷◌, length}
+-- For bodies: the run of the simplex: from the basis of artificials to an answer, one pivot after another.
+use Rattle.std.specs.Prelude.{◌≡◌, ◌≢◌, ℕ, ◌+◌, ◌^◌, ◌<◌, ◌≤◌, ℤ, pos, ◌*ℤ◌, ◌<ℤ◌, ◌≤ℤ◌, unsigned_abs, List, [], ◌∷◌, length}
+use Rattle.kf_simplex.specs.Base.{deciding}
 use Rattle.kf_simplex.specs.Systems.{LinearSystem, right_column}
 use Rattle.kf_simplex.specs.Tableaus.{Row, Tableau, IsTableau}
 
--- the columns that decide which row leaves: the right side, then the artificials in order
-abbrev pub key_column : LinearSystem → ℕ → ℕ
-key_column s zero = right_column s
-key_column s (suc m) = s.unknowns + m
-
+-- the m-th number of the list that decides which row leaves
 abbrev pub key : LinearSystem → Row → ℕ → ℤ
-key s r m = r (key_column s m)
+key s r m = r (deciding s.unknowns (right_column s) m)
 
 -- by first difference the deciding list of r over p is below that of q over a, both divisors positive
 abbrev pub IsBelow : LinearSystem → Row → ℤ → Row → ℤ → Type 0

@@ -1,6 +1,7 @@
--- Solutions of a system, and multipliers that exclude them.
+-- For bodies: solutions of a system, and multipliers that exclude them.
 use Rattle.std.specs.Prelude.{◌≡◌, ℕ, ◌<◌, ℤ, pos, ◌*ℤ◌, ◌<ℤ◌, ◌≤ℤ◌}
-use Rattle.kf_simplex.specs.Systems.{LinearSystem, total, right_column}
+use Rattle.kf_simplex.specs.Systems.{LinearSystem, right_column}
+use Rattle.kf_simplex.specs.Base.{total}
 
 -- the fractions x j / d solve every equation, and none is negative
 pub record Solves (s : LinearSystem) (x : ℕ → ℤ) (d : ℤ) : Type 0 where
@@ -15,7 +16,3 @@ pub record Refutes (s : LinearSystem) (y : ℕ → ℤ) : Type 0 where
 
 abbrev pub HasNoSolution : LinearSystem → Type 0
 HasNoSolution s = (x : ℕ → ℤ) (d : ℤ) → Solves s x d → ⊥
-
--- where such multipliers exist, no solution does
-abbrev pub WeakDuality : Type 0
-WeakDuality = (s : LinearSystem) (y : ℕ → ℤ) → Refutes s y → HasNoSolution s

@@ -1,10 +1,5 @@
--- Systems of linear equations over unknowns that must not be negative.
-use Rattle.std.specs.Prelude.{◌≡◌, ◌≢◌, ℕ, zero, suc, ◌+◌, ◌<◌, ℤ, pos, ◌+ℤ◌, ◌≤ℤ◌}
-
--- the sum of f k over the k below n
-abbrev pub total : ℕ → (ℕ → ℤ) → ℤ
-total zero f = pos 0
-total (suc n) f = total n f +ℤ f n
+-- For bodies: systems of linear equations over unknowns that must not be negative.
+use Rattle.std.specs.Prelude.{◌≡◌, ◌≢◌, ℕ, ◌+◌, ◌<◌, ℤ, pos, ◌≤ℤ◌}
 
 -- the number that each equation has at each column: first the unknowns, then one artificial column
 -- for each equation, then the right side

@@ -1,7 +1,8 @@
--- The tableau of a basis. Its numbers are whole and stated by properties alone, with no elimination.
+-- For bodies: the tableau of a basis. Its numbers are whole and stated by properties alone, with no elimination.
 use Rattle.std.specs.Prelude.{◌≡◌, ◌≢◌, ℕ, ◌+◌, ◌<◌, ◌≤◌, ℤ, pos, ◌*ℤ◌, ◌<ℤ◌, unsigned_abs}
 use Rattle.std.specs.Int.{◌∣◌}
-use Rattle.kf_simplex.specs.Systems.{LinearSystem, total, right_column}
+use Rattle.kf_simplex.specs.Systems.{LinearSystem, right_column}
+use Rattle.kf_simplex.specs.Base.{total}
 
 -- a list of numbers, one for each column
 abbrev pub Row : Type 0

@@ -1,4 +1,4 @@
--- One turn of a run on a flat table.
+-- For bodies: one turn of a run on a flat table.
 use Rattle.std.specs.Prelude.{◌≡◌, ℕ, ◌<◌, ℤ, pos, List, length, ◌∷◌}
 use Rattle.kf_simplex.specs.Systems.{LinearSystem}
 use Rattle.kf_simplex.specs.Tableaus.{Tableau}

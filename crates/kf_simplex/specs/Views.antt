@@ -1,9 +1,9 @@
--- A `System` as a system of equations.
+-- For bodies: a `System` as a system of equations.
 use Rattle.std.specs.Prelude.{ℕ, ◌+◌, ◌==◌, nat_lt, ℤ, pos, List, [], map, length, slice_index_or, if◌then◌else◌}
 use Rattle.kf_simplex.specs.declared.system.Equation.{Equation}
 use Rattle.kf_simplex.specs.declared.system.System.{System}
 use Rattle.kf_simplex.specs.Systems.{LinearSystem}
-use Rattle.kf_simplex.specs.Cells.{at}
+use Rattle.kf_simplex.specs.Base.{at}
 
 -- the coefficients of the k-th equation
 abbrev pub coefficients : List Equation → ℕ → List ℤ

@@ -1,7 +1,6 @@
 ghost use Rattle.std.specs.Prelude.{◌≡◌, ℕ, ◌+◌, ◌*◌, ◌<◌, ◌≤◌, ◌^◌, ◌+ℤ◌, pos, length, slice_index, unsigned_abs, IfOk};
 ghost use Rattle.std.specs.List.{All};
-ghost use Rattle.kf_simplex.specs.Cells.{at};
-ghost use Rattle.kf_simplex.specs.Systems.{total};
+ghost use Rattle.kf_simplex.specs.Base.{at, total};
 ghost use Rattle.kf_simplex.specs.Turns.{InRun};
 ghost use Rattle.kf_simplex.specs.Views.{coefficients, entry, linear, number_at, right_side};
 

@@ -1,6 +1,5 @@
 //! Laws of the definitions, each a clause of a function that does nothing.
-ghost use Rattle.kf_simplex.specs.RunLaws.{NoRunIsLong, NoRunReturns, OneAnswer};
-ghost use Rattle.kf_simplex.specs.Solutions.{WeakDuality};
+ghost use Rattle.kf_simplex.specs.Laws.{EveryRunEnds, SomeAnswer, NoRunIsLong, NoRunReturns, OneAnswer, WeakDuality};
 
 /// Where multipliers exist, no solution without negative entries does.
 pub fn weak_duality()
@@ -20,4 +19,10 @@ pub fn no_run_is_long()
 /// A run ends after one number of pivots, at one tableau and for one cause.
 pub fn one_answer()
     ensures { OneAnswer }
+{}
+
+/// Every run ends, and has an answer besides want of memory.
+pub fn every_run_ends()
+    ensures run { EveryRunEnds }
+    ensures answer { SomeAnswer }
 {}

@@ -1,6 +1,7 @@
 ghost use Rattle.std.specs.Prelude.{◌≡◌, ◌≢◌, ℕ, ◌+◌, ◌-◌, ◌*◌, ◌<◌, ◌≤◌, ◌^◌, ◌↔◌, ℤ, pos, ◌+ℤ◌, ◌-ℤ◌, ◌*ℤ◌, ◌<ℤ◌, ◌≤ℤ◌, unsigned_abs, length, IsTrue, EachIndex};
 ghost use Rattle.std.specs.Int.{◌∣◌};
-ghost use Rattle.kf_simplex.specs.Cells.{at, IsNarrowNumber, AllNarrow, AllBelow, IsCommonGcd, IsReduced, IsCrossed, CrossesAt, CrossesRows, IsFirstDifference, scaled_key, deciding};
+ghost use Rattle.kf_simplex.specs.Cells.{IsNarrowNumber, AllNarrow, AllBelow, IsCommonGcd, IsReduced, IsCrossed, CrossesAt, CrossesRows, IsFirstDifference, scaled_key};
+ghost use Rattle.kf_simplex.specs.Base.{at, deciding};
 
 use kf_frac::gcd;
 use std::cmp::Ordering;

@@ -1,6 +1,6 @@
 ghost use Rattle.std.specs.Prelude.{◌≡◌, ◌≢◌, ◌+◌, ◌*◌, ◌≤◌, length, IfOk, Err};
 ghost use Rattle.kf_simplex.specs.Answers.{IsAnswer, IsRight};
-ghost use Rattle.kf_simplex.specs.RunLaws.{ways};
+ghost use Rattle.kf_simplex.specs.Laws.{ways};
 ghost use Rattle.kf_simplex.specs.Views.{linear};
 
 use crate::building::first_table;

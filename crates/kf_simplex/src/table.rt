@@ -1,5 +1,6 @@
 ghost use Rattle.std.specs.Prelude.{◌≡◌, ℕ, ◌+◌, ◌*◌, ◌-◌, ◌<◌, length, slice_set, slice_range, ℤ, IsTrue, ◌↔◌};
-ghost use Rattle.kf_simplex.specs.Cells.{AllNarrow, CrossesRows, IsFirstDifference, key_at, IsLeaving, IsEntering, at};
+ghost use Rattle.kf_simplex.specs.Cells.{AllNarrow, CrossesRows, IsFirstDifference, key_at, IsLeaving, IsEntering};
+ghost use Rattle.kf_simplex.specs.Base.{at};
 ghost use Rattle.kf_simplex.specs.Systems.{IsSystem};
 ghost use Rattle.kf_simplex.specs.Runs.{Ends};
 ghost use Rattle.kf_simplex.specs.Flat.{tableau_of};

@@ -7,7 +7,8 @@ use Rattle.kf_core.specs.Dxs.{DxTree}
 use Rattle.kf_core.specs.Sts.{StTree, StTrees, Skip, Assign, Observe, If, While, no_sts, more_sts, sts}
 use Rattle.kf_core.specs.Programs.{ProgramTree}
 use Rattle.kf_core.specs.Runs.{Run, tried, place, chain, assigned, runs, all_runs, declared, copied}
-use Rattle.kf_core.specs.Support.{then_pass, assign_pass, pass, all_pass, declare_pass, program_pass}
+use Rattle.kf_core.specs.Results.{then_ok}
+use Rattle.kf_core.specs.Support.{assign_pass, pass, all_pass, declare_pass, program_pass}
 use Rattle.kf_core.proofs.Scales.{weighty}
 use Rattle.kf_support.specs.Carried.{carry_step, assign_lead, carry, carry_all, carry_decls, copy_lead, carry_program}
 use Rattle.kf_support.proofs.Following.{Told, Carries, stay_carries, chain_carries}
@@ -44,7 +45,7 @@ module _ (shares : ChoicesAreShares) where
 
   pub program_carries : (turns : ℕ) (p : ProgramTree) → Told (program_pass turns p) (runs_from turns p) ((0, 1) ∷ []) (carry_program turns p)
   program_carries turns p =
-      chain_carries (carry_decls p.types 0 p.decls) (λ es. then_pass (carry_step (copy_lead p) [] es) (carry_all p.types turns (sts p.body)))
+      chain_carries (carry_decls p.types 0 p.decls) (λ es. then_ok (carry_step (copy_lead p) [] es) (carry_all p.types turns (sts p.body)))
       (declare_pass p.types 0 p.decls) (λ ns. all_pass p.types turns (sts p.body) (from_list (map (copied p) (items ns))))
       (declared p.types 0 p.decls) (λ n. all_runs p.types turns (sts p.body) (copied p n))
       (decls_carry p.types 0 p.decls)

@@ -1,60 +1,20 @@
 -- The store with the carried copies set, one after the other.
-use Rattle.std.proofs.Common.{◌≡◌, ℕ, zero, suc, ◌+◌, ◌<◌, ◌≤◌, List, [], ◌∷◌, ◌++◌, length, map, take, drop, get_or, slice_get, slice_set, Option, Some, None, Result, IfOk, refl, sym, ap, ◌∙◌, subst, arith, append_assoc}
+use Rattle.std.proofs.Common.{◌≡◌, ℕ, zero, suc, ◌+◌, ◌<◌, ◌≤◌, List, [], ◌∷◌, ◌++◌, length, map, take, drop, get_or, slice_get, slice_set, Option, Some, None, refl, sym, ap, ◌∙◌, arith, append_assoc}
 use Rattle.std.proofs.Math.Seq.{set-append_seam}
-use Rattle.std.proofs.lemmas.List.{length-map, get_or_append_left, get_or-take, take-append-drop, length_push, length-take-le, length-drop}
-use Rattle.std.proofs.lemmas.Bool.{and_parts}
-use Rattle.std.proofs.lemmas.Option.{slice_get-map, slice_get-get_or, get_or_from_slice_get}
-use Rattle.std.proofs.lemmas.List.Elements.{recursion_from_All}
-use Rattle.std.specs.Prelude.{slice_index, IsTrue, Bool, true, false}
-use Rattle.std.specs.Option.{option_map}
-use Rattle.std.specs.List.{AllByRecursion as Each, list_all}
+use Rattle.std.proofs.lemmas.List.{get_or_append_left, get_or-take, take-append-drop, length_push, length-take-le, length-drop}
+use Rattle.std.proofs.lemmas.Option.{slice_get-get_or, get_or_from_slice_get}
+use Rattle.std.specs.Prelude.{false}
+use Rattle.std.specs.List.{AllByRecursion as Each}
 use Rattle.kf_value.specs.Values.{ValueTree, Truth}
-use Rattle.kf_value.specs.Types.{TypeTree, Boolean, type_tree, count, fault_of, product, values, well_formed, HasSize, HasNumber}
-use Rattle.kf_value.specs.Shapes.{shape_types, shape_sizes}
-use Rattle.kf_value.specs.Stores.{IsStore}
-use Rattle.kf_value.specs.Views.{value_tree, type_items, type_trees}
-use Rattle.kf_value.specs.declared.shape.Shape.{Shape}
-use Rattle.kf_value.specs.declared.ty.Ty.{Ty}
-use Rattle.kf_value.specs.declared.ty.TyList.{TyList}
-use Rattle.kf_value.specs.declared.value.Value.{Value}
-use Rattle.kf_value.proofs.ListLemmas.{each_at, mapped_read}
+use Rattle.kf_value.specs.Types.{TypeTree, Boolean, count, product}
+use Rattle.kf_value.specs.Sizes.{HasNumber}
+use Rattle.kf_value.specs.Numbers.{IsStore}
 use Rattle.kf_core.specs.Checked.{IsChecked}
 use Rattle.kf_core.specs.Programs.{ProgramTree}
 use Rattle.kf_core.specs.Runs.{store_at, store_number, carried, copied}
-use Rattle.kf_support.proofs.Stores.{store_is, store_of, store_value, store_number_is, length-store}
+use Rattle.kf_core.proofs.Stores.{store_is, store_of, store_value, store_number_is, length-store}
 
 -- ---- a variable's value
-
-all_at : {X : Type 0} (p : X → Bool) (xs : List X) (i : ℕ) (x : X) → list_all p xs ≡ true → slice_get xs i ≡ Some x → p x ≡ true
-all_at p [] i x all at = (cc)
-all_at p (y ∷ xs) zero x all at =
-    let same : y ≡ x = (cc) in
-    subst (λ z. p z ≡ true) same (and_parts (p y) (list_all p xs) all).0
-all_at p (y ∷ xs) (suc i) x all at = all_at p xs i x (and_parts (p y) (list_all p xs) all).1 at
-
-module _ (shape : Shape) (list : TyList) (read : List Ty) (i : ℕ) (x : Ty) (same : type_trees list ≡ shape_types shape) (is : read ≡ type_items list)
-    (within : i < length (shape_types shape)) (at : x ≡ get_or read i x) where
-  pub type_at : slice_get (shape_types shape) i ≡ Some (type_tree x)
-  type_at =
-      let listed : map type_tree read ≡ shape_types shape = ap (map type_tree) is ∙ same in
-      let long : i < length read = rw (← length-map read type_tree, listed) within in
-      ap (λ ts. slice_get ts i) (sym listed) ∙ mapped_read type_tree read i x long at
-
-  pub type_sized : HasSize (type_tree x)
-  type_sized = each_at (λ t. fault_of t ≡ None) (shape_types shape) i (type_tree x) (recursion_from_All (λ t. fault_of t ≡ None) (shape_types shape) shape.sized) type_at
-
-  pub type_formed : IsTrue (well_formed (type_tree x))
-  type_formed = all_at well_formed (shape_types shape) i (type_tree x) shape.formed type_at
-
-  pub size_at : slice_index (shape_sizes shape) i ≡ count (type_tree x)
-  size_at = get_or_from_slice_get (shape_sizes shape) i (count (type_tree x)) 0
-      (slice_get-map count (shape_types shape) i ∙ ap (option_map count) type_at)
-
-  pub value_found : {E : Type 0} (n k : ℕ) (r : Result Value E) → n < product (shape_sizes shape)
-      → ((t : TypeTree) (s : List ValueTree) → slice_get (shape_types shape) i ≡ Some t → IsStore (shape_types shape) n s → slice_get s i ≡ slice_get (values t) k)
-      → IfOk r (λ v. slice_get (values (type_tree x)) k ≡ Some (value_tree v)) → IfOk r (λ v. slice_get (store_at (shape_types shape) n) i ≡ Some (value_tree v))
-  value_found n k r below digit found =
-      subst (λ o. IfOk r (λ v. o ≡ Some (value_tree v))) (sym (digit (type_tree x) (store_at (shape_types shape) n) type_at (store_is (shape_types shape) n below))) found
 
 -- a value of a variable is one of each variable of its type
 pub fits_type : (ts : List TypeTree) (n i j : ℕ) (v : ValueTree) → n < product (map count ts) → j < length ts → slice_get ts j ≡ slice_get ts i → slice_get (store_at ts n) i ≡ Some v

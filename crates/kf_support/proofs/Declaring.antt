@@ -1,45 +1,22 @@
 -- What the pass over a program comes to, declaration by declaration.
-use Rattle.std.proofs.Common.{◌≡◌, ℕ, suc, ◌+◌, ◌<◌, ◌≤◌, List, [], ◌∷◌, length, map, drop, get_or, slice_get, Some, Ok, refl, sym, ap, ◌∙◌, subst, arith}
-use Rattle.std.specs.Option.{option_map}
+use Rattle.std.proofs.Common.{◌≡◌, ℕ, suc, ◌+◌, ◌<◌, ◌≤◌, List, [], ◌∷◌, length, map, drop, get_or, Ok, refl, sym, ap, ◌∙◌, subst, arith}
 use Rattle.std.specs.Ordering.{nat_cmp}
 use Rattle.std.specs.BTreeMap.{insert_entry}
-use Rattle.std.proofs.lemmas.List.{length-map}
-use Rattle.std.proofs.lemmas.Option.{slice_get-map, slice_get-get_or}
-use Rattle.kf_value.specs.Kinds.{KindTree}
-use Rattle.kf_value.specs.Types.{Boolean}
 use Rattle.kf_value.specs.Shapes.{shape_types}
 use Rattle.kf_value.proofs.ListLemmas.{left_step, left_end}
 use Rattle.kf_core.specs.declared.dx.Dx.{Dx}
 use Rattle.kf_core.specs.declared.program.Program.{Program}
 use Rattle.kf_core.specs.declared.st.St.{St}
-use Rattle.kf_core.specs.Dxs.{DxTree, dx_tree, dx_items}
-use Rattle.kf_core.specs.Sts.{sts, st_tree, st_items}
-use Rattle.kf_core.specs.Programs.{program_tree}
-use Rattle.kf_core.specs.Checked.{DistKinded, AreSound, IsChecked, kind_of}
-use Rattle.kf_core.specs.Support.{Passed, then_pass}
-use Rattle.kf_core.proofs.Wider.{checked_decl, checked_body}
-use Rattle.kf_eval.specs.Kinds.{shape_kinds}
+use Rattle.kf_core.specs.Dxs.{DxTree}
+use Rattle.kf_core.specs.Views.{dx_tree, dx_items, st_tree, st_items, program_tree}
+use Rattle.kf_core.specs.Sts.{sts}
+use Rattle.kf_core.specs.Results.{then_ok}
+use Rattle.kf_core.specs.Support.{Passed}
 use Rattle.kf_support.specs.declared.faults.Halt.{Halt}
 use Rattle.kf_support.specs.Answers.{IsHaltOf}
 use Rattle.kf_support.specs.Carried.{Reached, carry_step, assign_lead, copy_lead, carry_all, carry_decls, carry_program}
 use Rattle.kf_support.proofs.Passing.{halts, halts_as, goes_on, AreIts}
 use Rattle.kf_support.proofs.FirstStore.{first_store}
-
-module _ (program : Program) (checked : IsChecked (program_tree program)) where
-  pub decl_kinded : (xs : List Dx) (i : ℕ) (x : Dx) → xs ≡ dx_items program.decls → i < length xs → x ≡ get_or xs i x → (k : KindTree) × DistKinded (shape_kinds program.shape) (dx_tree x) k
-  decl_kinded xs i x all within read =
-      let ts = shape_types program.shape in
-      let here : slice_get xs i ≡ Some x = slice_get-get_or xs i x within ∙ ap (λ y. Some y) (sym read) in
-      let decl : slice_get (map dx_tree (dx_items program.decls)) i ≡ Some (dx_tree x) =
-      ap (λ ys. slice_get (map dx_tree ys) i) (sym all) ∙ (slice_get-map dx_tree xs i ∙ ap (option_map dx_tree) here) in
-      let long = length-map (dx_items program.decls) dx_tree in
-      let counted = checked.counted in
-      let same : length xs ≡ length (dx_items program.decls) = ap length all in
-      let t = get_or ts i Boolean in
-      (kind_of t, checked_decl (program_tree program) checked i (dx_tree x) t decl (slice_get-get_or ts i Boolean (omega arith)))
-
-  pub whole_sound : (us : List St) → us ≡ st_items program.body → AreSound (shape_kinds program.shape) (map st_tree us)
-  whole_sound us same = subst (λ vs. AreSound (shape_kinds program.shape) (map st_tree vs)) (sym same) (checked_body (program_tree program) checked)
 
 module _ (program : Program) (turns : ℕ) where
   abbrev whole : Passed Reached
@@ -52,7 +29,7 @@ module _ (program : Program) (turns : ℕ) where
   copies es = carry_step (copy_lead (program_tree program)) [] es
 
   abbrev behind : Reached → Passed Reached
-  behind es = then_pass (copies es) body_leads
+  behind es = then_ok (copies es) body_leads
 
   abbrev assigns : ℕ → Dx → Reached → Passed Reached
   assigns i x es = carry_step (assign_lead (shape_types program.shape) i (dx_tree x)) [] es
@@ -62,7 +39,7 @@ module _ (program : Program) (turns : ℕ) where
 
   -- the declarations from this one on are left
   pub record DeclsSoFar (i : ℕ) (es : Reached) : Type 0 where
-    pub same : whole ≡ then_pass (decls_from i (map dx_tree (drop i (dx_items program.decls))) es) behind
+    pub same : whole ≡ then_ok (decls_from i (map dx_tree (drop i (dx_items program.decls))) es) behind
     pub ways : AreIts program.shape turns es
 
   pub decls_start : (none es : Reached) → none ≡ [] → es ≡ insert_entry nat_cmp none 0 1 → DeclsSoFar 0 es
@@ -75,19 +52,19 @@ module _ (program : Program) (turns : ℕ) where
       abbrev later : Reached → Passed Reached
       later fs = decls_from (suc i) (map dx_tree (drop (i + 1) (dx_items program.decls))) fs
 
-      one_more : whole ≡ then_pass (then_pass (assigns i x es) later) behind
+      one_more : whole ≡ then_ok (then_ok (assigns i x es) later) behind
       one_more =
           let left = subst (λ ys. map dx_tree (drop i ys) ≡ dx_tree x ∷ map dx_tree (drop (i + 1) ys)) all (left_step dx_tree xs i x within read) in
-          before.same ∙ ap (λ ds. then_pass (decls_from i ds es) behind) left
+          before.same ∙ ap (λ ds. then_ok (decls_from i ds es) behind) left
 
       pub decl_fails : (e : Halt) → IsHaltOf (assigns i x es) e → IsHaltOf whole e
-      decl_fails e h = halts_as whole (then_pass (then_pass (assigns i x es) later) behind) e one_more (halts (then_pass (assigns i x es) later) behind e (halts (assigns i x es) later e h))
+      decl_fails e h = halts_as whole (then_ok (then_ok (assigns i x es) later) behind) e one_more (halts (then_ok (assigns i x es) later) behind e (halts (assigns i x es) later e h))
 
       pub decl_done : (fs : Reached) → assigns i x es ≡ Ok fs → AreIts program.shape turns fs → DeclsSoFar (i + 1) fs
       decl_done fs is ways =
           let next : suc i ≡ i + 1 = omega arith in
           record {
-            same = one_more ∙ (ap (λ r. then_pass r behind) (goes_on (assigns i x es) later fs is) ∙ ap (λ j. then_pass (decls_from j (map dx_tree (drop (i + 1) (dx_items program.decls))) fs) behind) next);
+            same = one_more ∙ (ap (λ r. then_ok r behind) (goes_on (assigns i x es) later fs is) ∙ ap (λ j. then_ok (decls_from j (map dx_tree (drop (i + 1) (dx_items program.decls))) fs) behind) next);
             ways = ways;
           }
 
@@ -95,7 +72,7 @@ module _ (program : Program) (turns : ℕ) where
       all_declared : whole ≡ behind es
       all_declared =
           let left = subst (λ ys. map dx_tree (drop i ys) ≡ []) all (left_end dx_tree xs i past) in
-          before.same ∙ ap (λ ds. then_pass (decls_from i ds es) behind) left
+          before.same ∙ ap (λ ds. then_ok (decls_from i ds es) behind) left
 
       pub copy_fails : (e : Halt) → IsHaltOf (copies es) e → IsHaltOf whole e
       copy_fails e h = halts_as whole (behind es) e all_declared (halts (copies es) body_leads e h)

@@ -4,7 +4,8 @@ use Rattle.std.specs.Prelude.{◌^◌}
 use Rattle.std.specs.Int.{◌∣◌}
 use Rattle.std.proofs.Math.Nat.{mul-div_cancel', dvd-mul_right, dvd-mul_left, dvd_of_mul-dvd-mul_left, mul-dvd-mul_left, mul-dvd-mul_right, mul_comm, zero-mul, mul-zero, min-eq_left, min-eq_right, min-le_right, eq-zero_of_zero-dvd}
 use Rattle.std.proofs.lemmas.Nat.Gcd.{dvd_trans, dvd_refl, dvd_antisymm, le_of_dvd}
-use Rattle.kf_frac.specs.Divisors.{IsLcm, lcm_of, first_multiple}
+use Rattle.kf_frac.specs.Divisors.{lcm_of, first_multiple}
+use Rattle.kf_frac.specs.Laws.{IsLcm}
 use Rattle.kf_frac.proofs.CommonMultiples.{lcm_is}
 use Rattle.kf_core.proofs.Scales.{lcm_divides}
 use Rattle.kf_support.specs.Carried.{capped}

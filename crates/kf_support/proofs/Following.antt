@@ -4,7 +4,8 @@ use Rattle.std.specs.List.{AllByRecursion as Each}
 use Rattle.std.specs.FinSet.{from_list}
 use Rattle.std.specs.Map.{keys_of}
 use Rattle.kf_core.specs.Runs.{Run, stay, chain}
-use Rattle.kf_core.specs.Support.{StoreSet, Passed, then_pass, each_pass, step}
+use Rattle.kf_core.specs.Results.{then_ok}
+use Rattle.kf_core.specs.Support.{StoreSet, Passed, each_pass, step}
 use Rattle.kf_support.specs.Carried.{Reached, Lead, capped, with_ways, carry_step}
 use Rattle.kf_support.proofs.Dividing.{bound}
 use Rattle.kf_support.proofs.Placing.{through, back, beside, each_same, each_same_where, Good, Nice, Fits, Led, Works, Positive, Lands, Stepped, stepped, good_positive}
@@ -20,7 +21,7 @@ SameFault (Err f) (Ok y) = ⊥
 SameFault (Err f) (Err g) = f ≡ g
 
 module _ {A B C : Type 0} (turn : B → C) where
-  fault_kept : (p : Passed A) (q : Passed B) → SameFault p q → SameFault p (then_pass q (λ x. Ok (turn x)))
+  fault_kept : (p : Passed A) (q : Passed B) → SameFault p q → SameFault p (then_ok q (λ x. Ok (turn x)))
   fault_kept (Ok x) (Ok y) h = tt
   fault_kept (Ok x) (Err g) h = h
   fault_kept (Err f) (Ok y) h = h
@@ -28,7 +29,7 @@ module _ {A B C : Type 0} (turn : B → C) where
 
 module _ (lead : Lead) (next : ℕ → Passed (List ℕ)) (same : (n : ℕ) → SameFault (lead n) (next n)) where
   faults_past : (acc es : Reached) (e : ℕ × ℕ) (x : Led) (y : Passed (List ℕ)) → SameFault x y → ((acc : Reached) → SameFault (carry_step lead acc es) (each_pass next (keys_of es)))
-      → SameFault (then_pass x (λ to. carry_step lead (with_ways acc to.0 (capped (e.1 * to.1))) es)) (then_pass y (λ ms. then_pass (each_pass next (keys_of es)) (λ others. Ok (ms ++ others))))
+      → SameFault (then_ok x (λ to. carry_step lead (with_ways acc to.0 (capped (e.1 * to.1))) es)) (then_ok y (λ ms. then_ok (each_pass next (keys_of es)) (λ others. Ok (ms ++ others))))
   faults_past acc es e (Ok to) (Ok ms) h later =
       let further = with_ways acc to.0 (capped (e.1 * to.1)) in
       fault_kept (λ others. ms ++ others) (carry_step lead further es) (each_pass next (keys_of es)) (later further)
@@ -60,7 +61,7 @@ module _ (lead : Lead) (next : ℕ → Passed (List ℕ)) (same : (n : ℕ) → 
   SparedPast x v es (Err f) = Unit {0}
 
   spared_past : (es : Reached) (v : ℕ) (x : Led) (y q : Passed (List ℕ)) → SameFault x y → Alike m x y → Spared es q
-      → SparedPast x v es (then_pass y (λ ms. then_pass q (λ others. Ok (ms ++ others))))
+      → SparedPast x v es (then_ok y (λ ms. then_ok q (λ others. Ok (ms ++ others))))
   spared_past es v (Ok to) (Ok ms) (Ok others) h like later = λ w. through (each_joined (λ n. nat_eq n m ≡ false) ms others) (beside (back like) (later w.1))
   spared_past es v (Ok to) (Ok ms) (Err f) h like later = tt
   spared_past es v (Ok to) (Err g) q h like later = tt
@@ -74,7 +75,7 @@ module _ (lead : Lead) (next : ℕ → Passed (List ℕ)) (same : (n : ℕ) → 
   pub spared : (es : Reached) → Spared es (each_pass next (keys_of es))
   spared [] = λ w. (λ h. tt, λ h. tt)
   spared (e ∷ es) =
-      spared_more es e (then_pass (next e.0) (λ ms. then_pass (each_pass next (keys_of es)) (λ others. Ok (ms ++ others))))
+      spared_more es e (then_ok (next e.0) (λ ms. then_ok (each_pass next (keys_of es)) (λ others. Ok (ms ++ others))))
       (spared_past es e.1 (lead e.0) (next e.0) (each_pass next (keys_of es)) (same e.0) (alike e.0) (spared es))
 
 -- ---- following
@@ -105,19 +106,19 @@ module _ (g : StoreSet → Passed StoreSet) (a b : ℕ → List Run) (es fs : Re
   told_behind (Err f) h = h
 
 module _ (f f' : Reached → Passed Reached) (g g' : StoreSet → Passed StoreSet) (a b : ℕ → List Run) (one : Carries f g a) (other : Carries f' g' b) where
-  told_chain : (es : Reached) (r : Passed Reached) (p : Passed StoreSet) → Told p a es r → Told (then_pass p g') (λ n. chain (a n) b) es (then_pass r f')
+  told_chain : (es : Reached) (r : Passed Reached) (p : Passed StoreSet) → Told p a es r → Told (then_ok p g') (λ n. chain (a n) b) es (then_ok r f')
   told_chain es (Ok fs) p h =
-      subst (λ (p : Passed StoreSet). Told (then_pass p g') (λ n. chain (a n) b) es (f' fs)) (sym h.1)
+      subst (λ (p : Passed StoreSet). Told (then_ok p g') (λ n. chain (a n) b) es (f' fs)) (sym h.1)
       (told_behind g' a b es fs h.2 (f' fs) (other fs h.0))
-  told_chain es (Err x) p h = (ap (λ (p : Passed StoreSet). then_pass p g') h.0, tt)
+  told_chain es (Err x) p h = (ap (λ (p : Passed StoreSet). then_ok p g') h.0, tt)
 
-  pub chain_carries : Carries (λ es. then_pass (f es) f') (λ ns. then_pass (g ns) g') (λ n. chain (a n) b)
+  pub chain_carries : Carries (λ es. then_ok (f es) f') (λ ns. then_ok (g ns) g') (λ n. chain (a n) b)
   chain_carries es good = told_chain es (f es) (g (set_of es)) (one es good)
 
 -- ---- steps
 
-pub step_is : (next : ℕ → Passed (List ℕ)) (es : Reached) → Good es → step next (set_of es) ≡ then_pass (each_pass next (keys_of es)) (λ ms. Ok (from_list ms))
-step_is next es good = let e = in_order es good in λ i. then_pass (each_pass next (e i)) (λ ms. Ok (from_list ms))
+pub step_is : (next : ℕ → Passed (List ℕ)) (es : Reached) → Good es → step next (set_of es) ≡ then_ok (each_pass next (keys_of es)) (λ ms. Ok (from_list ms))
+step_is next es good = let e = in_order es good in λ i. then_ok (each_pass next (e i)) (λ ms. Ok (from_list ms))
 
 pub alone : {A : Type 0} → (Unit {0} × A) ↔ A
 alone = (λ h. h.1, λ h. (tt, h))
@@ -126,7 +127,7 @@ module _ (lead : Lead) (next : ℕ → Passed (List ℕ)) (from : ℕ → List R
     (positive : (n : ℕ) → Positive (lead n)) (same : (n : ℕ) → SameFault (lead n) (next n)) (alike : (n m : ℕ) → Alike m (lead n) (next n))
     (leads : (k : ℕ) (Q : ℕ → ℕ → Type 0) (n v : ℕ) → Works (lead n) → Leads k Q (from n) v ↔ Lands (lead n) Q v) where
   told_step : (es : Reached) (r : Passed Reached) (q : Passed (List ℕ)) → Stepped lead [] es r → SameFault r q → ((m : ℕ) → Spared lead next same m (λ n. alike n m) es q)
-      → Told (then_pass q (λ ms. Ok (from_list ms))) from es r
+      → Told (then_ok q (λ ms. Ok (from_list ms))) from es r
   told_step es (Ok fs) (Ok ms) h faults spares = (
     h.0,
     (let e = same_stores in λ i. Ok (e i)),

@@ -9,7 +9,8 @@ use Rattle.std.proofs.lemmas.List.Sums.{sum_by-cons}
 use Rattle.kf_value.proofs.ListLemmas.{each_any}
 use Rattle.kf_core.specs.Choices.{Weighted, total}
 use Rattle.kf_core.specs.Runs.{Run, Tried, guarded}
-use Rattle.kf_core.specs.Support.{StoreSet, Passed, then_pass, each_pass, same, can_be, where_guard, either_pass, guard_pass}
+use Rattle.kf_core.specs.Results.{then_ok}
+use Rattle.kf_core.specs.Support.{StoreSet, Passed, each_pass, same, can_be, where_guard, either_pass, guard_pass}
 use Rattle.kf_core.proofs.Scales.{Weighty}
 use Rattle.kf_support.specs.Carried.{Reached, with_all, carry_step, guard_lead}
 use Rattle.kf_support.proofs.Placing.{through, back, beside, each_same, each_pair, each_same_where, Good, Fits, Works, Positive, Lands, Stepped, stepped, good_positive, all_good, all_fit}
@@ -113,7 +114,7 @@ module _ (guard : ℕ → Tried) (weighty : (n : ℕ) → Weighty (guard n)) whe
 
     module _ (on off : Reached) (h : Stepped (guard_lead true guard) [] es (Ok on)) (h' : Stepped (guard_lead false guard) [] es (Ok off)) where
       both_sides : (x y : Passed Reached) (p q : Passed StoreSet) → Told p a on x → Told q b off y
-          → Told (either_pass p q) From es (then_pass x (λ one. then_pass y (λ other. Ok (with_all one other))))
+          → Told (either_pass p q) From es (then_ok x (λ one. then_ok y (λ other. Ok (with_all one other))))
       both_sides (Ok one) (Ok other) p q t u = (
         all_good one other t.0 (good_positive other u.0),
         (let l = t.1 in let r = u.1 in λ i. either_pass (l i) (r i)) ∙ (let e = joined in λ i. Ok (e i)),
@@ -132,15 +133,15 @@ module _ (guard : ℕ → Tried) (weighty : (n : ℕ) → Weighty (guard n)) whe
       both_sides (Err e) y p q t u = ((let l = t.0 in λ i. either_pass (l i) q), tt)
 
       on_off : Told (either_pass (g (where_guard true guard (set_of es))) (g' (where_guard false guard (set_of es)))) From es
-          (then_pass (f on) (λ one. then_pass (f' off) (λ other. Ok (with_all one other))))
+          (then_ok (f on) (λ one. then_ok (f' off) (λ other. Ok (with_all one other))))
       on_off =
           both_sides (f on) (f' off) (g (where_guard true guard (set_of es))) (g' (where_guard false guard (set_of es)))
           (subst (λ (ns : StoreSet). Told (g ns) a on (f on)) (guard_set true guard es on h) (taken on h.0))
           (subst (λ (ns : StoreSet). Told (g' ns) b off (f' off)) (guard_set false guard es off h') (left off h'.0))
 
     told_guard : (x y : Passed Reached) (q : Passed (List ℕ)) → Stepped (guard_lead true guard) [] es x → Stepped (guard_lead false guard) [] es y → SameFault x q → SameFault y q
-        → Told (then_pass (then_pass q (λ ms. Ok (from_list ms))) (λ (ns : StoreSet). either_pass (g (where_guard true guard (set_of es))) (g' (where_guard false guard (set_of es))))) From es
-        (then_pass x (λ on. then_pass y (λ off. then_pass (f on) (λ one. then_pass (f' off) (λ other. Ok (with_all one other))))))
+        → Told (then_ok (then_ok q (λ ms. Ok (from_list ms))) (λ (ns : StoreSet). either_pass (g (where_guard true guard (set_of es))) (g' (where_guard false guard (set_of es))))) From es
+        (then_ok x (λ on. then_ok y (λ off. then_ok (f on) (λ one. then_ok (f' off) (λ other. Ok (with_all one other))))))
     told_guard (Ok on) (Ok off) (Ok ms) h h' s s' = on_off on off h h'
     told_guard (Ok on) (Err e) (Ok ms) h h' s s' = absurd s'
     told_guard (Ok on) y (Err e) h h' s s' = absurd s
@@ -148,10 +149,10 @@ module _ (guard : ℕ → Tried) (weighty : (n : ℕ) → Weighty (guard n)) whe
     told_guard (Err e) y (Err e') h h' s s' = (λ i. Err (sym s i), tt)
 
     pub guard_told : Good es → Told (guard_pass guard g g' (set_of es)) From es
-        (then_pass (carry_step (guard_lead true guard) [] es) (λ on. then_pass (carry_step (guard_lead false guard) [] es) (λ off. then_pass (f on) (λ one. then_pass (f' off) (λ other. Ok (with_all one other))))))
+        (then_ok (carry_step (guard_lead true guard) [] es) (λ on. then_ok (carry_step (guard_lead false guard) [] es) (λ off. then_ok (f on) (λ one. then_ok (f' off) (λ other. Ok (with_all one other))))))
     guard_told good =
-        subst (λ (p : Passed StoreSet). Told (then_pass p (λ (ns : StoreSet). either_pass (g (where_guard true guard (set_of es))) (g' (where_guard false guard (set_of es))))) From es
-        (then_pass (carry_step (guard_lead true guard) [] es) (λ on. then_pass (carry_step (guard_lead false guard) [] es) (λ off. then_pass (f on) (λ one. then_pass (f' off) (λ other. Ok (with_all one other)))))))
+        subst (λ (p : Passed StoreSet). Told (then_ok p (λ (ns : StoreSet). either_pass (g (where_guard true guard (set_of es))) (g' (where_guard false guard (set_of es))))) From es
+        (then_ok (carry_step (guard_lead true guard) [] es) (λ on. then_ok (carry_step (guard_lead false guard) [] es) (λ off. then_ok (f on) (λ one. then_ok (f' off) (λ other. Ok (with_all one other)))))))
         (sym (step_is (λ n. same n (guard n)) es good))
         (told_guard (carry_step (guard_lead true guard) [] es) (carry_step (guard_lead false guard) [] es) (each_pass (λ n. same n (guard n)) (keys_of es))
         (guard_stepped true [] es tt good) (guard_stepped false [] es tt good) (guard_step_faults true [] es) (guard_step_faults false [] es))

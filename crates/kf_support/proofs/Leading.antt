@@ -7,7 +7,8 @@ use Rattle.std.proofs.Math.Nat.{mul_assoc}
 use Rattle.kf_value.specs.Values.{ValueTree}
 use Rattle.kf_core.specs.Choices.{Weighted, total}
 use Rattle.kf_core.specs.Runs.{Run, Halted, Tried, joined, onward, chain, choice_run, branched, stay, shown}
-use Rattle.kf_core.specs.Support.{can_be, then_pass}
+use Rattle.kf_core.specs.Results.{then_ok}
+use Rattle.kf_core.specs.Support.{can_be}
 use Rattle.kf_core.proofs.RunEnds.{side}
 use Rattle.kf_support.specs.Carried.{capped}
 use Rattle.kf_support.proofs.Dividing.{bound, lcm_splits, capped_same}
@@ -129,7 +130,7 @@ stays_if P n false = (λ h e. absurd (true≢false (sym e)), λ h. tt)
 
 -- what a guard with choices leads to, at each value
 abbrev pub guard_to : Bool → ℕ → Tried → Led
-guard_to b n g = then_pass g (λ ws. Ok (if can_be b (Ok ws) then n ∷ [] else [], total ws))
+guard_to b n g = then_ok g (λ ws. Ok (if can_be b (Ok ws) then n ∷ [] else [], total ws))
 
 module _ (k : ℕ) (Q : ℕ → ℕ → Type 0) (on off : ℕ → List Run) (n v : ℕ) where
   pub leads_guarded : (g : Tried) → Works g

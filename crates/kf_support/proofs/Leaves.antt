@@ -10,7 +10,8 @@ use Rattle.kf_value.specs.Values.{ValueTree}
 use Rattle.kf_core.specs.Choices.{Weighted, total}
 use Rattle.kf_core.specs.Dxs.{DxTree}
 use Rattle.kf_core.specs.Runs.{Run, Tried, tried, place, replaced, stay, moved, branched, silent, shown, assigned, chain}
-use Rattle.kf_core.specs.Support.{StoreSet, Passed, then_pass, each_pass, each_moved, step, same, assign_pass}
+use Rattle.kf_core.specs.Results.{then_ok}
+use Rattle.kf_core.specs.Support.{StoreSet, Passed, each_pass, each_moved, step, same, assign_pass}
 use Rattle.kf_core.proofs.PassTells.{Lists, holds_listed, items_hold}
 use Rattle.kf_core.proofs.Scales.{Weighty}
 use Rattle.kf_support.specs.Carried.{Reached, Lead, carry_step, assign_lead, observe_lead, staying}
@@ -26,12 +27,12 @@ some_total w ws head = omega (arith, head, sum_by-cons (λ (u : Weighted). u.wei
 
 module _ (at : ℕ) (go : ValueTree → Option ℕ) where
   abbrev assign_to : Tried → Led
-  assign_to g = then_pass g (λ ws. then_pass (each_moved at (map (λ w. go w.value) ws)) (λ ms. Ok (ms, total ws)))
+  assign_to g = then_ok g (λ ws. then_ok (each_moved at (map (λ w. go w.value) ws)) (λ ms. Ok (ms, total ws)))
 
   abbrev move_to : Tried → Passed (List ℕ)
-  move_to g = then_pass g (λ ws. each_moved at (map (λ w. go w.value) ws))
+  move_to g = then_ok g (λ ws. each_moved at (map (λ w. go w.value) ws))
 
-  positive_any : (s : ℕ) → 0 < s → (r : Passed (List ℕ)) → Positive (then_pass r (λ ms. Ok (ms, s)))
+  positive_any : (s : ℕ) → 0 < s → (r : Passed (List ℕ)) → Positive (then_ok r (λ ms. Ok (ms, s)))
   positive_any s p (Ok ms) = each_any (λ n. 0 < s) (λ n. p) ms
   positive_any s p (Err f) = tt
 
@@ -40,7 +41,7 @@ module _ (at : ℕ) (go : ValueTree → Option ℕ) where
   assign_positive (Ok (w ∷ ws)) h = positive_any (total (w ∷ ws)) (some_total w ws h.0) (each_moved at (map (λ u. go u.value) (w ∷ ws)))
   assign_positive (Err f) h = tt
 
-  faults_any : (s : ℕ) (r : Passed (List ℕ)) → SameFault {A = List ℕ × ℕ} (then_pass r (λ ms. Ok (ms, s))) r
+  faults_any : (s : ℕ) (r : Passed (List ℕ)) → SameFault {A = List ℕ × ℕ} (then_ok r (λ ms. Ok (ms, s))) r
   faults_any s (Ok ms) = tt
   faults_any s (Err f) = refl
 
@@ -48,7 +49,7 @@ module _ (at : ℕ) (go : ValueTree → Option ℕ) where
   assign_faults (Ok ws) = faults_any (total ws) (each_moved at (map (λ w. go w.value) ws))
   assign_faults (Err f) = refl
 
-  alike_any : (m s : ℕ) (r : Passed (List ℕ)) → Alike m (then_pass r (λ ms. Ok (ms, s))) r
+  alike_any : (m s : ℕ) (r : Passed (List ℕ)) → Alike m (then_ok r (λ ms. Ok (ms, s))) r
   alike_any m s (Ok ms) = (λ h. h, λ h. h)
   alike_any m s (Err f) = tt
 
@@ -61,7 +62,7 @@ module _ (at : ℕ) (go : ValueTree → Option ℕ) where
     MovesLand os (Ok ms) = Each (λ o. Leads k Q (moved at o) s) os ↔ Each (λ m. Q m s) ms
     MovesLand os (Err f) = Unit {0}
 
-    move_lands : (j : ℕ) (os : List (Option ℕ)) (r : Passed (List ℕ)) → MovesLand os r → MovesLand (Some j ∷ os) (then_pass r (λ others. Ok (j ∷ others)))
+    move_lands : (j : ℕ) (os : List (Option ℕ)) (r : Passed (List ℕ)) → MovesLand os r → MovesLand (Some j ∷ os) (then_ok r (λ others. Ok (j ∷ others)))
     move_lands j os (Ok ms) later = beside (leads_stay k Q j s) later
     move_lands j os (Err f) later = tt
 
@@ -70,8 +71,8 @@ module _ (at : ℕ) (go : ValueTree → Option ℕ) where
     moves_land (None ∷ os) = tt
     moves_land (Some j ∷ os) = move_lands j os (each_moved at os) (moves_land os)
 
-  lands_by : (k : ℕ) (Q : ℕ → ℕ → Type 0) (v s : ℕ) (os : List (Option ℕ)) (r : Passed (List ℕ)) → MovesLand k Q (v * s) os r → Works {A = List ℕ × ℕ} (then_pass r (λ ms. Ok (ms, s)))
-      → Each (λ o. Leads k Q (moved at o) (v * s)) os ↔ Lands (then_pass r (λ ms. Ok (ms, s))) Q v
+  lands_by : (k : ℕ) (Q : ℕ → ℕ → Type 0) (v s : ℕ) (os : List (Option ℕ)) (r : Passed (List ℕ)) → MovesLand k Q (v * s) os r → Works {A = List ℕ × ℕ} (then_ok r (λ ms. Ok (ms, s)))
+      → Each (λ o. Leads k Q (moved at o) (v * s)) os ↔ Lands (then_ok r (λ ms. Ok (ms, s))) Q v
   lands_by k Q v s os (Ok ms) h works = h
   lands_by k Q v s os (Err f) h works = absurd works
 
@@ -94,7 +95,7 @@ assign_carries ts i d weighty =
 
 module _ (n : ℕ) where
   abbrev observe_to : Tried → Led
-  observe_to g = then_pass g (λ ws. Ok (staying n ws, total ws))
+  observe_to g = then_ok g (λ ws. Ok (staying n ws, total ws))
 
   observe_positive : (g : Tried) → Weighty g → Positive (observe_to g)
   observe_positive (Ok []) h = tt
@@ -149,7 +150,7 @@ module _ (P : ℕ → Type 0) where
 
 each_goes : (go : ℕ → ℕ) (ns : List ℕ) → each_pass (λ n. Ok (go n ∷ [])) ns ≡ Ok (map go ns)
 each_goes go [] = refl
-each_goes go (n ∷ ns) = ap (λ (r : Passed (List ℕ)). then_pass r (λ others. Ok (go n ∷ others))) (each_goes go ns)
+each_goes go (n ∷ ns) = ap (λ (r : Passed (List ℕ)). then_ok r (λ others. Ok (go n ∷ others))) (each_goes go ns)
 
 module _ (go : ℕ → ℕ) where
   abbrev go_lead : Lead
@@ -164,8 +165,8 @@ module _ (go : ℕ → ℕ) where
 
   go_step : (es : Reached) → Good es → step (λ n. Ok (go n ∷ [])) (set_of es) ≡ Ok (from_list (map go (items (set_of es))))
   go_step es good =
-      (let e = in_order es good in λ i. then_pass (each_pass (λ n. Ok (go n ∷ [])) (e i)) (λ ms. Ok (from_list ms)))
-      ∙ ap (λ (r : Passed (List ℕ)). then_pass r (λ ms. Ok (from_list ms))) (each_goes go (keys_of es))
+      (let e = in_order es good in λ i. then_ok (each_pass (λ n. Ok (go n ∷ [])) (e i)) (λ ms. Ok (from_list ms)))
+      ∙ ap (λ (r : Passed (List ℕ)). then_ok r (λ ms. Ok (from_list ms))) (each_goes go (keys_of es))
       ∙ (let e = gone_set es in λ i. Ok (e i))
 
   go_carries : Carries (carry_step go_lead []) (step (λ n. Ok (go n ∷ []))) (λ n. stay (go n))
@@ -186,8 +187,8 @@ module _ (go : ℕ → ℕ) where
     )
     told_gone es p q (Err x) is h = (sym is ∙ h.0, tt)
 
-    pub gone_carries : Carries (λ es. then_pass (carry_step go_lead [] es) f) (λ ns. g (from_list (map go (items ns)))) (λ n. from (go n))
+    pub gone_carries : Carries (λ es. then_ok (carry_step go_lead [] es) f) (λ ns. g (from_list (map go (items ns)))) (λ n. from (go n))
     gone_carries es good =
-        told_gone es (then_pass (step (λ n. Ok (go n ∷ [])) (set_of es)) g) (g (from_list (map go (items (set_of es))))) (then_pass (carry_step go_lead [] es) f)
-        (ap (λ (p : Passed StoreSet). then_pass p g) (go_step es good))
+        told_gone es (then_ok (step (λ n. Ok (go n ∷ [])) (set_of es)) g) (g (from_list (map go (items (set_of es))))) (then_ok (carry_step go_lead [] es) f)
+        (ap (λ (p : Passed StoreSet). then_ok p g) (go_step es good))
         (chain_carries (carry_step go_lead []) f (step (λ n. Ok (go n ∷ []))) g (λ n. stay (go n)) from go_carries carries es good)

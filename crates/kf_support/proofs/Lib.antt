@@ -10,11 +10,10 @@ mod Carrying
 mod Nothing
 mod Telling
 mod Adding
-pub mod Stores
 mod Weighing
 mod Stepping
 mod Copying
-pub mod Passing
-pub mod FirstStore
-pub mod Declaring
+mod Passing
+mod FirstStore
+mod Declaring
 mod Deciding

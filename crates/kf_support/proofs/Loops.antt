@@ -5,7 +5,8 @@ use Rattle.std.specs.FinSet.{from_list, union}
 use Rattle.std.specs.Map.{keys_of}
 use Rattle.kf_core.specs.Choices.{Weighted}
 use Rattle.kf_core.specs.Runs.{Run, Tried, LoopBound, stay, stopped, chain, guarded, looped}
-use Rattle.kf_core.specs.Support.{StoreSet, Passed, then_pass, each_pass, same, can_be, where_guard, either_pass, bounded, loop_pass}
+use Rattle.kf_core.specs.Results.{then_ok}
+use Rattle.kf_core.specs.Support.{StoreSet, Passed, each_pass, same, can_be, where_guard, either_pass, bounded, loop_pass}
 use Rattle.kf_core.proofs.Scales.{Weighty}
 use Rattle.kf_support.specs.Carried.{Reached, carry_step, guard_lead, last_lead, carry_loop}
 use Rattle.kf_support.proofs.Dividing.{bound}
@@ -23,12 +24,12 @@ lands_same (Err f) Q R v same = (λ h. h, λ h. h)
 
 module _ (at n : ℕ) where
   abbrev last_to : Tried → Led
-  last_to g = then_pass (bounded at n g) (λ _. guard_to false n g)
+  last_to g = then_ok (bounded at n g) (λ _. guard_to false n g)
 
   abbrev bounded_by : Bool → Passed (List ℕ)
   bounded_by t = elim t as (λ _. Passed (List ℕ)) [ true ↦ Err (record { cause = LoopBound; at = at }) | false ↦ Ok (n ∷ []) ]
 
-  last_faults_by : (ws : List Weighted) (t : Bool) → SameFault (then_pass (bounded_by t) (λ _. guard_to false n (Ok ws))) (bounded_by t)
+  last_faults_by : (ws : List Weighted) (t : Bool) → SameFault (then_ok (bounded_by t) (λ _. guard_to false n (Ok ws))) (bounded_by t)
   last_faults_by ws true = refl
   last_faults_by ws false = tt
 
@@ -36,7 +37,7 @@ module _ (at n : ℕ) where
   last_faults (Ok ws) = last_faults_by ws (can_be true (Ok ws))
   last_faults (Err f) = refl
 
-  last_positive_by : (ws : List Weighted) (t : Bool) → Weighty (Ok ws) → Positive (then_pass (bounded_by t) (λ _. guard_to false n (Ok ws)))
+  last_positive_by : (ws : List Weighted) (t : Bool) → Weighty (Ok ws) → Positive (then_ok (bounded_by t) (λ _. guard_to false n (Ok ws)))
   last_positive_by ws true h = tt
   last_positive_by ws false h = guard_positive false n (Ok ws) h
 
@@ -44,8 +45,8 @@ module _ (at n : ℕ) where
   last_positive (Ok ws) h = last_positive_by ws (can_be true (Ok ws)) h
   last_positive (Err f) h = tt
 
-  last_is_by : (ws : List Weighted) (t : Bool) → Works (then_pass (bounded_by t) (λ _. guard_to false n (Ok ws)))
-      → (t ≡ false) × (then_pass (bounded_by t) (λ _. guard_to false n (Ok ws)) ≡ guard_to false n (Ok ws))
+  last_is_by : (ws : List Weighted) (t : Bool) → Works (then_ok (bounded_by t) (λ _. guard_to false n (Ok ws)))
+      → (t ≡ false) × (then_ok (bounded_by t) (λ _. guard_to false n (Ok ws)) ≡ guard_to false n (Ok ws))
   last_is_by ws true h = absurd h
   last_is_by ws false h = (refl, refl)
 
@@ -92,7 +93,7 @@ same_as_it = (λ h. h, λ h. h)
 module _ (guard : ℕ → Tried) (weighty : (n : ℕ) → Weighty (guard n)) (at : ℕ) (body : Reached → Passed Reached) (through_body : StoreSet → Passed StoreSet)
     (turn : ℕ → List Run) (carries : Carries body through_body turn) where
   last_told : (left es : Reached) (r : Passed Reached) (q : Passed (List ℕ)) → Stepped (last_lead at guard) left es r → SameFault r q
-      → LoopTold (then_pass (then_pass q (λ ms. Ok (from_list ms))) (λ (ns : StoreSet). Ok (where_guard false guard (set_of es)))) (looped zero guard at turn) left es r
+      → LoopTold (then_ok (then_ok q (λ ms. Ok (from_list ms))) (λ (ns : StoreSet). Ok (where_guard false guard (set_of es)))) (looped zero guard at turn) left es r
   last_told left es (Ok fs) (Ok ms) h s = (
     h.0,
     (
@@ -155,18 +156,18 @@ module _ (guard : ℕ → Tried) (weighty : (n : ℕ) → Weighty (guard n)) (at
   module _ (k : ℕ) (later : (left es : Reached) → Good left → Good es → LoopTold (loop_pass k guard at through_body (set_of es)) (looped k guard at turn) left es (carry_loop k guard at body left es)) where
     turn_told : (left es on gone : Reached) (h : Stepped (guard_lead true guard) [] es (Ok on)) (h' : Stepped (guard_lead false guard) left es (Ok gone)) (x : Passed Reached) (p : Passed StoreSet)
         → Told p turn on x
-        → LoopTold (either_pass (then_pass p (loop_pass k guard at through_body)) (Ok (where_guard false guard (set_of es)))) (looped (suc k) guard at turn) left es (then_pass x (carry_loop k guard at body gone))
+        → LoopTold (either_pass (then_ok p (loop_pass k guard at through_body)) (Ok (where_guard false guard (set_of es)))) (looped (suc k) guard at turn) left es (then_ok x (carry_loop k guard at body gone))
     turn_told left es on gone h h' (Ok next) p t =
-        more_told k left es on gone h h' next (then_pass p (loop_pass k guard at through_body)) (loop_pass k guard at through_body (set_of next)) (carry_loop k guard at body gone next)
-        (ap (λ (x : Passed StoreSet). then_pass x (loop_pass k guard at through_body)) t.1) t.2 (later gone next h'.0 t.0)
-    turn_told left es on gone h h' (Err f) p t = (ap (λ (x : Passed StoreSet). either_pass (then_pass x (loop_pass k guard at through_body)) (Ok (where_guard false guard (set_of es)))) t.0, tt)
+        more_told k left es on gone h h' next (then_ok p (loop_pass k guard at through_body)) (loop_pass k guard at through_body (set_of next)) (carry_loop k guard at body gone next)
+        (ap (λ (x : Passed StoreSet). then_ok x (loop_pass k guard at through_body)) t.1) t.2 (later gone next h'.0 t.0)
+    turn_told left es on gone h h' (Err f) p t = (ap (λ (x : Passed StoreSet). either_pass (then_ok x (loop_pass k guard at through_body)) (Ok (where_guard false guard (set_of es)))) t.0, tt)
 
     abbrev Next : Reached → Passed StoreSet
-    Next es = either_pass (then_pass (through_body (where_guard true guard (set_of es))) (loop_pass k guard at through_body)) (Ok (where_guard false guard (set_of es)))
+    Next es = either_pass (then_ok (through_body (where_guard true guard (set_of es))) (loop_pass k guard at through_body)) (Ok (where_guard false guard (set_of es)))
 
     told_turn : (left es : Reached) (x y : Passed Reached) (q : Passed (List ℕ)) → Stepped (guard_lead true guard) [] es x → Stepped (guard_lead false guard) left es y → SameFault x q → SameFault y q
-        → LoopTold (then_pass (then_pass q (λ ms. Ok (from_list ms))) (λ (ns : StoreSet). Next es)) (looped (suc k) guard at turn) left es
-        (then_pass x (λ on. then_pass y (λ gone. then_pass (body on) (carry_loop k guard at body gone))))
+        → LoopTold (then_ok (then_ok q (λ ms. Ok (from_list ms))) (λ (ns : StoreSet). Next es)) (looped (suc k) guard at turn) left es
+        (then_ok x (λ on. then_ok y (λ gone. then_ok (body on) (carry_loop k guard at body gone))))
     told_turn left es (Ok on) (Ok gone) (Ok ms) h h' s s' =
         turn_told left es on gone h h' (body on) (through_body (where_guard true guard (set_of es)))
         (subst (λ (ns : StoreSet). Told (through_body ns) turn on (body on)) (guard_set true guard es on h) (carries on h.0))
@@ -177,13 +178,13 @@ module _ (guard : ℕ → Tried) (weighty : (n : ℕ) → Weighty (guard n)) (at
 
   loop_told : (k : ℕ) (left es : Reached) → Good left → Good es → LoopTold (loop_pass k guard at through_body (set_of es)) (looped k guard at turn) left es (carry_loop k guard at body left es)
   loop_told zero left es gone good =
-      subst (λ (p : Passed StoreSet). LoopTold (then_pass p (λ (ns : StoreSet). Ok (where_guard false guard (set_of es)))) (looped zero guard at turn) left es (carry_step (last_lead at guard) left es))
+      subst (λ (p : Passed StoreSet). LoopTold (then_ok p (λ (ns : StoreSet). Ok (where_guard false guard (set_of es)))) (looped zero guard at turn) left es (carry_step (last_lead at guard) left es))
       (sym (step_is (λ n. bounded at n (guard n)) es good))
       (last_told left es (carry_step (last_lead at guard) left es) (each_pass (λ n. bounded at n (guard n)) (keys_of es))
       (stepped (last_lead at guard) (λ n. last_positive at n (guard n) (weighty n)) left es gone (good_positive es good))
       (step_faults (last_lead at guard) (λ n. bounded at n (guard n)) (λ n. last_faults at n (guard n)) left es))
   loop_told (suc k) left es gone good =
-      subst (λ (p : Passed StoreSet). LoopTold (then_pass p (λ (ns : StoreSet). Next k (loop_told k) es)) (looped (suc k) guard at turn) left es (carry_loop (suc k) guard at body left es))
+      subst (λ (p : Passed StoreSet). LoopTold (then_ok p (λ (ns : StoreSet). Next k (loop_told k) es)) (looped (suc k) guard at turn) left es (carry_loop (suc k) guard at body left es))
       (sym (step_is (λ n. same n (guard n)) es good))
       (told_turn k (loop_told k) left es (carry_step (guard_lead true guard) [] es) (carry_step (guard_lead false guard) left es) (each_pass (λ n. same n (guard n)) (keys_of es))
       (guard_stepped guard weighty true [] es tt good) (guard_stepped guard weighty false left es gone good) (guard_step_faults guard weighty true [] es) (guard_step_faults guard weighty false left es))

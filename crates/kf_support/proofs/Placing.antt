@@ -12,7 +12,8 @@ use Rattle.std.proofs.lemmas.Cmp.{ranked}
 use Rattle.kf_frac.specs.Divisors.{lcm_of}
 use Rattle.kf_frac.proofs.CommonMultiples.{product_positive}
 use Rattle.kf_value.proofs.ListLemmas.{each_weaker}
-use Rattle.kf_core.specs.Support.{Passed, then_pass}
+use Rattle.kf_core.specs.Results.{then_ok}
+use Rattle.kf_core.specs.Support.{Passed}
 use Rattle.kf_support.specs.Carried.{Reached, Lead, capped, met, with_way, with_ways, with_all, carry_step}
 use Rattle.kf_support.proofs.Dividing.{capped_positive, lcm_positive}
 
@@ -187,7 +188,7 @@ module _ (lead : Lead) (positive : (n : ℕ) → Positive (lead n)) where
 
   stepped_past : (acc es : Reached) (e : ℕ × ℕ) (x : Led) → lead e.0 ≡ x → Good acc → 0 < e.1 → Positive x
       → ((acc : Reached) → Good acc → Stepped lead acc es (carry_step lead acc es))
-      → Stepped lead acc (e ∷ es) (then_pass x (λ to. carry_step lead (with_ways acc to.0 (capped (e.1 * to.1))) es))
+      → Stepped lead acc (e ∷ es) (then_ok x (λ to. carry_step lead (with_ways acc to.0 (capped (e.1 * to.1))) es))
   stepped_past acc es e (Err f) is good p q later = tt
   stepped_past acc es e (Ok to) is good p q later =
       at (carry_step lead (with_ways acc to.0 s) es) (later (with_ways acc to.0 s) (ways_good s acc to.0 good high))

@@ -2,14 +2,15 @@
 use Rattle.std.proofs.Common.{◌≡◌, ℕ, zero, suc, ◌*◌, ◌<◌, ◌≤◌, Bool, true, false, List, [], ◌∷◌, Option, Some, Ok, Err, refl, sym, ap, ◌∙◌, subst, arith, if◌then◌else◌}
 use Rattle.kf_core.specs.Choices.{Weighted, total}
 use Rattle.kf_core.specs.Runs.{LoopBound, Tried}
-use Rattle.kf_core.specs.Support.{Passed, then_pass, each_moved, can_be, bounded}
+use Rattle.kf_core.specs.Results.{then_ok}
+use Rattle.kf_core.specs.Support.{Passed, each_moved, can_be, bounded}
 use Rattle.kf_support.specs.declared.faults.Halt.{Halt}
 use Rattle.kf_support.specs.declared.faults.Halt.TheVariants as halt
 use Rattle.kf_support.specs.Answers.{AreWays, IsHaltOf}
 use Rattle.kf_support.specs.Carried.{Reached, Lead, capped, with_way, with_ways, carry_step, staying, guard_lead, last_lead}
 use Rattle.kf_support.proofs.Adding.{IsWay, IsScale, capped_scale, way_added, first_way}
 
-pub passed_value : {A B : Type 0} (r : Passed A) (f : A → B) (y : B) → then_pass r (λ x. Ok (f x)) ≡ Ok y → (x : A) × (r ≡ Ok x) × (y ≡ f x)
+pub passed_value : {A B : Type 0} (r : Passed A) (f : A → B) (y : B) → then_ok r (λ x. Ok (f x)) ≡ Ok y → (x : A) × (r ≡ Ok x) × (y ≡ f x)
 passed_value (Ok x) f y e = let same : y ≡ f x = (cc) in (x, refl, same)
 passed_value (Err g) f y e = absurd (cc)
 
@@ -17,11 +18,11 @@ passed_value (Err g) f y e = absurd (cc)
 
 -- the moves that are left, beside those that are made
 pub record MovesOn (at scale size : ℕ) (left : List (Option ℕ)) (whole : Passed Reached) (now : Reached) : Type 0 where
-  pub all : then_pass (each_moved at left) (λ ms. Ok (with_ways now ms scale)) ≡ whole
+  pub all : then_ok (each_moved at left) (λ ms. Ok (with_ways now ms scale)) ≡ whole
   pub ways : AreWays size now
 
 way_first : (r : Passed (List ℕ)) (now : Reached) (m scale : ℕ)
-    → then_pass (then_pass r (λ others. Ok (m ∷ others))) (λ ms. Ok (with_ways now ms scale)) ≡ then_pass r (λ ms. Ok (with_ways (with_way now m scale) ms scale))
+    → then_ok (then_ok r (λ others. Ok (m ∷ others))) (λ ms. Ok (with_ways now ms scale)) ≡ then_ok r (λ ms. Ok (with_ways (with_way now m scale) ms scale))
 way_first (Ok ms) now m scale = refl
 way_first (Err f) now m scale = refl
 
@@ -29,7 +30,7 @@ module _ (at scale size : ℕ) (whole : Passed Reached) (now : Reached) where
   pub moves_step : (m : ℕ) (ms left : List (Option ℕ)) → left ≡ Some m ∷ ms → m < size → IsScale scale → MovesOn at scale size left whole now
       → MovesOn at scale size ms whole (with_way now m scale)
   moves_step m ms left next below is had = record {
-    all = sym (way_first (each_moved at ms) now m scale) ∙ (ap (λ l. then_pass (each_moved at l) (λ ks. Ok (with_ways now ks scale))) (sym next) ∙ had.all);
+    all = sym (way_first (each_moved at ms) now m scale) ∙ (ap (λ l. then_ok (each_moved at l) (λ ks. Ok (with_ways now ks scale))) (sym next) ∙ had.all);
     ways = way_added size m scale now below is had.ways;
   }
 
@@ -59,26 +60,26 @@ module _ (lead : Lead) (size : ℕ) (whole : Passed Reached) (now : Reached) (e 
   pub carries_step : (to : List ℕ) (n : ℕ) (after : Reached) → lead e.0 ≡ Ok (to, n) → after ≡ with_ways now to (capped (e.1 * n)) → AreWays size after
       → CarriesOn lead size es whole after
   carries_step to n after leads is ways = record {
-    all = ap (λ l. carry_step lead l es) is ∙ (ap (λ (r : Passed (List ℕ × ℕ)). then_pass r (λ k. carry_step lead (with_ways now k.0 (capped (e.1 * k.1))) es)) (sym leads) ∙ opened);
+    all = ap (λ l. carry_step lead l es) is ∙ (ap (λ (r : Passed (List ℕ × ℕ)). then_ok r (λ k. carry_step lead (with_ways now k.0 (capped (e.1 * k.1))) es)) (sym leads) ∙ opened);
     ways = ways;
     rest = (first_way size e es left next had.rest).1;
   }
 
   -- the first fault
   pub carries_fault : (h : Halt) → IsHaltOf (lead e.0) h → IsHaltOf whole h
-  carries_fault (halt.Fault kind at) is = sym opened ∙ ap (λ (r : Passed (List ℕ × ℕ)). then_pass r (λ k. carry_step lead (with_ways now k.0 (capped (e.1 * k.1))) es)) is
+  carries_fault (halt.Fault kind at) is = sym opened ∙ ap (λ (r : Passed (List ℕ × ℕ)). then_ok r (λ k. carry_step lead (with_ways now k.0 (capped (e.1 * k.1))) es)) is
   carries_fault halt.Scale is = is
   carries_fault halt.Mem is = tt
 
 -- ---- a fault of what comes first
 
-pub then_fault : {A B : Type 0} (r : Passed A) (next : A → Passed B) (h : Halt) → IsHaltOf r h → IsHaltOf (then_pass r next) h
-then_fault r next (halt.Fault kind at) is = ap (λ r. then_pass r next) is
+pub then_fault : {A B : Type 0} (r : Passed A) (next : A → Passed B) (h : Halt) → IsHaltOf r h → IsHaltOf (then_ok r next) h
+then_fault r next (halt.Fault kind at) is = ap (λ r. then_ok r next) is
 then_fault r next halt.Scale is = is
 then_fault r next halt.Mem is = tt
 
-pub then_value : {A B : Type 0} (r : Passed A) (next : A → Passed B) (x : A) → r ≡ Ok x → then_pass r next ≡ next x
-then_value r next x is = ap (λ r. then_pass r next) is
+pub then_value : {A B : Type 0} (r : Passed A) (next : A → Passed B) (x : A) → r ≡ Ok x → then_ok r next ≡ next x
+then_value r next x is = ap (λ r. then_ok r next) is
 
 pub fault_same : {A : Type 0} (r s : Passed A) (h : Halt) → r ≡ s → IsHaltOf s h → IsHaltOf r h
 fault_same r s h same is = subst (λ t. IsHaltOf t h) (sym same) is
@@ -90,7 +91,7 @@ abbrev pub led : List ℕ → ℕ → Passed (List ℕ × ℕ)
 led to n = Ok (to, n)
 
 pub same_value : (r : Passed (List Weighted)) (ws : List Weighted) (to : List Weighted → List ℕ) (n : ℕ) → r ≡ Ok ws → n ≡ total ws
-    → then_pass {B = List ℕ × ℕ} r (λ ws. Ok (to ws, total ws)) ≡ led (to ws) n
+    → then_ok {B = List ℕ × ℕ} r (λ ws. Ok (to ws, total ws)) ≡ led (to ws) n
 same_value r ws to n is sum = then_value {B = List ℕ × ℕ} r (λ ws. Ok (to ws, total ws)) ws is ∙ ap (led (to ws)) (sym sum)
 
 -- where something is chosen, a store stays
@@ -102,11 +103,11 @@ stays n (w ∷ ws) some = refl
 
 module _ (r : Passed (List Weighted)) (moves : List Weighted → Passed (List ℕ)) (ws : List Weighted) (is : r ≡ Ok ws) where
   abbrev lead_of : Passed (List Weighted) → Passed (List ℕ × ℕ)
-  lead_of r = then_pass {B = List ℕ × ℕ} r (λ ws. then_pass {B = List ℕ × ℕ} (moves ws) (λ ms. Ok (ms, total ws)))
+  lead_of r = then_ok {B = List ℕ × ℕ} r (λ ws. then_ok {B = List ℕ × ℕ} (moves ws) (λ ms. Ok (ms, total ws)))
 
   pub moved_value : (ms : List ℕ) (n : ℕ) → moves ws ≡ Ok ms → n ≡ total ws → lead_of r ≡ led ms n
   moved_value ms n all sum =
-      ap lead_of is ∙ (ap (λ q. then_pass {B = List ℕ × ℕ} q (λ ms. Ok (ms, total ws))) all ∙ ap (led ms) (sym sum))
+      ap lead_of is ∙ (ap (λ q. then_ok {B = List ℕ × ℕ} q (λ ms. Ok (ms, total ws))) all ∙ ap (led ms) (sym sum))
 
   pub moved_fault : (h : Halt) → IsHaltOf (moves ws) h → IsHaltOf (lead_of r) h
   moved_fault h fault = fault_same (lead_of r) (lead_of (Ok ws)) h (ap lead_of is) (then_fault (moves ws) (λ ms. led ms (total ws)) h fault)
@@ -137,7 +138,7 @@ bounded_is at n ws t test = ap (stop at n) test
 
 module _ (at : ℕ) (guard : ℕ → Tried) (n : ℕ) where
   last_leaves : (ws : List Weighted) → guard n ≡ Ok ws → can_be true (Ok ws) ≡ false → last_lead at guard n ≡ guard_lead false guard n
-  last_leaves ws is test = ap (λ r. then_pass r (λ _. guard_lead false guard n)) (ap (bounded at n) is ∙ bounded_is at n ws false test)
+  last_leaves ws is test = ap (λ r. then_ok r (λ _. guard_lead false guard n)) (ap (bounded at n) is ∙ bounded_is at n ws false test)
 
 module _ (at : ℕ) (guard : ℕ → Tried) (size : ℕ) (whole : Passed Reached) (now : Reached) (e : ℕ × ℕ) (es left : Reached) (next : left ≡ e ∷ es)
     (had : CarriesOn (last_lead at guard) size left whole now) (ws : List Weighted) (n : ℕ) (is : guard e.0 ≡ Ok ws) (sum : n ≡ total ws) (some : 1 ≤ n)

@@ -2,15 +2,15 @@
 use Rattle.std.proofs.Common.{Bool, true, false, not, ◌||◌, ◌≡◌, ℕ, ◌+◌, ◌<◌, ◌≤◌, List, [], ◌∷◌, length, map, drop, get_or, All, Ok, Err, refl, sym, ap, ◌∙◌, arith}
 use Rattle.std.proofs.lemmas.List.Elements.{All-head, recursion_from_All}
 use Rattle.std.proofs.lemmas.List.Sums.{sum_by-cons}
-use Rattle.kf_value.specs.Values.{ValueTree}
+use Rattle.kf_value.specs.Values.{ValueTree, truth}
 use Rattle.kf_value.proofs.ListLemmas.{each_at, mapped_read, left_step}
 use Rattle.kf_core.specs.Dxs.{DxShape}
-use Rattle.kf_core.specs.Choices.{Weighted, Chosen, with_listed, listed, lowest, gathered, choices, total}
+use Rattle.kf_core.specs.Results.{then_ok}
+use Rattle.kf_core.specs.Choices.{Weighted, Chosen, listed, lowest, gathered, choices, total}
 use Rattle.kf_core.specs.ChoiceLaws.{ChoicesAreShares}
 use Rattle.std.specs.Bool.{beq}
 use Rattle.std.specs.List.{list_any}
 use Rattle.kf_value.specs.Views.{value_tree}
-use Rattle.kf_ops.specs.Values.{truth}
 use Rattle.kf_core.specs.Support.{can_be}
 use Rattle.kf_core.specs.Runs.{placed_at}
 use Rattle.kf_eval.specs.Choices.{IsChoiceFaultOf, weighted_tree}
@@ -27,7 +27,7 @@ fault_placed defined error.NegativeWeight at is = ap (placed_at at) is
 fault_placed defined error.RangeLong at is = ap (placed_at at) is
 fault_placed defined error.Mem at is = tt
 
-listed_some : (r : Chosen) (ws : List Weighted) → with_listed r (λ ls. Ok (lowest (gathered ls))) ≡ Ok ws → (ls : List Weighted) × (r ≡ Ok ls)
+listed_some : (r : Chosen) (ws : List Weighted) → then_ok r (λ ls. Ok (lowest (gathered ls))) ≡ Ok ws → (ls : List Weighted) × (r ≡ Ok ls)
 listed_some (Ok ls) ws h = (ls, refl)
 listed_some (Err f) ws h = absurd (cc)
 

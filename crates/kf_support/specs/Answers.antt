@@ -1,4 +1,4 @@
--- What the program may answer where a pass is defined.
+-- For bodies: what the program may answer where a pass is defined.
 use Rattle.std.specs.Prelude.{◌≡◌, ℕ, ◌^◌, ◌<◌, ◌≤◌, Result, Ok, Err, MatchResult}
 use Rattle.std.specs.List.{All}
 use Rattle.std.specs.BTreeMap.{BTreeMap}

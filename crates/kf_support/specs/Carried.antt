@@ -1,4 +1,4 @@
--- The pass with its scales: each store that is reached has the scale of the ways to it, as long as it is at most 2^127 - 1.
+-- For bodies: the pass with its scales: each store that is reached has the scale of the ways to it, as long as it is at most 2^127 - 1.
 use Rattle.std.specs.Prelude.{◌≡◌, ℕ, zero, suc, ◌*◌, ◌^◌, min, Bool, true, false, List, [], ◌∷◌, map, if◌then◌else◌, Option, None, Some, Ok, Err, MatchResult, IsOk}
 use Rattle.std.specs.Ordering.{nat_cmp}
 use Rattle.std.specs.Map.{lookup}
@@ -10,7 +10,8 @@ use Rattle.kf_core.specs.Dxs.{DxTree}
 use Rattle.kf_core.specs.Sts.{StTree, StTrees, Skip, Assign, Observe, If, While, no_sts, more_sts, sts}
 use Rattle.kf_core.specs.Programs.{ProgramTree}
 use Rattle.kf_core.specs.Runs.{Tried, tried, place, replaced, copied}
-use Rattle.kf_core.specs.Support.{Passed, then_pass, each_moved, can_be, bounded, program_pass}
+use Rattle.kf_core.specs.Results.{then_ok}
+use Rattle.kf_core.specs.Support.{Passed, each_moved, can_be, bounded, program_pass}
 use Rattle.kf_core.specs.Scale.{scale_of}
 
 -- a scale, where 2^127 stands for all that pass 2^127 - 1
@@ -45,10 +46,12 @@ Lead = ℕ → Passed (List ℕ × ℕ)
 -- the stores to which others lead, beside those that are reached already
 abbrev pub carry_step : Lead → Reached → Reached → Passed Reached
 carry_step lead es [] = Ok es
-carry_step lead es (f ∷ fs) = then_pass (lead f.0) (λ to. carry_step lead (with_ways es to.0 (capped (f.1 * to.1))) fs)
+carry_step lead es (f ∷ fs) = then_ok (lead f.0) (λ to. carry_step lead (with_ways es to.0 (capped (f.1 * to.1))) fs)
 
 abbrev pub assign_lead : List TypeTree → ℕ → DxTree → Lead
-assign_lead ts i d n = then_pass (tried ts d n) (λ ws. then_pass (each_moved (place d) (map (λ w. replaced ts i w.value n) ws)) (λ ms. Ok (ms, total ws)))
+assign_lead ts i d n =
+    then_ok (tried ts d n)
+    (λ ws. then_ok (each_moved (place d) (map (λ w. replaced ts i w.value n) ws)) (λ ms. Ok (ms, total ws)))
 
 -- the store itself, where there is some choice
 abbrev pub staying : ℕ → List Weighted → List ℕ
@@ -56,44 +59,50 @@ staying n [] = []
 staying n (w ∷ ws) = n ∷ []
 
 abbrev pub observe_lead : List TypeTree → DxTree → Lead
-observe_lead ts d n = then_pass (tried ts d n) (λ ws. Ok (staying n ws, total ws))
+observe_lead ts d n = then_ok (tried ts d n) (λ ws. Ok (staying n ws, total ws))
 
 -- a store leads to itself where the guard can have the value
 abbrev pub guard_lead : Bool → (ℕ → Tried) → Lead
-guard_lead b guard n = then_pass (guard n) (λ ws. Ok (if can_be b (Ok ws) then n ∷ [] else [], total ws))
+guard_lead b guard n = then_ok (guard n) (λ ws. Ok (if can_be b (Ok ws) then n ∷ [] else [], total ws))
 
 -- behind the last turn the guard must be false
 abbrev pub last_lead : ℕ → (ℕ → Tried) → Lead
-last_lead at guard n = then_pass (bounded at n (guard n)) (λ _. guard_lead false guard n)
+last_lead at guard n = then_ok (bounded at n (guard n)) (λ _. guard_lead false guard n)
 
 -- a loop turn by turn, beside the stores that have left it already
 abbrev pub carry_loop : ℕ → (ℕ → Tried) → ℕ → (Reached → Passed Reached) → Reached → Reached → Passed Reached
 carry_loop zero guard at body left es = carry_step (last_lead at guard) left es
-carry_loop (suc k) guard at body left es = then_pass (carry_step (guard_lead true guard) [] es) (λ turn. then_pass (carry_step (guard_lead false guard) left es) (λ gone. then_pass (body turn) (carry_loop k guard at body gone)))
+carry_loop (suc k) guard at body left es =
+    then_ok (carry_step (guard_lead true guard) [] es)
+    (λ turn. then_ok (carry_step (guard_lead false guard) left es) (λ gone. then_ok (body turn) (carry_loop k guard at body gone)))
 
 abbrev mutual
   pub carry : List TypeTree → ℕ → StTree → Reached → Passed Reached
   carry ts turns Skip es = Ok es
   carry ts turns (Assign i d) es = carry_step (assign_lead ts i d) [] es
   carry ts turns (Observe d) es = carry_step (observe_lead ts d) [] es
-  carry ts turns (If d xs ys) es = then_pass (carry_step (guard_lead true (tried ts d)) [] es) (λ on. then_pass (carry_step (guard_lead false (tried ts d)) [] es) (λ off.
-      then_pass (carry_all ts turns xs on) (λ one. then_pass (carry_all ts turns ys off) (λ other. Ok (with_all one other)))))
+  carry ts turns (If d xs ys) es =
+      then_ok (carry_step (guard_lead true (tried ts d)) [] es)
+      (λ on. then_ok (carry_step (guard_lead false (tried ts d)) [] es)
+      (λ off. then_ok (carry_all ts turns xs on) (λ one. then_ok (carry_all ts turns ys off) (λ other. Ok (with_all one other)))))
   carry ts turns (While d xs) es = carry_loop turns (tried ts d) (place d) (carry_all ts turns xs) [] es
 
   pub carry_all : List TypeTree → ℕ → StTrees → Reached → Passed Reached
   carry_all ts turns no_sts es = Ok es
-  carry_all ts turns (more_sts x xs) es = then_pass (carry ts turns x es) (carry_all ts turns xs)
+  carry_all ts turns (more_sts x xs) es = then_ok (carry ts turns x es) (carry_all ts turns xs)
 
 abbrev pub carry_decls : List TypeTree → ℕ → List DxTree → Reached → Passed Reached
 carry_decls ts i [] es = Ok es
-carry_decls ts i (d ∷ ds) es = then_pass (carry_step (assign_lead ts i d) [] es) (carry_decls ts (suc i) ds)
+carry_decls ts i (d ∷ ds) es = then_ok (carry_step (assign_lead ts i d) [] es) (carry_decls ts (suc i) ds)
 
 -- a store leads to the one with its carried copies set
 abbrev pub copy_lead : ProgramTree → Lead
 copy_lead p n = Ok (copied p n ∷ [], 1)
 
 abbrev pub carry_program : ℕ → ProgramTree → Passed Reached
-carry_program turns p = then_pass (carry_decls p.types 0 p.decls ((0, 1) ∷ [])) (λ es. then_pass (carry_step (copy_lead p) [] es) (carry_all p.types turns (sts p.body)))
+carry_program turns p =
+    then_ok (carry_decls p.types 0 p.decls ((0, 1) ∷ []))
+    (λ es. then_ok (carry_step (copy_lead p) [] es) (carry_all p.types turns (sts p.body)))
 
 -- the scale of all ways
 abbrev pub scale_in : Reached → ℕ

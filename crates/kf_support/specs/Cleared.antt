@@ -1,4 +1,4 @@
--- What a cleared program shows of itself.
+-- For bodies: what a cleared program shows of itself.
 use Rattle.std.specs.Prelude.{ℕ}
 use Rattle.kf_core.specs.declared.program.Program.{Program}
 use Rattle.kf_support.specs.declared.cleared.Cleared.{Cleared}

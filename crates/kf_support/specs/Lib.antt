@@ -1,3 +1,4 @@
+-- For bodies
 pub mod Carried
 pub mod Answers
 pub mod Cleared

@@ -1,7 +1,7 @@
 ghost use Rattle.std.specs.Prelude.{◌≡◌, ◌<◌, ◌≤◌, ℕ, Err, IfOk, IsOk};
 ghost use Rattle.kf_frac.specs.Fractions.{limit};
 ghost use Rattle.kf_core.specs.Checked.{IsChecked};
-ghost use Rattle.kf_core.specs.Programs.{program_tree};
+ghost use Rattle.kf_core.specs.Views.{program_tree};
 ghost use Rattle.kf_core.specs.Scale.{scale_of};
 ghost use Rattle.kf_core.specs.Support.{program_pass};
 ghost use Rattle.kf_support.specs.Answers.{halted};

@@ -2,13 +2,11 @@
 
 ghost use Rattle.std.specs.Prelude.{[], map, IfOk};
 ghost use Rattle.kf_value.specs.Kinds.{TruthKind};
-ghost use Rattle.kf_value.specs.Shapes.{shape_types, shape_sizes};
-ghost use Rattle.kf_value.specs.Types.{product};
+ghost use Rattle.kf_value.specs.Shapes.{shape_types, shape_size};
 ghost use Rattle.kf_core.specs.Checked.{AreSound, DistKinded, IsChecked, IsSound};
-ghost use Rattle.kf_core.specs.Dxs.{dx_tree};
-ghost use Rattle.kf_core.specs.Programs.{program_tree};
+ghost use Rattle.kf_core.specs.Views.{dx_tree, st_tree, program_tree};
 ghost use Rattle.kf_core.specs.Runs.{tried};
-ghost use Rattle.kf_core.specs.Sts.{st_tree, sts};
+ghost use Rattle.kf_core.specs.Sts.{sts};
 ghost use Rattle.kf_eval.specs.Kinds.{shape_kinds};
 ghost use Rattle.kf_support.specs.Answers.{AnswersPass, AreWays};
 ghost use Rattle.kf_support.specs.Carried.{carry, carry_all, carry_loop, carry_program};
@@ -32,9 +30,9 @@ fn pass(
     from: BTreeMap<u64, u128>,
 ) -> Result<BTreeMap<u64, u128>, Halt>
     requires sound { IsSound (shape_kinds shape.now) (st_tree statement.now) }
-    requires ways { AreWays (product (shape_sizes shape.now)) from.entries }
+    requires ways { AreWays (shape_size shape.now) from.entries }
     ensures answer { AnswersPass result (carry (shape_types shape.now) turns (st_tree statement.now) from.entries) }
-    ensures ways { IfOk result (λ m. AreWays (product (shape_sizes shape.now)) m.entries) }
+    ensures ways { IfOk result (λ m. AreWays (shape_size shape.now) m.entries) }
 {
     match statement {
         St::Skip => Ok(from),
@@ -69,9 +67,9 @@ fn pass_while(
 ) -> Result<BTreeMap<u64, u128>, Halt>
     requires kinded { DistKinded (shape_kinds shape.now) (dx_tree test.now) TruthKind }
     requires sound { AreSound (shape_kinds shape.now) (map st_tree body.now) }
-    requires ways { AreWays (product (shape_sizes shape.now)) from.entries }
+    requires ways { AreWays (shape_size shape.now) from.entries }
     ensures answer { AnswersPass result (carry_loop turns (tried (shape_types shape.now) (dx_tree test.now)) test.now.at (carry_all (shape_types shape.now) turns (sts (map st_tree body.now))) [] from.entries) }
-    ensures ways { IfOk result (λ m. AreWays (product (shape_sizes shape.now)) m.entries) }
+    ensures ways { IfOk result (λ m. AreWays (shape_size shape.now) m.entries) }
 {
     carry_laws();
     let mut states = from;
@@ -97,9 +95,9 @@ pub fn pass_all(
     from: BTreeMap<u64, u128>,
 ) -> Result<BTreeMap<u64, u128>, Halt>
     requires sound { AreSound (shape_kinds shape.now) (map st_tree statements.now) }
-    requires ways { AreWays (product (shape_sizes shape.now)) from.entries }
+    requires ways { AreWays (shape_size shape.now) from.entries }
     ensures answer { AnswersPass result (carry_all (shape_types shape.now) turns (sts (map st_tree statements.now)) from.entries) }
-    ensures ways { IfOk result (λ m. AreWays (product (shape_sizes shape.now)) m.entries) }
+    ensures ways { IfOk result (λ m. AreWays (shape_size shape.now) m.entries) }
 {
     let mut states = from;
     for statement in statements {
@@ -116,7 +114,7 @@ pub fn pass_program(
 ) -> Result<BTreeMap<u64, u128>, Halt>
     requires { IsChecked (program_tree program.now) }
     ensures answer { AnswersPass result (carry_program turns (program_tree program.now)) }
-    ensures ways { IfOk result (λ m. AreWays (product (shape_sizes program.now.shape)) m.entries) }
+    ensures ways { IfOk result (λ m. AreWays (shape_size program.now.shape) m.entries) }
 {
     let decls = program.decls.as_slice();
     let mut states = BTreeMap::new(alloc);

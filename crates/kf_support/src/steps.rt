@@ -2,16 +2,15 @@
 
 ghost use Rattle.std.specs.Prelude.{◌≡◌, ℕ, ◌<◌, ◌≤◌, ◌^◌, [], ◌∷◌, if◌then◌else◌, true, false, Ok, length, map, Some, IfOk, IfErr, OnOk};
 ghost use Rattle.std.specs.List.{All};
-ghost use Rattle.kf_value.specs.Values.{IsWellFormed};
+ghost use Rattle.kf_value.specs.Forms.{IsWellFormed};
 ghost use Rattle.kf_value.specs.Kinds.{KindTree, TruthKind};
-ghost use Rattle.kf_value.specs.Shapes.{shape_types, shape_sizes};
-ghost use Rattle.kf_value.specs.Types.{product};
+ghost use Rattle.kf_value.specs.Shapes.{shape_types, shape_size};
 ghost use Rattle.kf_core.specs.Checked.{DistKinded, IsChecked};
-ghost use Rattle.kf_core.specs.Dxs.{dx_tree};
-ghost use Rattle.kf_core.specs.Programs.{program_tree};
+ghost use Rattle.kf_core.specs.Views.{dx_tree, program_tree};
 ghost use Rattle.kf_core.specs.Choices.{total};
 ghost use Rattle.kf_core.specs.Runs.{replaced, tried};
-ghost use Rattle.kf_core.specs.Support.{can_be as can_be_of, each_moved, then_pass};
+ghost use Rattle.kf_core.specs.Results.{then_ok};
+ghost use Rattle.kf_core.specs.Support.{can_be as can_be_of, each_moved};
 ghost use Rattle.kf_eval.specs.Choices.{weighted_tree, weighted_trees};
 ghost use Rattle.kf_eval.specs.Kinds.{shape_kinds};
 ghost use Rattle.kf_support.specs.Answers.{AnswersPass, AreWays, IsHaltOf};
@@ -21,8 +20,8 @@ use crate::faults::{Halt, RunFault, fault_of};
 use crate::moves::{copied_store, moved};
 use crate::ways::{add_way, scaled};
 use kf_core::{Dx, Program, choice_laws};
-use kf_eval::{Choice, Weighted, choices, is_true};
-use kf_value::{Mem, Shape};
+use kf_eval::{Choice, Weighted, choices};
+use kf_value::{Mem, Shape, is_true};
 use std::alloc::Global;
 use std::collections::BTreeMap;
 
@@ -35,7 +34,7 @@ pub struct Branches {
 
 /// What the distribution chooses in a store, or its fault as one of the pass.
 fn choices_in(alloc: Global, shape: &Shape, dist: &Dx, store: u64) -> Result<Choice, Halt>
-    requires store { store < product (shape_sizes shape.now) }
+    requires store { store < shape_size shape.now }
     requires kinded { (k : KindTree) × DistKinded (shape_kinds shape.now) (dx_tree dist.now) k }
     ensures choice { IfOk result (λ c. tried (shape_types shape.now) (dx_tree dist.now) store ≡ Ok (weighted_trees c)) }
     ensures total { IfOk result (λ c. c.total ≡ total (weighted_trees c)) }
@@ -61,14 +60,14 @@ fn add_moved(
     next: &mut BTreeMap<u64, u128>,
 ) -> Result<(), Halt>
     requires variable { slot < length (shape_types shape.now) }
-    requires store { store < product (shape_sizes shape.now) }
+    requires store { store < shape_size shape.now }
     requires formed { All (λ w. IsWellFormed w.value) (map weighted_tree choices.now) }
     requires some { 1 ≤ scale }
     requires told { scale ≤ 2 ^ 127 }
-    requires ways { AreWays (product (shape_sizes shape.now)) next.old.entries }
-    ensures moved { OnOk result (then_pass (each_moved at (map (λ w. replaced (shape_types shape.now) slot w.value store) (map weighted_tree choices.now)))
+    requires ways { AreWays (shape_size shape.now) next.old.entries }
+    ensures moved { OnOk result (then_ok (each_moved at (map (λ w. replaced (shape_types shape.now) slot w.value store) (map weighted_tree choices.now)))
         (λ ms. Ok (with_ways next.old.entries ms scale)) ≡ Ok next.new.entries) }
-    ensures ways { OnOk result (AreWays (product (shape_sizes shape.now)) next.new.entries) }
+    ensures ways { OnOk result (AreWays (shape_size shape.now) next.new.entries) }
     ensures fault { IfErr result (λ e. IsHaltOf (each_moved at (map (λ w. replaced (shape_types shape.now) slot w.value store) (map weighted_tree choices.now))) e) }
 {
     for choice in choices {
@@ -93,9 +92,9 @@ pub fn assign(
 ) -> Result<BTreeMap<u64, u128>, Halt>
     requires variable { slot < length (shape_types shape.now) }
     requires kinded { (k : KindTree) × DistKinded (shape_kinds shape.now) (dx_tree dist.now) k }
-    requires ways { AreWays (product (shape_sizes shape.now)) from.now.entries }
+    requires ways { AreWays (shape_size shape.now) from.now.entries }
     ensures answer { AnswersPass result (carry_step (assign_lead (shape_types shape.now) slot (dx_tree dist.now)) [] from.now.entries) }
-    ensures ways { IfOk result (λ m. AreWays (product (shape_sizes shape.now)) m.entries) }
+    ensures ways { IfOk result (λ m. AreWays (shape_size shape.now) m.entries) }
 {
     let mut next = BTreeMap::new(alloc);
     for (store, scale) in from {
@@ -122,9 +121,9 @@ pub fn observe(
     from: &BTreeMap<u64, u128>,
 ) -> Result<BTreeMap<u64, u128>, Halt>
     requires kinded { (k : KindTree) × DistKinded (shape_kinds shape.now) (dx_tree dist.now) k }
-    requires ways { AreWays (product (shape_sizes shape.now)) from.now.entries }
+    requires ways { AreWays (shape_size shape.now) from.now.entries }
     ensures answer { AnswersPass result (carry_step (observe_lead (shape_types shape.now) (dx_tree dist.now)) [] from.now.entries) }
-    ensures ways { IfOk result (λ m. AreWays (product (shape_sizes shape.now)) m.entries) }
+    ensures ways { IfOk result (λ m. AreWays (shape_size shape.now) m.entries) }
 {
     let mut next = BTreeMap::new(alloc);
     for (store, scale) in from {
@@ -167,12 +166,12 @@ pub fn guard(
     left: BTreeMap<u64, u128>,
 ) -> Result<Branches, Halt>
     requires kinded { DistKinded (shape_kinds shape.now) (dx_tree dist.now) TruthKind }
-    requires ways { AreWays (product (shape_sizes shape.now)) from.now.entries }
-    requires left_ways { AreWays (product (shape_sizes shape.now)) left.entries }
+    requires ways { AreWays (shape_size shape.now) from.now.entries }
+    requires left_ways { AreWays (shape_size shape.now) left.entries }
     ensures taken { IfOk result (λ b. carry_step (guard_lead true (tried (shape_types shape.now) (dx_tree dist.now))) [] from.now.entries ≡ Ok b.taken.entries) }
     ensures left { IfOk result (λ b. carry_step (guard_lead false (tried (shape_types shape.now) (dx_tree dist.now))) left.entries from.now.entries ≡ Ok b.left.entries) }
     ensures fault { IfErr result (λ e. IsHaltOf (carry_step (guard_lead true (tried (shape_types shape.now) (dx_tree dist.now))) [] from.now.entries) e) }
-    ensures ways { IfOk result (λ b. AreWays (product (shape_sizes shape.now)) b.taken.entries × AreWays (product (shape_sizes shape.now)) b.left.entries) }
+    ensures ways { IfOk result (λ b. AreWays (shape_size shape.now) b.taken.entries × AreWays (shape_size shape.now) b.left.entries) }
 {
     let mut taken = BTreeMap::new(alloc);
     let mut left = left;
@@ -195,10 +194,10 @@ pub fn last_guard(
     left: BTreeMap<u64, u128>,
 ) -> Result<BTreeMap<u64, u128>, Halt>
     requires kinded { DistKinded (shape_kinds shape.now) (dx_tree dist.now) TruthKind }
-    requires ways { AreWays (product (shape_sizes shape.now)) from.now.entries }
-    requires left_ways { AreWays (product (shape_sizes shape.now)) left.entries }
+    requires ways { AreWays (shape_size shape.now) from.now.entries }
+    requires left_ways { AreWays (shape_size shape.now) left.entries }
     ensures answer { AnswersPass result (carry_step (last_lead dist.now.at (tried (shape_types shape.now) (dx_tree dist.now))) left.entries from.now.entries) }
-    ensures ways { IfOk result (λ m. AreWays (product (shape_sizes shape.now)) m.entries) }
+    ensures ways { IfOk result (λ m. AreWays (shape_size shape.now) m.entries) }
 {
     let mut left = left;
     for (store, scale) in from.iter() {
@@ -227,9 +226,9 @@ pub fn copy(
     from: &BTreeMap<u64, u128>,
 ) -> Result<BTreeMap<u64, u128>, Halt>
     requires checked { IsChecked (program_tree program.now) }
-    requires ways { AreWays (product (shape_sizes program.now.shape)) from.now.entries }
+    requires ways { AreWays (shape_size program.now.shape) from.now.entries }
     ensures answer { AnswersPass result (carry_step (copy_lead (program_tree program.now)) [] from.now.entries) }
-    ensures ways { IfOk result (λ m. AreWays (product (shape_sizes program.now.shape)) m.entries) }
+    ensures ways { IfOk result (λ m. AreWays (shape_size program.now.shape) m.entries) }
 {
     let mut next = BTreeMap::new(alloc);
     for (store, scale) in from {

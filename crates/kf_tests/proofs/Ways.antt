@@ -1,28 +1,24 @@
 -- What the plain program needs to know of shapes, choices and statements.
-use Rattle.std.proofs.Common.{◌≡◌, ℕ, zero, suc, ◌+◌, ◌*◌, ◌<◌, All, List, [], ◌∷◌, length, map, drop, get_or, slice_get, slice_index, Some, sym, ap, ◌∙◌, subst, rules, arith}
+use Rattle.std.proofs.Common.{◌≡◌, ℕ, zero, suc, ◌+◌, ◌*◌, ◌<◌, List, [], ◌∷◌, length, map, drop, get_or, slice_get, slice_index, Some, sym, ap, ◌∙◌, subst, rules, arith}
 use Rattle.std.proofs.lemmas.List.{length-map}
-use Rattle.std.proofs.lemmas.List.Elements.{recursion_from_All}
 use Rattle.std.proofs.lemmas.Option.{slice_get-map, slice_get-get_or}
 use Rattle.std.specs.Option.{option_map}
-use Rattle.kf_value.proofs.ListLemmas.{each_at, mapped_read}
-use Rattle.kf_value.specs.Kinds.{KindTree}
+use Rattle.kf_value.specs.Kinds.{KindTree, kind_of}
 use Rattle.kf_value.specs.Types.{product, count}
 use Rattle.kf_value.specs.Shapes.{shape_types, shape_sizes}
 use Rattle.kf_value.specs.declared.shape.Shape.{Shape}
 use Rattle.kf_value.specs.Types.{Boolean}
 use Rattle.kf_core.specs.Exs.{Slot}
-use Rattle.kf_core.specs.Dxs.{dx_at, dx_tree, Sure}
+use Rattle.kf_core.specs.Dxs.{dx_at, Sure}
+use Rattle.kf_core.specs.Views.{dx_tree, st_tree}
 use Rattle.kf_core.specs.Checked as kinded
 use Rattle.kf_core.specs.declared.dx.Dx.{Dx}
 use Rattle.kf_core.specs.declared.dx.DxNode.TheVariants as node
 use Rattle.kf_core.specs.declared.ex.Ex.TheVariants as ex
 use Rattle.kf_core.specs.declared.ex.Ex.{the_lemmas as ex_lemmas}
 use Rattle.kf_core.specs.declared.st.St.{St}
-use Rattle.kf_core.specs.Sts.{StTree, st_tree}
-use Rattle.kf_core.specs.Checked.{DistKinded, IsSound, AreSound, IsChecked, kind_of, skip, assign, observe, if_else, while, none, more}
-use Rattle.kf_core.specs.Choices.{Weighted}
-use Rattle.kf_eval.specs.Choices.{weighted_tree}
-use Rattle.kf_eval.specs.declared.choice.Weighted as coded
+use Rattle.kf_core.specs.Checked.{DistKinded, IsSound, AreSound}
+use Rattle.kf_core.proofs.SoundParts.{sound_first}
 use Rattle.kf_eval.specs.Kinds.{shape_kinds}
 
 -- ---- how many stores there are
@@ -39,21 +35,14 @@ product_step shape i n size within is =
     let next : suc i ≡ i + 1 = omega arith in
     rw (is, ← next) (step_on (shape_sizes shape) i n (omega arith))
 
--- what holds of all choices holds of the one that is read
-pub choice_holds : (P : Weighted → Type 0) (cs : List coded.Weighted) (i : ℕ) (c : coded.Weighted) → i < length cs → c ≡ get_or cs i c → All P (map weighted_tree cs) → P (weighted_tree c)
-choice_holds P cs i c within read all =
-    each_at P (map weighted_tree cs) i (weighted_tree c) (recursion_from_All P (map weighted_tree cs) all) (mapped_read weighted_tree cs i c within read)
-
 -- ---- the statements of a sound list
 
 module _ (ks : List KindTree) where
-  sound_first : {x : StTree} {xs : List StTree} → AreSound ks (x ∷ xs) → IsSound ks x × AreSound ks xs
-  sound_first (more h hs) = (h, hs)
-
-  sound_at : (us : List St) (i : ℕ) (u : St) → AreSound ks (map st_tree us) → slice_get us i ≡ Some u → IsSound ks (st_tree u)
+  -- the statement at a place
+  pub sound_at : (us : List St) (i : ℕ) (u : St) → AreSound ks (map st_tree us) → slice_get us i ≡ Some u → IsSound ks (st_tree u)
   sound_at [] i u h here = (cc)
-  sound_at (v ∷ vs) zero u h here = subst (λ w. IsSound ks (st_tree w)) (cc) (sound_first h).0
-  sound_at (v ∷ vs) (suc i) u h here = sound_at vs i u (sound_first h).1 here
+  sound_at (v ∷ vs) zero u h here = subst (λ w. IsSound ks (st_tree w)) (cc) (sound_first ks h).0
+  sound_at (v ∷ vs) (suc i) u h here = sound_at vs i u (sound_first ks h).1 here
 
   -- the statement that is read
   pub read_sound : (us : List St) (i : ℕ) (u : St) → i < length us → u ≡ get_or us i u → AreSound ks (map st_tree us) → IsSound ks (st_tree u)

@@ -1,1 +1,2 @@
+-- For bodies
 pub mod Rooms

@@ -1,4 +1,4 @@
--- Room for every answer, and an answer written whole to a sink in memory.
+-- For bodies: room for every answer, and an answer written whole to a sink in memory.
 use Rattle.std.specs.Prelude.{◌≡◌, ℕ, ◌≤◌, List, ◌++◌, length}
 use Rattle.kf_top.specs.Ends.{Answer, IsAnswer}
 

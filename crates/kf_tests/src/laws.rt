@@ -1,6 +1,6 @@
 ghost use Rattle.std.specs.Prelude.{◌≡◌, ◌≢◌, ◌≤◌, [], map, string_bytes};
 ghost use Rattle.kf_io.specs.Entries.{bytes_of};
-ghost use Rattle.kf_io.specs.Writes.{room_left};
+ghost use Rattle.kf_io.specs.Sinks.{room_left};
 ghost use Rattle.kf_top.specs.Ends.{sunk, Answered};
 ghost use Rattle.kf_tests.specs.Rooms.{HasRoom, IsWritten};
 

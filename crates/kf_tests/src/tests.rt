@@ -1,6 +1,6 @@
 // Runs over files and sinks in memory: statuses and whole texts.
 ghost use Rattle.std.specs.Prelude.{◌<◌, ◌≤◌, length, IfOk};
-ghost use Rattle.kf_core.specs.Programs.{program_tree};
+ghost use Rattle.kf_core.specs.Views.{program_tree};
 ghost use Rattle.kf_core.specs.Checked.{IsChecked};
 
 mod answers;
@@ -98,6 +98,11 @@ fn ample(alloc: Global) -> Result<MemSink, Fail> {
     Ok(MemSink::new(alloc, 4_194_304, 65536, calls(alloc, &[])?)?)
 }
 
+// The sink has taken this text and no more.
+fn has_taken(rt: &(impl Abort + AllocGlobal), line: &str, sink: &MemSink, want: &str) {
+    assert_eq!(rt; sink.bytes(), want.as_bytes(), "{line}");
+}
+
 // A run over these files and sinks ends so.
 fn ends_over<F: Files>(
     rt: &(impl Abort + AllocGlobal),
@@ -115,8 +120,8 @@ fn ends_over<F: Files>(
     let words = words_of(rt.alloc(), line)?;
     let status = run(rt.alloc(), &words, files, &mut out, &mut err);
     assert_eq!(rt; status, want_status, "{line}");
-    assert_eq!(rt; out.bytes(), want_out.as_bytes(), "{line}");
-    assert_eq!(rt; err.bytes(), want_err.as_bytes(), "{line}");
+    has_taken(rt, line, &out, want_out);
+    has_taken(rt, line, &err, want_err);
     Ok(())
 }
 

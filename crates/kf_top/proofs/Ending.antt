@@ -4,13 +4,13 @@ use Rattle.std.proofs.lemmas.Bool.{cases_lt}
 use Rattle.std.specs.Option.{ForSome}
 use Rattle.std.specs.Io.KnownBytes.{Appends, Keeps}
 use Rattle.kf_io.specs.Faults.{Rose}
-use Rattle.kf_top.specs.Task.{Task, task_of, files_of_task, files_of_some}
+use Rattle.kf_top.specs.Task.{Task, task_of, files_of_some}
 use Rattle.kf_top.specs.Answer.{Statement, Shown, States, Refused, Usage, said, line_of, status_of}
 use Rattle.kf_top.specs.Outcome.{Outcome, SomeOutcome, TaskOutcome}
 use Rattle.kf_top.specs.Stops.{refused}
 use Rattle.kf_top.specs.declared.stops.Refusal.{Refusal}
 use Rattle.kf_top.specs.declared.stops.Refusal.TheVariants as refusal
-use Rattle.kf_top.specs.Ends.{showing, refusing, IsAnswer, Sunk, TookNothing, Took, TookFront, HasFailed, TookLine, Answered, Completes, HasCauses}
+use Rattle.kf_top.specs.Ends.{showing, refusing, IsAnswer, Sunk, TookNothing, Took, TookFront, HasFailed, TookLine, Answered, CanRefuse, Completes, HasCauses}
 
 -- ---- sinks
 
@@ -20,7 +20,9 @@ took_none (Some x) None k = absurd k
 took_none (Some x) (Some y) k = k ∙ sym (append-nil x)
 
 line_none : (s : Sunk) → TookNothing s → TookLine s []
-line_none s k = record { front = (0, omega arith, took_none s.bytes_before s.bytes k); whole = λ _. took_none s.bytes_before s.bytes k }
+line_none s k =
+    let took = took_none s.bytes_before s.bytes k in
+    record { front = (0, omega arith, took); whole = λ _. took; certain = λ _. took }
 
 -- ---- answers
 
@@ -64,7 +66,7 @@ yes_or_no false = omega arith
 pub completes : (words : List (List ℕ)) (told : Option (List ℕ → List ℕ)) (before now : List ℕ → ℕ) (out err : Sunk) (status : ℕ) → HasCauses words told before now out err status → Completes words told before now out err status
 completes words told before now out err status causes = record {
   whole = λ contents e reads write memory. causes.decided contents e
-      (λ is3. let r = causes.read is3 in reads r.0 r.1 r.2) (λ is4. write (causes.write is4).0) memory;
+      (λ is3. let r = causes.read is3 in reads r.name r.named r.rose) (λ is4. write (causes.write is4).0) memory;
 }
 
 module _ (words : List (List ℕ)) (told : Option (List ℕ → List ℕ)) (before now : List ℕ → ℕ) (out err : Sunk) where
@@ -79,6 +81,7 @@ module _ (words : List (List ℕ)) (told : Option (List ℕ → List ℕ)) (befo
     usage_shown = λ _ _. refl;
     read = λ is3. absurd (omega arith);
     read_shown = λ name in' rose memory. absurd (unmoved same name rose);
+    counted = λ no3. same;
     write = λ is4. absurd (omega arith);
     write_shown = λ rose. absurd (omega arith);
     part = λ contents e is4. absurd (omega arith);
@@ -90,28 +93,30 @@ module _ (words : List (List ℕ)) (told : Option (List ℕ → List ℕ)) (befo
     some_task : task_of words ≡ None → ⊥
     some_task none = let both : None ≡ Some task = sym none ∙ asked in absurd (cc)
 
-    pub ends_refused : (r : Refused) (status : ℕ) → 5 ≤ status_of r → status_of r ≢ 12 → now ≡ before → out.faults ≡ out.faults_before → status ≡ status_of r → TookNothing out → TookLine err (line_of r)
+    pub ends_refused : (r : Refused) (status : ℕ) → CanRefuse task r → 5 ≤ status_of r → status_of r ≢ 12 → now ≡ before → out.faults ≡ out.faults_before → status ≡ status_of r → TookNothing out → TookLine err (line_of r)
         → ForSome told (λ contents. TaskOutcome contents task (Err r)) → HasCauses words told before now out err status
-    ends_refused r status high other same unfailed is quiet line outcome = record {
+    ends_refused r status can high other same unfailed is quiet line outcome = record {
       decided = λ contents e no3 no4 no12. answered_refused words contents r out err status (of_task words contents task (Err r) asked (outcome contents e)) is quiet line;
       usage = λ is2. absurd (omega arith);
       usage_shown = λ none memory. absurd (some_task none);
       read = λ is3. absurd (omega arith);
       read_shown = λ name in' rose memory. absurd (unmoved same name rose);
+      counted = λ no3. same;
       write = λ is4. absurd (omega arith);
       write_shown = λ rose. absurd (omega arith);
       part = λ contents e is4. absurd (omega arith);
-      refused = λ above memory. (r, is, line);
+      refused = λ above memory. record { task = task; asked = asked; refusal = r; can = can; status_is = is; line = line };
       memory = λ is12. absurd (other (sym is ∙ is12));
     }
 
-    pub ends_unread : (name : List ℕ) → Contains (files_of_task task) name → Rose (before name) (now name) → out.faults ≡ out.faults_before → TookNothing out → TookLine err (said name (codes ": read failed")) → HasCauses words told before now out err 3
+    pub ends_unread : (name : List ℕ) → Contains task.files name → Rose (before name) (now name) → out.faults ≡ out.faults_before → TookNothing out → TookLine err (said name (codes ": read failed")) → HasCauses words told before now out err 3
     ends_unread name named rose unfailed quiet line = record {
       decided = λ contents e no3 no4 no12. absurd (no3 refl);
       usage = λ is2. absurd (omega arith);
       usage_shown = λ none memory. absurd (some_task none);
-      read = λ is3. (name, subst (λ (t : Option Task). Contains (files_of_some t) name) (sym asked) named, rose, line);
+      read = λ is3. record { name = name; named = subst (λ (t : Option Task). Contains (files_of_some t) name) (sym asked) named; rose = rose; line = line };
       read_shown = λ other in' higher memory. refl;
+      counted = λ no3. absurd (no3 refl);
       write = λ is4. absurd (omega arith);
       write_shown = λ higher. absurd (omega arith);
       part = λ contents e is4. absurd (omega arith);
@@ -132,6 +137,7 @@ module _ (words : List (List ℕ)) (told : Option (List ℕ → List ℕ)) (befo
             usage_shown = λ none memory. absurd (some_task none);
             read = λ is3. absurd (omega arith);
             read_shown = λ name in' rose memory. absurd (unmoved same name rose);
+            counted = λ no3. same;
             write = λ is4. absurd (omega arith);
             write_shown = λ rose. absurd (omega arith);
             part = λ contents e is4. absurd (omega arith);
@@ -146,6 +152,7 @@ module _ (words : List (List ℕ)) (told : Option (List ℕ → List ℕ)) (befo
         usage_shown = λ none memory. absurd (some_task none);
         read = λ is3. absurd (omega arith);
         read_shown = λ name in' rose memory. absurd (unmoved same name rose);
+        counted = λ no3. same;
         write = λ is4. (failed, line);
         write_shown = λ rose. refl;
         part = λ contents e is4. record { answer = showing shown; is_answer = defined contents e; shown = yes_or_no shown.yes; front = front; no_room = no_room };

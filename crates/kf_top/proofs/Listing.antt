@@ -4,15 +4,17 @@ use Rattle.std.proofs.lemmas.List.Elements.{All-head, All-tail, All-nil, All-con
 use Rattle.std.proofs.lemmas.List.Sums.{sum_by-cons}
 use Rattle.kf_hyper.specs.declared.traces.TraceRow.{TraceRow}
 use Rattle.kf_hyper.specs.declared.column.Column.{Column}
-use Rattle.kf_hyper.specs.Columns.{IsBelow, total}
+use Rattle.kf_hyper.specs.Columns.{total}
+use Rattle.kf_hyper.specs.Shapes.{IsBelow}
 use Rattle.kf_hyper.specs.Joint.{IsJoint, mass}
-use Rattle.kf_hyper.specs.Traces.{Row, row_of, IsTable}
+use Rattle.kf_hyper.specs.Traces.{Row}
+use Rattle.kf_hyper.specs.Tables.{table_row, IsTable}
 
 abbrev pub columns_in : List Row → List Column
 columns_in rows = map (λ (r : Row). r.column) rows
 
 abbrev pub columns_left : List TraceRow → List Column
-columns_left left = columns_in (map row_of left)
+columns_left left = columns_in (map table_row left)
 
 -- what a loop over rows keeps, in which `len` are left
 pub record Listed (columns : List Column) (left : List TraceRow) (len : ℕ) (whole : List TraceRow) : Type 0 where

@@ -4,8 +4,9 @@ use Rattle.std.proofs.lemmas.List.Elements.{All-nil, All-cons}
 use Rattle.std.specs.List.Sorted.{IsStrictlySortedBy}
 use Rattle.kf_value.specs.Values.{ValueTree, Whole}
 use Rattle.kf_hyper.specs.declared.entry.Entry.{Entry}
-use Rattle.kf_hyper.specs.Columns.{IsBelow}
-use Rattle.kf_hyper.specs.Traces.{Row, IsTable, trace_order}
+use Rattle.kf_hyper.specs.Shapes.{IsBelow}
+use Rattle.kf_hyper.specs.Traces.{Row, trace_order}
+use Rattle.kf_hyper.specs.Tables.{IsTable}
 
 abbrev entry : ℕ → ℕ → Entry
 entry value weight = record { value = value; weight = weight }

@@ -1,105 +1,29 @@
 -- Words and files have at most one defined answer.
-use Rattle.std.proofs.Common.{◌≡◌, ◌↔◌, ℕ, ◌+◌, List, [], ◌∷◌, All, map, Contains, None, Some, Option, Result, Ok, Err, refl, sym, ◌∙◌, ap, subst, arith, ⊎_elim, inl, inr, suc, zero, add-one}
-use Rattle.std.specs.declared.cmp.Ordering.{Ordering}
+use Rattle.std.proofs.Common.{◌≡◌, ℕ, List, [], ◌∷◌, None, Some, Option, Result, Ok, Err, refl, sym, ◌∙◌, ap, subst, ⊎_elim}
 use Rattle.std.specs.declared.cmp.Ordering.TheVariants.{Less}
 use Rattle.std.specs.Ordering.{nat_cmp, ordering_reverse}
-use Rattle.std.specs.List.{AllByRecursion}
-use Rattle.std.specs.List.Sorted.{IsStrictlySortedBy}
 use Rattle.std.proofs.lemmas.Cmp.{nat_cmp_total}
-use Rattle.std.proofs.lemmas.List.Elements.{All-head, All-tail}
 use Rattle.std.proofs.lemmas.Map.Keys.{sorted_from_strictly_increasing}
-use Rattle.kf_value.specs.Values.{ValueTree, Tuple, parts, parts_list, order}
-use Rattle.kf_value.proofs.Orders.{tuples_order, not_both_less}
 use Rattle.kf_lex.specs.declared.token.Token.{Token}
-use Rattle.kf_lex.specs.Readings.{IsFault, IsOneReading}
-use Rattle.kf_parse.specs.Answers.{IsRefused, OneProgram, NotBoth, OneRefusal}
+use Rattle.kf_lex.specs.Readings.{IsFault}
+use Rattle.kf_lex.specs.Laws.{IsOneReading}
+use Rattle.kf_parse.specs.Answers.{IsRefused}
+use Rattle.kf_parse.specs.Laws.{OneProgram, NotBoth, OneRefusal}
 use Rattle.kf_ast.specs.Sources.{SourceTree}
 use Rattle.kf_check.specs.declared.errors.TypeError.{TypeError}
 use Rattle.kf_check.specs.Sources.{JudgesSource, IsBroken}
 use Rattle.kf_check.specs.Laws.{OneJudgement, OneTyped}
-use Rattle.kf_core.specs.Joint.{Cell, weight_of}
-use Rattle.kf_hyper.specs.Columns.{IsColumn, weight_at}
-use Rattle.kf_hyper.specs.Hypers.{Inner, IsHyper}
-use Rattle.kf_hyper.specs.Traces.{Row, trace_order}
-use Rattle.kf_hyper.proofs.AtMostOne.{In, Ordered, same_lists, at_most_one}
-use Rattle.kf_hyper.proofs.Weights.{above_column, same_column}
+use Rattle.kf_core.specs.JointLaws.{RowsAreOne, HypersAreOne}
+use Rattle.kf_core.specs.Programs.{ProgramTree}
+use Rattle.kf_core.proofs.OneTable.{one_list}
+use Rattle.kf_hyper.specs.Traces.{Row}
 use Rattle.kf_channel.specs.Channels.{AreSecrets}
-use Rattle.kf_traces.specs.Rows.{AreRowsOf}
-use Rattle.kf_top.specs.Columns.{IsHyperOf}
 use Rattle.kf_top.specs.Texts.{hyper_text, trace_text, channel_text}
-use Rattle.kf_top.specs.Task.{Task, Hyper, Traces, Channel, task_of}
-use Rattle.kf_top.specs.Answer.{Shown, Statement, HyperOf, TracesOf, ChannelOf, States, Refused, Usage}
-use Rattle.kf_top.specs.Outcome.{Step, After, Gives, Fault, bad_text, token_fault, syntax_fault, type_fault, IsBad, TokensOf, SourceOf, ProgramOf, cleared, ClearedOf, FileOf, hyper_statement, traces_statement, channel_statement, TaskOutcome, SomeOutcome, source_of}
-use Rattle.kf_top.specs.Ends.{Answer, Settled, showing, AtMostOneAnswer}
-use Rattle.kf_top.proofs.Steps.{Then, some_syntax}
-
--- ---- lists in strict order with the same elements
-
-in_from_contains : {X : Type 0} (xs : List X) (x : X) → Contains xs x → In x xs
-in_from_contains [] x has = absurd (omega (arith, has.1))
-in_from_contains (y ∷ ys) x (zero, within, is) = inl (sym is)
-in_from_contains (y ∷ ys) x (suc k, within, is) = inr (in_from_contains ys x (k, omega arith, is))
-
-contains_from_in : {X : Type 0} (xs : List X) (x : X) → In x xs → Contains xs x
-contains_from_in [] x has = absurd has
-contains_from_in (y ∷ ys) x has = ⊎_elim (λ (e : x ≡ y). (0, omega arith, sym e)) (λ h. let c = contains_from_in ys x h in (c.0 + 1, omega (arith, c.1), rw add-one c.2)) has
-
-module _ {X : Type 0} (compared : X → X → Ordering) (not_both : (x y : X) → compared x y ≡ Less → compared y x ≡ Less → ⊥) where
-  abbrev IsBefore : X → X → Type 0
-  IsBefore x y = compared x y ≡ Less
-
-  later : (x : X) (ys : List X) → AllByRecursion (λ (y : X). IsBefore x y) ys → (y : X) → In y ys → IsBefore x y
-  later x [] all y here = absurd here
-  later x (z ∷ zs) all y here = ⊎_elim (λ (e : y ≡ z). subst (IsBefore x) (sym e) all.0) (λ h. later x zs all.1 y h) here
-
-  ordered : (xs : List X) → IsStrictlySortedBy compared xs → Ordered IsBefore not_both xs
-  unfolding IsStrictlySortedBy
-  ordered [] sorted = tt
-  ordered (x ∷ xs) sorted = (later x xs sorted.0, ordered xs sorted.1)
-
-  one_list : (xs ys : List X) → IsStrictlySortedBy compared xs → IsStrictlySortedBy compared ys → ((x : X) → Contains xs x ↔ Contains ys x) → xs ≡ ys
-  one_list xs ys p q same = same_lists IsBefore not_both xs ys (ordered xs p) (ordered ys q)
-      (λ x h. in_from_contains ys x ((same x).0 (contains_from_in xs x h)))
-      (λ x h. in_from_contains xs x ((same x).1 (contains_from_in ys x h)))
-
--- ---- the rows of a joint
-
-listed_parts : (vs : List ValueTree) → parts_list (parts vs) ≡ vs
-listed_parts [] = refl
-listed_parts (v ∷ vs) = ap (λ ws. v ∷ ws) (listed_parts vs)
-
-as_tuples : (t u : List ValueTree) → order (Tuple (parts t)) (Tuple (parts u)) ≡ trace_order t u
-as_tuples t u = tuples_order (parts t) (parts u) ∙ (λ i. trace_order (listed_parts t i) (listed_parts u i))
-
-not_both_traces : (t u : List ValueTree) → trace_order t u ≡ Less → trace_order u t ≡ Less → ⊥
-not_both_traces t u p q = not_both_less (Tuple (parts t)) (Tuple (parts u)) (as_tuples t u ∙ p) (as_tuples u t ∙ q)
-
-abbrev HasWeights : List Cell → Row → Type 0
-HasWeights joint r = (x : ℕ) → weight_at r.column x ≡ weight_of joint r.trace x
-
-one_row : (joint : List Cell) (r s : Row) → r.trace ≡ s.trace → IsColumn r.column → IsColumn s.column → HasWeights joint r → HasWeights joint s → r ≡ s
-one_row joint r s trace p q of_r of_s =
-    let column : r.column ≡ s.column = same_column 0 r.column s.column (above_column r.column p) (above_column s.column q)
-    (λ x. of_r x ∙ ap (λ t. weight_of joint t x) trace ∙ sym (of_s x)) in
-    λ i. record { trace = trace i; column = column i }
-
-same_rows : (joint : List Cell) (rs ss : List Row) → map (λ (r : Row). r.trace) rs ≡ map (λ (r : Row). r.trace) ss → All (λ (r : Row). IsColumn r.column) rs → All (λ (r : Row). IsColumn r.column) ss
-    → All (HasWeights joint) rs → All (HasWeights joint) ss → rs ≡ ss
-same_rows joint [] [] traces p q of_r of_s = refl
-same_rows joint [] (s ∷ ss) traces p q of_r of_s = absurd (cc)
-same_rows joint (r ∷ rs) [] traces p q of_r of_s = absurd (cc)
-same_rows joint (r ∷ rs) (s ∷ ss) traces p q of_r of_s =
-    let first : r.trace ≡ s.trace = cc in
-    let others : map (λ (r : Row). r.trace) rs ≡ map (λ (r : Row). r.trace) ss = cc in
-    let head : r ≡ s = one_row joint r s first (All-head (λ (r : Row). IsColumn r.column) r rs p) (All-head (λ (r : Row). IsColumn r.column) s ss q) (All-head (HasWeights joint) r rs of_r) (All-head (HasWeights joint) s ss of_s) in
-    let rest = same_rows joint rs ss others (All-tail (λ (r : Row). IsColumn r.column) r rs p) (All-tail (λ (r : Row). IsColumn r.column) s ss q) (All-tail (HasWeights joint) r rs of_r) (All-tail (HasWeights joint) s ss of_s) in
-    λ i. head i ∷ rest i
-
-one_table : (joint : List Cell) (rs ss : List Row) → AreRowsOf joint rs → AreRowsOf joint ss → rs ≡ ss
-one_table joint rs ss p q =
-    let traces = one_list trace_order not_both_traces (map (λ (r : Row). r.trace) rs) (map (λ (r : Row). r.trace) ss) p.ascending q.ascending
-    (λ t. (λ h. (q.all t).1 ((p.all t).0 h), λ h. (p.all t).1 ((q.all t).0 h))) in
-    same_rows joint rs ss traces p.columns q.columns p.weights q.weights
+use Rattle.kf_top.specs.Task.{Task, task_of}
+use Rattle.kf_top.specs.Answer.{Shown, Statement, HyperOf, TracesOf, ChannelOf, IsText, States, Refused, Usage}
+use Rattle.kf_top.specs.Outcome.{Step, After, Gives, Each, Fault, Text, bad_text, token_fault, syntax_fault, type_fault, IsBad, TokensOf, SourceOf, ProgramOf, TypedOf, TextOf, cleared, ClearedOf, statement_of, TaskOutcome, SomeOutcome, source_of}
+use Rattle.kf_top.specs.Ends.{Answer, Settled, IsAnswer, showing}
+use Rattle.kf_top.proofs.Steps.{some_syntax}
 
 -- ---- secrets
 
@@ -113,23 +37,24 @@ one_secrets rows xs ys p q =
 
 -- ---- statements
 
-one_hyper : (joint : List Cell) (is js : List Inner) → IsHyperOf joint is → IsHyperOf joint js → is ≡ js
-one_hyper joint is js p q =
-    let rows : p.rows ≡ q.rows = one_table joint p.rows q.rows p.are_rows q.are_rows in
-    at_most_one (map (λ (r : Row). r.column) q.rows) is js (subst (λ (rs : List Row). IsHyper (map (λ (r : Row). r.column) rs) is) rows p.is_hyper) q.is_hyper
-
 same_shown : (a b : Shown) → a.bytes ≡ b.bytes → a.yes ≡ b.yes → a ≡ b
 same_shown a b bytes yes' = λ i. record { yes = yes' i; bytes = bytes i }
 
-one_shown : (statement : Statement) (a b : Shown) → States a statement → States b statement → a ≡ b
-one_shown (HyperOf target scale joint) a b p q =
-    same_shown a b (p.text ∙ ap (hyper_text target scale) (one_hyper joint p.inners q.inners p.is_hyper q.is_hyper) ∙ sym q.text) (p.yes ∙ sym q.yes)
-one_shown (TracesOf target scale joint) a b p q =
-    same_shown a b (p.text ∙ ap (trace_text target scale) (one_table joint p.rows q.rows p.are_rows q.are_rows) ∙ sym q.text) (p.yes ∙ sym q.yes)
-one_shown (ChannelOf target joint) a b p q =
-    let rows : p.rows ≡ q.rows = one_table joint p.rows q.rows p.are_rows q.are_rows in
-    let secrets : p.secrets ≡ q.secrets = one_secrets q.rows p.secrets q.secrets (subst (λ (rs : List Row). AreSecrets rs p.secrets) rows p.are_secrets) q.are_secrets in
-    same_shown a b (p.text ∙ (λ i. channel_text target (rows i) (secrets i)) ∙ sym q.text) (p.yes ∙ sym q.yes)
+module _ (rows_are_one : RowsAreOne) (hypers_are_one : HypersAreOne) where
+  one_text : (statement : Statement) (xs ys : List ℕ) → IsText statement xs → IsText statement ys → xs ≡ ys
+  one_text (HyperOf target scale joint) xs ys p q = p.2 ∙ ap (hyper_text target scale) (hypers_are_one joint p.0 q.0 p.1 q.1) ∙ sym q.2
+  one_text (TracesOf target scale joint) xs ys p q = p.2 ∙ ap (trace_text target scale) (rows_are_one joint p.0 q.0 p.1 q.1) ∙ sym q.2
+  one_text (ChannelOf target joint) xs ys p q =
+      let rows : p.0 ≡ q.0 = rows_are_one joint p.0 q.0 p.1 q.1 in
+      let secrets : p.2.0 ≡ q.2.0 = one_secrets q.0 p.2.0 q.2.0 (subst (λ (rs : List Row). AreSecrets rs p.2.0) rows p.2.1) q.2.1 in
+      p.2.2 ∙ (λ i. channel_text target (rows i) (secrets i)) ∙ sym q.2.2
+
+  one_shown : (statement : Statement) (a b : Shown) → States a statement → States b statement → a ≡ b
+  one_shown statement a b p q = same_shown a b (one_text statement a.bytes b.bytes p.text q.text) (p.yes ∙ sym q.yes)
+
+  one_settled : (r : Result Statement Refused) (a b : Answer) → Settled r a → Settled r b → a ≡ b
+  one_settled (Ok statement) a b p q = p.2 ∙ ap showing (one_shown statement p.0 q.0 p.1 q.1) ∙ sym q.2
+  one_settled (Err r) a b p q = p ∙ sym q
 
 -- ---- outcomes
 
@@ -158,9 +83,14 @@ module _ {A B : Type 0} (first : Step A) (next : A → Step B) (one_first : HasO
 one_given : {A : Type 0} (given : Result A Refused) → HasOne (Gives given)
 one_given given r s p q = p ∙ sym q
 
-one_settled : (r : Result Statement Refused) (a b : Answer) → Settled r a → Settled r b → a ≡ b
-one_settled (Ok statement) a b p q = p.2 ∙ ap showing (one_shown statement p.0 q.0 p.1 q.1) ∙ sym q.2
-one_settled (Err r) a b p q = p ∙ sym q
+module _ {A B : Type 0} (step : A → Step B) (one_step : (x : A) → HasOne (step x)) where
+  one_each : (xs : List A) → HasOne (Each step xs)
+  one_each [] = one_given (Ok [])
+  one_each (x ∷ xs) = one_after (step x) (λ y. After (Each step xs) (λ ys. Gives (Ok (y ∷ ys)))) (one_step x)
+      (λ y. one_after (Each step xs) (λ ys. Gives (Ok (y ∷ ys))) (one_each xs) (λ ys. one_given (Ok (y ∷ ys))))
+
+abbrev text : List ℕ → List ℕ → ProgramTree → Text
+text name bytes p = record { name = name; bytes = bytes; program = p }
 
 -- faults of a text that have one error have one refusal
 one_bad : {E : Type 0} (IsError : E → Type 0) (fault_of : E → Option Fault) (name bytes : List ℕ) → ((e f : E) (x y : Fault) → fault_of e ≡ Some x → fault_of f ≡ Some y → IsError e → IsError f → e ≡ f)
@@ -198,25 +128,28 @@ module _ (reading : IsOneReading) (one : OneProgram) (both : NotBoth) (refusal :
   one_checked name bytes tree (Err r) (Ok q) h k = absurd (not_broken tree h.error k.judged h.is_error)
   one_checked name bytes tree (Err r) (Err s) h k = ap Err (one_bad (IsBroken tree) type_fault name bytes (λ e f x y _ _. same_rule tree e f) r s h k)
 
-  one_cleared : (name : List ℕ) (turns : ℕ) (bytes : List ℕ) → HasOne (ClearedOf name turns bytes)
-  unfolding ClearedOf
-  one_cleared name turns bytes = one_after (TokensOf name bytes) (λ tokens. After (SourceOf name bytes tokens) (λ tree. After (ProgramOf name bytes tree) (Then name bytes turns))) (one_tokens name bytes)
-      (λ tokens. one_after (SourceOf name bytes tokens) (λ tree. After (ProgramOf name bytes tree) (Then name bytes turns)) (one_source name bytes tokens)
-      (λ tree. one_after (ProgramOf name bytes tree) (Then name bytes turns) (one_checked name bytes tree) (λ p. one_after (Gives (cleared name bytes turns p)) (λ _. Gives (Ok p)) (one_given (cleared name bytes turns p)) (λ _. one_given (Ok p)))))
+  one_typed : (name bytes : List ℕ) → HasOne (TypedOf name bytes)
+  unfolding TypedOf
+  one_typed name bytes = one_after (TokensOf name bytes) (λ tokens. After (SourceOf name bytes tokens) (ProgramOf name bytes)) (one_tokens name bytes)
+      (λ tokens. one_after (SourceOf name bytes tokens) (ProgramOf name bytes) (one_source name bytes tokens) (one_checked name bytes))
 
-  one_file : (contents : List ℕ → List ℕ) (file : List ℕ) (turns : ℕ) → HasOne (FileOf contents file turns)
-  one_file contents file turns = one_after (Gives (source_of contents file)) (ClearedOf file turns) (one_given (source_of contents file)) (one_cleared file turns)
+  one_read : (contents : List ℕ → List ℕ) (name : List ℕ) → HasOne (TextOf contents name)
+  one_read contents name =
+      one_after (Gives (source_of contents name)) (λ bytes. After (TypedOf name bytes) (λ p. Gives (Ok (text name bytes p)))) (one_given (source_of contents name))
+      (λ bytes. one_after (TypedOf name bytes) (λ p. Gives (Ok (text name bytes p))) (one_typed name bytes) (λ p. one_given (Ok (text name bytes p))))
 
   one_task : (contents : List ℕ → List ℕ) (task : Task) → HasOne (TaskOutcome contents task)
-  one_task contents (Hyper file turns) = one_after (FileOf contents file turns) (λ p. Gives (Ok (hyper_statement turns p))) (one_file contents file turns) (λ p. one_given (Ok (hyper_statement turns p)))
-  one_task contents (Traces file turns) = one_after (FileOf contents file turns) (λ p. Gives (Ok (traces_statement turns p))) (one_file contents file turns) (λ p. one_given (Ok (traces_statement turns p)))
-  one_task contents (Channel file turns) = one_after (FileOf contents file turns) (λ p. Gives (channel_statement turns p)) (one_file contents file turns) (λ p. one_given (channel_statement turns p))
+  one_task contents task =
+      one_after (ClearedOf contents task) (λ ps. Gives (statement_of task.command task.turns ps))
+      (one_after (Each (TextOf contents) task.files) (Each (λ t. Gives (cleared task.turns t)))
+      (one_each (TextOf contents) (one_read contents) task.files) (one_each (λ t. Gives (cleared task.turns t)) (λ t. one_given (cleared task.turns t))))
+      (λ ps. one_given (statement_of task.command task.turns ps))
 
   one_outcome : (contents : List ℕ → List ℕ) (task : Option Task) → HasOne (SomeOutcome contents task)
   one_outcome contents None = one_given (Err Usage)
   one_outcome contents (Some task) = one_task contents task
 
-  pub one_answer : AtMostOneAnswer
-  one_answer words contents a b p q =
+  pub one_answer : RowsAreOne → HypersAreOne → (words : List (List ℕ)) (contents : List ℕ → List ℕ) (a b : Answer) → IsAnswer words contents a → IsAnswer words contents b → a ≡ b
+  one_answer rows_are_one hypers_are_one words contents a b p q =
       let results : p.result ≡ q.result = one_outcome contents (task_of words) p.result q.result p.outcome q.outcome in
-      one_settled q.result a b (subst (λ (r : Result Statement Refused). Settled r a) results p.settled) q.settled
+      one_settled rows_are_one hypers_are_one q.result a b (subst (λ (r : Result Statement Refused). Settled r a) results p.settled) q.settled

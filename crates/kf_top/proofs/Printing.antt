@@ -7,7 +7,8 @@ use Rattle.kf_frac.specs.declared.frac.Frac.{Frac}
 use Rattle.kf_frac.specs.Fractions.{fraction_text, reduced_num, reduced_den, denominator_text}
 use Rattle.kf_frac.proofs.LowestTerms.{text_of_reduced}
 use Rattle.kf_value.specs.declared.target_item.TargetItem.{TargetItem}
-use Rattle.kf_value.specs.Targets.{item_of, item_text, target_text}
+use Rattle.kf_value.specs.Targets.{item_text, target_text}
+use Rattle.kf_value.specs.TypeViews.{item_of}
 
 -- a fraction in lowest terms is written as the one that it was made of
 pub share_text : (f : Frac) (n : ℤ) (d : ℕ) → f.num ≡ reduced_num n d → f.den ≡ reduced_den n d → fraction_text f.num f.den ≡ fraction_text n d

@@ -1,12 +1,12 @@
 -- One step and then the next, and what a stop's result is.
-use Rattle.std.proofs.Common.{◌≡◌, ◌≢◌, ◌<◌, ◌≤◌, le-leb, if◌then◌else◌, IsOk, IfOk, IfErr, ℕ, List, Bool, ◌⊎◌, ⊎_elim, inl, inr, true, false, true≢false, None, Some, Result, Ok, Err, refl, sym, ap, ◌∙◌, subst}
+use Rattle.std.proofs.Common.{◌≡◌, Contains, arith, ◌≢◌, ◌<◌, ◌≤◌, le-leb, if◌then◌else◌, IsOk, ℕ, List, [], ◌∷◌, Bool, ◌⊎◌, ⊎_elim, inl, inr, true, false, true≢false, None, Some, Result, Ok, Err, refl, sym, ap, ◌∙◌, subst}
 use Rattle.std.proofs.lemmas.Bool.{lt-leb}
 use Rattle.kf_frac.specs.Fractions.{limit}
 use Rattle.kf_value.specs.Targets.{Item}
 use Rattle.kf_lex.specs.declared.token.Token.{Token}
 use Rattle.kf_lex.specs.declared.token.LexError.{LexError}
 use Rattle.kf_lex.specs.declared.token.LexError.TheVariants as lexing
-use Rattle.kf_lex.specs.Readings.{IsFaultOrMem}
+use Rattle.kf_lex.specs.Cuts.{IsFaultOrMem}
 use Rattle.kf_parse.specs.declared.errors.ParseError.{ParseError}
 use Rattle.kf_parse.specs.declared.errors.ParseError.TheVariants as parsing
 use Rattle.kf_parse.specs.Answers.{IsRefused}
@@ -19,10 +19,12 @@ use Rattle.kf_core.specs.Runs.{Halted}
 use Rattle.kf_core.specs.Support.{StoreSet, program_pass}
 use Rattle.kf_core.specs.Scale.{scale_of as run_scale}
 use Rattle.kf_core.specs.Joint.{joint_of}
-use Rattle.kf_channel.specs.Views.{all_initial}
+use Rattle.kf_channel.specs.Channels.{all_initial}
 use Rattle.kf_top.specs.Answer.{Statement, Refused, ChannelOf, NotInitial, WideScale}
-use Rattle.kf_top.specs.Outcome.{Step, After, Fault, token_fault, syntax_fault, type_fault, bad_text, TokensOf, SourceOf, ProgramOf, bad_run, scaled, cleared, Gives, channel_statement}
-use Rattle.kf_top.specs.Stops.{Answers}
+use Rattle.kf_top.specs.Outcome.{Step, After, Each, Fault, Text, token_fault, syntax_fault, type_fault, bad_text, TokensOf, SourceOf, ProgramOf, TextOf, bad_run, narrow, cleared, ClearedOf, Gives, channel_statement, source_of, statement_of, TaskOutcome}
+use Rattle.kf_top.specs.Stops.{Answers, is_bytes, is_text, is_cleared, is_alone}
+use Rattle.kf_top.specs.Task.{Command, on_file}
+use Rattle.kf_support.specs.declared.cleared.Cleared.{Cleared}
 use Rattle.kf_top.specs.Views.{ShowsStatement}
 use Rattle.kf_top.specs.declared.stops.Done.{Done}
 use Rattle.kf_top.specs.declared.stops.Stop.{Stop}
@@ -45,14 +47,64 @@ pub next_answers : {A B X : Type 0} (Meets : X → B → Type 0) (first : Step A
 next_answers Meets first next (Ok z) x done h = (h.0, h.1, (x, done, h.2))
 next_answers Meets first next (Err s) x done h = next_stops Meets first next Meets s x done h
 
--- what is left of the way to a cleared program once it is checked
-abbrev pub Then : List ℕ → List ℕ → ℕ → ProgramTree → Step ProgramTree
-Then name bytes turns p = After (Gives (cleared name bytes turns p)) (λ _. Gives (Ok p))
+-- the result of a step of which there is only one
+abbrev pub alone : {B : Type 0} → Result B Refused → Result (List B) Refused
+alone (Ok y) = Ok (y ∷ [])
+alone (Err r) = Err r
 
--- what is stated of a cleared program, given what it is
-pub then_answers : (first : Step ProgramTree) (next : ProgramTree → Result Statement Refused) (q : ProgramTree) (r : Result Done Stop) → ((y : ProgramTree) × (q ≡ y) × first (Ok y))
+pub each_alone : {A B : Type 0} (step : A → Step B) (x : A) (r : Result B Refused) → step x r → Each step (x ∷ []) (alone r)
+each_alone step x (Ok y) h = (y, h, ([], refl, refl))
+each_alone step x (Err r) h = inl h
+
+-- the one file of a command: its text stops it, or what its program is cleared to
+pub no_text : (contents : List ℕ → List ℕ) (command : Command) (name : List ℕ) (turns : ℕ) (s : Stop) → Answers (is_text name) (Err s) (TextOf contents name)
+    → Answers is_alone (Err s) (ClearedOf contents (on_file command name turns))
+no_text contents command name turns (stop.Refused r) h = inl (inl h)
+no_text contents command name turns (stop.ReadFailed n) h = tt
+no_text contents command name turns stop.Mem h = tt
+
+pub alone_cleared : (contents : List ℕ → List ℕ) (command : Command) (name : List ℕ) (turns : ℕ) (t : Text) (r : Result Cleared Stop) → TextOf contents name (Ok t)
+    → Answers is_cleared r (Gives (cleared turns t)) → Answers is_alone r (ClearedOf contents (on_file command name turns))
+alone_cleared contents command name turns t (Ok c) typed h =
+    (h.0 ∷ [], ap (λ (p : ProgramTree). p ∷ []) h.1, (t ∷ [], each_alone (TextOf contents) name (Ok t) typed, each_alone (λ (u : Text). Gives (cleared turns u)) t (Ok h.0) h.2))
+alone_cleared contents command name turns t (Err (stop.Refused r)) typed h = inr (t ∷ [], each_alone (TextOf contents) name (Ok t) typed, inl h)
+alone_cleared contents command name turns t (Err (stop.ReadFailed n)) typed h = tt
+alone_cleared contents command name turns t (Err stop.Mem) typed h = tt
+
+-- a file that isn't read has no text
+pub no_bytes : (contents : List ℕ → List ℕ) (name : List ℕ) (s : Stop) → Answers is_bytes (Err s) (Gives (source_of contents name)) → Answers (is_text name) (Err s) (TextOf contents name)
+no_bytes contents name (stop.Refused r) h = inl h
+no_bytes contents name (stop.ReadFailed n) h = tt
+no_bytes contents name stop.Mem h = tt
+
+-- what is stated of a step's result, given what it is
+then_answers : {A : Type 0} (first : Step A) (next : A → Result Statement Refused) (q : A) (r : Result Done Stop) → ((y : A) × (q ≡ y) × first (Ok y))
     → Answers ShowsStatement r (Gives (next q)) → Answers ShowsStatement r (After first (λ p. Gives (next p)))
-then_answers first next q r way answer = next_answers ShowsStatement first (λ p. Gives (next p)) r way.0 way.2 (subst (λ (p : ProgramTree). Answers ShowsStatement r (Gives (next p))) way.1 answer)
+then_answers {A} first next q r way answer = next_answers ShowsStatement first (λ p. Gives (next p)) r way.0 way.2 (subst (λ (p : A). Answers ShowsStatement r (Gives (next p))) way.1 answer)
+
+module _ (contents : List ℕ → List ℕ) (command : Command) (turns : ℕ) where
+  -- what stops the clearing of a task's one file stops the task
+  pub task_stops : (name said : List ℕ) → said ≡ name → (s : Stop) → Answers is_alone (Err s) (ClearedOf contents (on_file command said turns))
+      → Answers ShowsStatement (Err s) (TaskOutcome contents (on_file command name turns))
+  task_stops name said same s h = stops s (subst (λ (n : List ℕ). Answers is_alone (Err s) (ClearedOf contents (on_file command n turns))) same h)
+    where
+      stops : (s : Stop) → Answers is_alone (Err s) (ClearedOf contents (on_file command name turns)) → Answers ShowsStatement (Err s) (TaskOutcome contents (on_file command name turns))
+      stops (stop.Refused r) h = inl h
+      stops (stop.ReadFailed n) h = tt
+      stops stop.Mem h = tt
+
+  -- what its command states of its cleared program is stated by the task
+  pub task_answers : (name said : List ℕ) → said ≡ name → (q : ProgramTree) (n : ℕ) → n ≡ turns → (r : Result Done Stop)
+      → ((ys : List ProgramTree) × (q ∷ [] ≡ ys) × ClearedOf contents (on_file command said turns) (Ok ys))
+      → Answers ShowsStatement r (Gives (statement_of command n (q ∷ []))) → Answers ShowsStatement r (TaskOutcome contents (on_file command name turns))
+  task_answers name said same q n often r way answer =
+      then_answers (ClearedOf contents (on_file command name turns)) (statement_of command turns) (q ∷ []) r
+      (subst (λ (m : List ℕ). (ys : List ProgramTree) × (q ∷ [] ≡ ys) × ClearedOf contents (on_file command m turns) (Ok ys)) same way)
+      (subst (λ (k : ℕ). Answers ShowsStatement r (Gives (statement_of command k (q ∷ [])))) often answer)
+
+-- a task on one file names it
+pub named_alone : (name said : List ℕ) → said ≡ name → Contains (name ∷ []) said
+named_alone name said same = (0, omega arith, sym same)
 
 -- an error with a fault isn't want of memory
 pub some_syntax : (e : ParseError) (f : Fault) → syntax_fault e ≡ Some f → e ≢ parsing.Mem
@@ -72,26 +124,21 @@ bad_source name bytes tokens e f has is = record { error = e; is_error = is; fau
 pub bad_program : (name bytes : List ℕ) (tree : SourceTree) (e : TypeError) (f : Fault) → type_fault e ≡ Some f → (e ≢ typing.Mem → IsBroken tree e) → ProgramOf name bytes tree (Err (bad_text name bytes f))
 bad_program name bytes tree e f has is = record { error = e; is_error = is (λ mem. let none : None ≡ Some f = ap type_fault (sym mem) ∙ has in absurd (cc)); fault = f; has = has; is = refl }
 
--- what a program is refused for once it is checked
-pub halts : (name bytes : List ℕ) (turns : ℕ) (p : ProgramTree) (f : Halted) → program_pass turns p ≡ Err f → Err (bad_run name bytes f) ≡ cleared name bytes turns p
+-- what a text is refused for once it is a program
+pub halts : (turns : ℕ) (t : Text) (f : Halted) → program_pass turns t.program ≡ Err f → Err (bad_run t.name t.bytes f) ≡ cleared turns t
 unfolding cleared
-halts name bytes turns p f is = sym (ap (λ r. elim r [ Ok ns ↦ scaled name (run_scale turns p) | Err g ↦ Err (bad_run name bytes g) ]) is)
+halts turns t f is = sym (ap (λ r. elim r [ Ok ns ↦ narrow t.name (run_scale turns t.program) t.program | Err g ↦ Err (bad_run t.name t.bytes g) ]) is)
 
-passed : (name bytes : List ℕ) (turns : ℕ) (p : ProgramTree) (r : Result StoreSet Halted) → r ≡ program_pass turns p → IsOk r → scaled name (run_scale turns p) ≡ cleared name bytes turns p
+passed : (turns : ℕ) (t : Text) (r : Result StoreSet Halted) → r ≡ program_pass turns t.program → IsOk r → narrow t.name (run_scale turns t.program) t.program ≡ cleared turns t
 unfolding cleared
-passed name bytes turns p (Ok ns) is ok = ap (λ r. elim r [ Ok ns ↦ scaled name (run_scale turns p) | Err g ↦ Err (bad_run name bytes g) ]) is
-passed name bytes turns p (Err f) is ok = absurd (true≢false (sym ok))
+passed turns t (Ok ns) is ok = ap (λ r. elim r [ Ok ns ↦ narrow t.name (run_scale turns t.program) t.program | Err g ↦ Err (bad_run t.name t.bytes g) ]) is
+passed turns t (Err f) is ok = absurd (true≢false (sym ok))
 
-pub fits : (name bytes : List ℕ) (turns : ℕ) (p : ProgramTree) → IsOk (program_pass turns p) → run_scale turns p ≤ limit → Ok tt ≡ cleared name bytes turns p
-fits name bytes turns p ok few = ap (λ b. if b then Ok tt else Err (WideScale name)) (sym (le-leb (run_scale turns p) limit few)) ∙ passed name bytes turns p (program_pass turns p) refl ok
+pub fits : (turns : ℕ) (t : Text) → IsOk (program_pass turns t.program) → run_scale turns t.program ≤ limit → Ok t.program ≡ cleared turns t
+fits turns t ok few = ap (λ b. if b then Ok t.program else Err (WideScale t.name)) (sym (le-leb (run_scale turns t.program) limit few)) ∙ passed turns t (program_pass turns t.program) refl ok
 
-pub too_wide : (name bytes : List ℕ) (turns : ℕ) (p : ProgramTree) → IsOk (program_pass turns p) → limit < run_scale turns p → Err (WideScale name) ≡ cleared name bytes turns p
-too_wide name bytes turns p ok wide = ap (λ b. if b then Ok tt else Err (WideScale name)) (sym (lt-leb (run_scale turns p) limit wide)) ∙ passed name bytes turns p (program_pass turns p) refl ok
-
--- what is made or wants memory
-pub made_answers : {B X : Type 0} (Meets : X → B → Type 0) (r : Result X Stop) (given : B) → IfOk r (λ x. Meets x given) → IfErr r (λ s. s ≡ stop.Mem) → Answers Meets r (Gives (Ok given))
-made_answers Meets (Ok x) given ok err = (given, ok, refl)
-made_answers Meets (Err s) given ok err = rw err tt
+pub too_wide : (turns : ℕ) (t : Text) → IsOk (program_pass turns t.program) → limit < run_scale turns t.program → Err (WideScale t.name) ≡ cleared turns t
+too_wide turns t ok wide = ap (λ b. if b then Ok t.program else Err (WideScale t.name)) (sym (lt-leb (run_scale turns t.program) limit wide)) ∙ passed turns t (program_pass turns t.program) refl ok
 
 either_way : (b : Bool) → (b ≡ true) ⊎ (b ≡ false)
 either_way true = inl refl

@@ -1,13 +1,12 @@
--- What an answer states, and the words of a refusal.
+-- Believed: what an answer states, and the words of a refusal.
 use Rattle.std.specs.Prelude.{◌≡◌, ℕ, List, [], ◌∷◌, ◌++◌, Bool, true, codes}
 use Rattle.std.specs.Fmt.{decimal}
 use Rattle.kf_value.specs.Targets.{Item}
 use Rattle.kf_core.specs.Joint.{Cell}
+use Rattle.kf_core.specs.Rows.{AreRowsOf, IsHyperOf}
 use Rattle.kf_hyper.specs.Hypers.{Inner}
 use Rattle.kf_hyper.specs.Traces.{Row}
 use Rattle.kf_channel.specs.Channels.{AreSecrets}
-use Rattle.kf_traces.specs.Rows.{AreRowsOf}
-use Rattle.kf_top.specs.Columns.{IsHyperOf}
 use Rattle.kf_top.specs.Texts.{hyper_text, trace_text, channel_text}
 
 -- what the bytes of an answer state
@@ -19,38 +18,25 @@ pub data Statement : Type 0 where
   -- the channel from its values to its traces
   ChannelOf : List Item → List Cell → Statement
 
+-- the bytes are the statement's text
+abbrev pub IsText : Statement → List ℕ → Type 0
+IsText (HyperOf target scale joint) bytes =
+    (inners : List Inner) × IsHyperOf joint inners × (bytes ≡ hyper_text target scale inners)
+IsText (TracesOf target scale joint) bytes =
+    (rows : List Row) × AreRowsOf joint rows × (bytes ≡ trace_text target scale rows)
+IsText (ChannelOf target joint) bytes =
+    (rows : List Row) × AreRowsOf joint rows
+    × ((secrets : List ℕ) × AreSecrets rows secrets × (bytes ≡ channel_text target rows secrets))
+
 -- the bytes for out, and whether the answer is yes
 pub record Shown : Type 0 where
   pub yes : Bool
   pub bytes : List ℕ
 
--- the bytes are the text of the joint's hyper
-pub record StatesHyper (target : List Item) (scale : ℕ) (joint : List Cell) (shown : Shown) : Type 0 where
-  pub inners : List Inner
-  pub is_hyper : IsHyperOf joint inners
-  pub text : shown.bytes ≡ hyper_text target scale inners
+-- what is shown states this
+pub record States (shown : Shown) (statement : Statement) : Type 0 where
+  pub text : IsText statement shown.bytes
   pub yes : shown.yes ≡ true
-
--- the bytes are the text of the joint's traces
-pub record StatesTraces (target : List Item) (scale : ℕ) (joint : List Cell) (shown : Shown) : Type 0 where
-  pub rows : List Row
-  pub are_rows : AreRowsOf joint rows
-  pub text : shown.bytes ≡ trace_text target scale rows
-  pub yes : shown.yes ≡ true
-
--- the bytes are the text of the joint's channel
-pub record StatesChannel (target : List Item) (joint : List Cell) (shown : Shown) : Type 0 where
-  pub rows : List Row
-  pub are_rows : AreRowsOf joint rows
-  pub secrets : List ℕ
-  pub are_secrets : AreSecrets rows secrets
-  pub text : shown.bytes ≡ channel_text target rows secrets
-  pub yes : shown.yes ≡ true
-
-abbrev pub States : Shown → Statement → Type 0
-States shown (HyperOf target scale joint) = StatesHyper target scale joint shown
-States shown (TracesOf target scale joint) = StatesTraces target scale joint shown
-States shown (ChannelOf target joint) = StatesChannel target joint shown
 
 -- why there is no such answer, from the words and the files' bytes alone
 pub data Refused : Type 0 where

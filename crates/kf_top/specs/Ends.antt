@@ -1,13 +1,13 @@
--- How a run ends: its status, and what it did to the sinks and to the counts of faults.
-use Rattle.std.specs.Prelude.{◌≡◌, ◌≢◌, ℕ, ◌≤◌, ◌<◌, List, [], length, Contains, codes, None, Ok, Err, if◌then◌else◌}
+-- Believed: how a run ends: its status, and what it did to the sinks and to the counts of faults.
+use Rattle.std.specs.Prelude.{◌≡◌, ◌≢◌, ℕ, ◌≤◌, ◌<◌, List, [], length, Contains, codes, None, Some, Ok, Err, if◌then◌else◌}
 use Rattle.std.specs.declared.option.Option.{Option}
 use Rattle.std.specs.declared.result.Result.{Result}
 use Rattle.std.specs.Option.{ForSome}
 use Rattle.std.specs.Io.KnownBytes.{Appends, Keeps}
 use Rattle.kf_io.specs.Faults.{Rose}
 use Rattle.kf_io.specs.Writes.{AppendsSome}
-use Rattle.kf_top.specs.Task.{task_of, files_of}
-use Rattle.kf_top.specs.Answer.{Statement, Shown, States, Refused, Usage, said, line_of, status_of}
+use Rattle.kf_top.specs.Task.{Task, Channel, task_of, files_of}
+use Rattle.kf_top.specs.Answer.{Statement, Shown, States, Refused, Usage, TooLong, BadText, BadRun, WideScale, NotInitial, said, line_of, status_of}
 use Rattle.kf_top.specs.Outcome.{Outcome}
 
 -- ---- answers
@@ -47,7 +47,13 @@ pub record Sunk : Type 0 where
   pub room_before : ℕ
 
 abbrev pub sunk : {S : Type 0} → (S → Option (List ℕ)) → (S → ℕ) → (S → ℕ) → S → S → Sunk
-sunk taken faults room old new = record { bytes_before = taken old; bytes = taken new; faults_before = faults old; faults = faults new; room_before = room old }
+sunk taken faults room old new = record {
+  bytes_before = taken old;
+  bytes = taken new;
+  faults_before = faults old;
+  faults = faults new;
+  room_before = room old;
+}
 
 abbrev pub TookNothing : Sunk → Type 0
 TookNothing s = Keeps s.bytes_before s.bytes
@@ -61,10 +67,11 @@ TookFront s bytes = AppendsSome s.bytes_before s.bytes bytes
 abbrev pub HasFailed : Sunk → Type 0
 HasFailed s = Rose s.faults_before s.faults
 
--- the line, or a front of it where the sink's count rose
+-- the line, or a front of it where the sink's count rose; the whole line where it was certain to have room
 pub record TookLine (s : Sunk) (line : List ℕ) : Type 0 where
   pub front : TookFront s line
   pub whole : ¬ HasFailed s → Took s line
+  pub certain : length line ≤ s.room_before → Took s line
 
 -- ---- ends
 
@@ -87,31 +94,57 @@ pub record AnsweredInPart (words : List (List ℕ)) (contents : List ℕ → Lis
   pub front : TookFront out answer.out
   pub no_room : out.room_before < length answer.out
 
--- where nothing failed, the run ends with the defined answer, or memory was wanting
-pub record Completes (words : List (List ℕ)) (told : Option (List ℕ → List ℕ)) (before now : List ℕ → ℕ) (out err : Sunk) (status : ℕ) : Type 0 where
-  pub whole : ForSome told (λ contents. ((name : List ℕ) → Contains (files_of words) name → ¬ Rose (before name) (now name)) → ¬ HasFailed out
-      → status ≢ 12 → Answered words contents out err status)
+-- the refusal is one that the task can have: of a file that it names, or, for a channel, of its target
+abbrev pub CanRefuse : Task → Refused → Type 0
+CanRefuse task Usage = ⊥
+CanRefuse task (TooLong name) = Contains task.files name
+CanRefuse task (BadText name line column word) = Contains task.files name
+CanRefuse task (BadRun name line column word) = Contains task.files name
+CanRefuse task (WideScale name) = Contains task.files name
+CanRefuse task NotInitial = task.command ≡ Channel
+
+-- the status and the line are those of a refusal that these words can have
+pub record RefusedAs (words : List (List ℕ)) (err : Sunk) (status : ℕ) : Type 0 where
+  pub task : Task
+  pub asked : task_of words ≡ Some task
+  pub refusal : Refused
+  pub can : CanRefuse task refusal
+  pub status_is : status ≡ status_of refusal
+  pub line : TookLine err (line_of refusal)
+
+-- a read of a file that the words name has failed, and the line says so
+pub record Unread (words : List (List ℕ)) (before now : List ℕ → ℕ) (err : Sunk) : Type 0 where
+  pub name : List ℕ
+  pub named : Contains (files_of words) name
+  pub rose : Rose (before name) (now name)
+  pub line : TookLine err (said name (codes ": read failed"))
 
 -- each status has its cause
-pub record HasCauses (words : List (List ℕ)) (told : Option (List ℕ → List ℕ)) (before now : List ℕ → ℕ) (out err : Sunk) (status : ℕ) : Type 0 where
+pub record HasCauses (words : List (List ℕ)) (told : Option (List ℕ → List ℕ)) (before now : List ℕ → ℕ) (out err : Sunk) (status : ℕ)
+    : Type 0 where
   -- every status but read failed, write failed and want of memory is that of the defined answer
   pub decided : ForSome told (λ contents. status ≢ 3 → status ≢ 4 → status ≢ 12 → Answered words contents out err status)
   pub usage : status ≡ 2 → (task_of words ≡ None) × TookLine err (line_of Usage)
   pub usage_shown : task_of words ≡ None → status ≢ 12 → status ≡ 2
-  pub read : status ≡ 3 → (name : List ℕ) × Contains (files_of words) name × Rose (before name) (now name) × TookLine err (said name (codes ": read failed"))
+  pub read : status ≡ 3 → Unread words before now err
   pub read_shown : (name : List ℕ) → Contains (files_of words) name → before name < now name → status ≢ 12 → status ≡ 3
+  -- where no read failed, each file's count stays
+  pub counted : status ≢ 3 → now ≡ before
   pub write : status ≡ 4 → HasFailed out × TookLine err (said [] (codes "write failed"))
   pub write_shown : out.faults_before < out.faults → status ≡ 4
   -- what out took before its fault is a front of the defined answer
   pub part : ForSome told (λ contents. status ≡ 4 → AnsweredInPart words contents out)
-  pub refused : 5 ≤ status → status ≢ 12 → (r : Refused) × (status ≡ status_of r) × TookLine err (line_of r)
+  pub refused : 5 ≤ status → status ≢ 12 → RefusedAs words err status
   pub memory : status ≡ 12 → TookLine err (said [] (codes "want of memory"))
+
+-- Where nothing failed, the run ends with the defined answer, or memory was wanting. (It follows from the causes.)
+pub record Completes (words : List (List ℕ)) (told : Option (List ℕ → List ℕ)) (before now : List ℕ → ℕ) (out err : Sunk) (status : ℕ)
+    : Type 0 where
+  pub whole : ForSome told (λ contents.
+      ((name : List ℕ) → Contains (files_of words) name → ¬ Rose (before name) (now name)) → ¬ HasFailed out → status ≢ 12
+      → Answered words contents out err status)
 
 -- nothing is written before the answer is whole, and err is only told of a status above 1
 pub record IsQuiet (out err : Sunk) (status : ℕ) : Type 0 where
   pub out_quiet : status ≢ 0 → status ≢ 1 → status ≢ 4 → TookNothing out
   pub err_quiet : status ≤ 1 → TookNothing err
-
--- words over files have one defined answer at the most
-abbrev pub AtMostOneAnswer : Type 0
-AtMostOneAnswer = (words : List (List ℕ)) (contents : List ℕ → List ℕ) (answer other : Answer) → IsAnswer words contents answer → IsAnswer words contents other → answer ≡ other

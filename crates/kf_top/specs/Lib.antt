@@ -1,9 +1,11 @@
-pub mod Answer
-pub mod Columns
+-- Believed
 pub mod Ends
-pub mod Outcome
-pub mod Place
-pub mod Stops
 pub mod Task
+pub mod Outcome
+pub mod Answer
 pub mod Texts
+pub mod Place
+-- For bodies
+pub mod Laws
+pub mod Stops
 pub mod Views

@@ -1,5 +1,5 @@
--- The defined answer to words over files: the first refusal, or what is to be stated.
-use Rattle.std.specs.Prelude.{◌≡◌, ◌⊎◌, ℕ, List, length, nat_le, codes, if◌then◌else◌, Ok, Err, None, Some}
+-- Believed: the defined answer to words over files: the first refusal, or what is to be stated.
+use Rattle.std.specs.Prelude.{◌≡◌, ◌⊎◌, ℕ, List, [], ◌∷◌, length, nat_le, codes, if◌then◌else◌, Ok, Err, None, Some}
 use Rattle.std.specs.declared.option.Option.{Option}
 use Rattle.std.specs.declared.result.Result.{Result}
 use Rattle.kf_lex.specs.declared.token.Token.{Token}
@@ -22,10 +22,10 @@ use Rattle.kf_core.specs.Support.{program_pass}
 use Rattle.kf_core.specs.Scale.{scale_of as run_scale}
 use Rattle.kf_core.specs.Programs.{ProgramTree}
 use Rattle.kf_core.specs.Joint.{joint_of}
-use Rattle.kf_channel.specs.Views.{all_initial}
+use Rattle.kf_channel.specs.Channels.{all_initial}
 use Rattle.kf_top.specs.Answer.{Statement, HyperOf, TracesOf, ChannelOf, Refused, Usage, TooLong, BadText, BadRun, WideScale, NotInitial}
 use Rattle.kf_top.specs.Place.{line_at, column_at}
-use Rattle.kf_top.specs.Task.{Task, Hyper, Traces, Channel, task_of}
+use Rattle.kf_top.specs.Task.{Command, Task, Hyper, Traces, Channel, task_of}
 
 -- a step towards an answer: which results it may have
 abbrev pub Step : Type 0 → Type 1
@@ -39,6 +39,11 @@ After {A} first next (Err r) = first (Err r) ⊎ ((x : A) × first (Ok x) × nex
 -- the one result of a step
 abbrev pub Gives : {A : Type 0} → Result A Refused → Step A
 Gives given result = result ≡ given
+
+-- a step for each in turn
+abbrev pub Each : {A B : Type 0} → (A → Step B) → List A → Step (List B)
+Each step [] = Gives (Ok [])
+Each step (x ∷ xs) = After (step x) (λ y. After (Each step xs) (λ ys. Gives (Ok (y ∷ ys))))
 
 -- a file's bytes, of which there are at most 1,048,576
 abbrev pub source_of : (List ℕ → List ℕ) → List ℕ → Result (List ℕ) Refused
@@ -105,6 +110,23 @@ abbrev pub ProgramOf : List ℕ → List ℕ → SourceTree → Step ProgramTree
 ProgramOf name bytes tree (Ok p) = Typed tree p
 ProgramOf name bytes tree (Err r) = IsBad (IsBroken tree) type_fault name bytes r
 
+-- a file's name, its bytes, and the program that they are
+pub record Text : Type 0 where
+  pub name : List ℕ
+  pub bytes : List ℕ
+  pub program : ProgramTree
+
+-- the program that bytes are
+unfoldable pub TypedOf : List ℕ → List ℕ → Step ProgramTree
+TypedOf name bytes =
+    After (TokensOf name bytes) (λ tokens. After (SourceOf name bytes tokens) (λ tree. ProgramOf name bytes tree))
+
+-- a file is read, then its text
+abbrev pub TextOf : (List ℕ → List ℕ) → List ℕ → Step Text
+TextOf contents name =
+    After (Gives (source_of contents name)) (λ bytes. After (TypedOf name bytes) (λ p.
+    Gives (Ok (record { name = name; bytes = bytes; program = p }))))
+
 -- the word of a run fault
 abbrev pub cause_word : Cause → List ℕ
 cause_word (Choosing (Arithmetic DivZero)) = codes "DivZero"
@@ -118,35 +140,34 @@ cause_word LoopBound = codes "LoopBound"
 abbrev pub bad_run : List ℕ → List ℕ → Halted → Refused
 bad_run name bytes f = BadRun name (line_at bytes f.at) (column_at bytes f.at) (cause_word f.cause)
 
-abbrev pub scaled : List ℕ → ℕ → Result (Unit {0}) Refused
-scaled name scale = if nat_le scale limit then Ok tt else Err (WideScale name)
+-- a program whose scale is at most 2^127 - 1
+abbrev pub narrow : List ℕ → ℕ → ProgramTree → Result ProgramTree Refused
+narrow name scale p = if nat_le scale limit then Ok p else Err (WideScale name)
 
--- that a program meets no fault and its scale is at most 2^127 - 1, or its first fault, or that its scale isn't
-unfoldable pub cleared : List ℕ → List ℕ → ℕ → ProgramTree → Result (Unit {0}) Refused
-cleared name bytes turns p = elim (program_pass turns p) [ Ok ns ↦ scaled name (run_scale turns p) | Err f ↦ Err (bad_run name bytes f) ]
+-- the program of a text, if it meets no fault and its scale isn't too wide; or its first fault
+unfoldable pub cleared : ℕ → Text → Result ProgramTree Refused
+cleared turns t = elim (program_pass turns t.program) [
+  | Ok ns ↦ narrow t.name (run_scale turns t.program) t.program
+  | Err f ↦ Err (bad_run t.name t.bytes f)
+]
 
--- the cleared program of a text
-unfoldable pub ClearedOf : List ℕ → ℕ → List ℕ → Step ProgramTree
-ClearedOf name turns bytes = After (TokensOf name bytes) (λ tokens. After (SourceOf name bytes tokens) (λ tree. After (ProgramOf name bytes tree) (λ p. After (Gives (cleared name bytes turns p)) (λ _. Gives (Ok p)))))
-
--- a file is read, then its text
-abbrev pub FileOf : (List ℕ → List ℕ) → List ℕ → ℕ → Step ProgramTree
-FileOf contents file turns = After (Gives (source_of contents file)) (ClearedOf file turns)
-
-abbrev pub hyper_statement : ℕ → ProgramTree → Statement
-hyper_statement turns p = HyperOf p.target (run_scale turns p) (joint_of turns p)
-
-abbrev pub traces_statement : ℕ → ProgramTree → Statement
-traces_statement turns p = TracesOf p.target (run_scale turns p) (joint_of turns p)
+-- all texts first, and then each cleared
+abbrev pub ClearedOf : (List ℕ → List ℕ) → Task → Step (List ProgramTree)
+ClearedOf contents task = After (Each (TextOf contents) task.files) (Each (λ t. Gives (cleared task.turns t)))
 
 -- a channel leads from values before the statements
 abbrev pub channel_statement : ℕ → ProgramTree → Result Statement Refused
 channel_statement turns p = if all_initial p.target then Ok (ChannelOf p.target (joint_of turns p)) else Err NotInitial
 
+-- what a command states of its programs; `task_of` gives each command as many files as it has programs here
+abbrev pub statement_of : Command → ℕ → List ProgramTree → Result Statement Refused
+statement_of Hyper turns (p ∷ []) = Ok (HyperOf p.target (run_scale turns p) (joint_of turns p))
+statement_of Traces turns (p ∷ []) = Ok (TracesOf p.target (run_scale turns p) (joint_of turns p))
+statement_of Channel turns (p ∷ []) = channel_statement turns p
+statement_of command turns ps = Err Usage
+
 abbrev pub TaskOutcome : (List ℕ → List ℕ) → Task → Step Statement
-TaskOutcome contents (Hyper file turns) = After (FileOf contents file turns) (λ p. Gives (Ok (hyper_statement turns p)))
-TaskOutcome contents (Traces file turns) = After (FileOf contents file turns) (λ p. Gives (Ok (traces_statement turns p)))
-TaskOutcome contents (Channel file turns) = After (FileOf contents file turns) (λ p. Gives (channel_statement turns p))
+TaskOutcome contents task = After (ClearedOf contents task) (λ ps. Gives (statement_of task.command task.turns ps))
 
 abbrev pub SomeOutcome : (List ℕ → List ℕ) → Option Task → Step Statement
 SomeOutcome contents None = Gives (Err Usage)

@@ -1,4 +1,4 @@
--- Where a byte of a text stands.
+-- Believed: where a byte of a text stands.
 use Rattle.std.specs.Prelude.{ℕ, ◌+◌, ◌==◌, Bool, not, List, length, take, reverse}
 use Rattle.std.specs.List.{filter, take_while}
 

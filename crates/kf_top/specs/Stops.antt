@@ -1,17 +1,23 @@
--- The work's result against the defined outcome, and the causes of its stops.
-use Rattle.std.specs.Prelude.{◌≡◌, ℕ, List, Vec, Ok, Err, Contains}
+-- For bodies: the work's result against the defined outcome, and the causes of its stops.
+use Rattle.std.specs.Prelude.{◌≡◌, ℕ, List, [], ◌∷◌, Vec, Ok, Err, Contains}
 use Rattle.std.specs.declared.alloc.Global.{Global}
 use Rattle.kf_lex.specs.declared.token.Token.{Token}
 use Rattle.kf_ast.specs.declared.decl.Source.{Source}
-use Rattle.kf_ast.specs.Sources.{SourceTree, source_tree}
+use Rattle.kf_ast.specs.Sources.{SourceTree}
+use Rattle.kf_ast.specs.Views.{source_tree}
 use Rattle.kf_core.specs.declared.program.Program.{Program}
-use Rattle.kf_core.specs.Programs.{ProgramTree, program_tree}
+use Rattle.kf_core.specs.Programs.{ProgramTree}
+use Rattle.kf_core.specs.Views.{program_tree}
 use Rattle.kf_support.specs.declared.cleared.Cleared.{Cleared}
 use Rattle.kf_support.specs.Cleared.{program_of}
 use Rattle.std.specs.declared.result.Result.{Result}
 use Rattle.kf_io.specs.Faults.{Rose}
 use Rattle.kf_top.specs.Answer as answer
-use Rattle.kf_top.specs.Outcome.{Step}
+use Rattle.kf_top.specs.Ends.{CanRefuse}
+use Rattle.kf_top.specs.Outcome.{Step, Text}
+use Rattle.kf_top.specs.Task.{Task}
+use Rattle.kf_top.specs.Views.{text_of}
+use Rattle.kf_top.specs.declared.work.Text as code
 use Rattle.kf_top.specs.declared.stops.Refusal.{Refusal}
 use Rattle.kf_top.specs.declared.stops.Refusal.TheVariants as refusal
 use Rattle.kf_top.specs.declared.stops.Stop.{Stop}
@@ -31,15 +37,15 @@ Answers Meets (Err (stop.Refused r)) step = step (Err (refused r))
 Answers Meets (Err (stop.ReadFailed name)) step = Unit {0}
 Answers Meets (Err stop.Mem) step = Unit {0}
 
--- where a read failed, it is of one of these files, whose count rose; a refusal changed no count
-abbrev pub StopCause : List (List ℕ) → (List ℕ → ℕ) → (List ℕ → ℕ) → Stop → Type 0
-StopCause names before now (stop.Refused r) = now ≡ before
-StopCause names before now (stop.ReadFailed name) = Contains names name.now × Rose (before name.now) (now name.now)
-StopCause names before now stop.Mem = Unit {0}
+-- where a read failed, it is of one of the task's files, whose count rose; no other stop changed a count, and a refusal is one that the task can have
+abbrev pub StopCause : Task → (List ℕ → ℕ) → (List ℕ → ℕ) → Stop → Type 0
+StopCause task before now (stop.Refused r) = CanRefuse task (refused r) × (now ≡ before)
+StopCause task before now (stop.ReadFailed name) = Contains task.files name.now × Rose (before name.now) (now name.now)
+StopCause task before now stop.Mem = now ≡ before
 
-abbrev pub Causes : {A : Type 0} → List (List ℕ) → (List ℕ → ℕ) → (List ℕ → ℕ) → Result A Stop → Type 0
-Causes names before now (Ok x) = now ≡ before
-Causes names before now (Err s) = StopCause names before now s
+abbrev pub Causes : {A : Type 0} → Task → (List ℕ → ℕ) → (List ℕ → ℕ) → Result A Stop → Type 0
+Causes task before now (Ok x) = now ≡ before
+Causes task before now (Err s) = StopCause task before now s
 
 abbrev pub is_bytes : Vec ℕ Global → List ℕ → Type 0
 is_bytes v bytes = v.items ≡ bytes
@@ -53,6 +59,14 @@ is_source source tree = source_tree source ≡ tree
 abbrev pub is_program : Program → ProgramTree → Type 0
 is_program program p = program_tree program ≡ p
 
+-- the text of a file of this name
+abbrev pub is_text : List ℕ → code.Text → Text → Type 0
+is_text name text t = text_of name text ≡ t
+
 -- the program of a cleared one
 abbrev pub is_cleared : Cleared → ProgramTree → Type 0
 is_cleared cleared p = program_tree (program_of cleared) ≡ p
+
+-- the same as the only one
+abbrev pub is_alone : Cleared → List ProgramTree → Type 0
+is_alone cleared ps = program_tree (program_of cleared) ∷ [] ≡ ps

@@ -1,5 +1,5 @@
--- What a list of words asks for.
-use Rattle.std.specs.Prelude.{ℕ, List, [], ◌∷◌, Bool, not, ◌&&◌, None, Some, codes, length, nat_eq, nat_le, ◌≤◌, if◌then◌else◌}
+-- Believed: what a list of words asks for.
+use Rattle.std.specs.Prelude.{ℕ, List, [], ◌∷◌, Bool, not, ◌&&◌, None, Some, codes, length, nat_eq, nat_le, if◌then◌else◌}
 use Rattle.std.specs.Char.{is_ascii_digit}
 use Rattle.std.specs.List.{list_all, starts_with}
 use Rattle.std.specs.Str.Parse.{digits_value}
@@ -7,11 +7,16 @@ use Rattle.std.specs.Str.{bytes_eq}
 use Rattle.std.specs.Option.{option_map}
 use Rattle.std.specs.declared.option.Option.{Option}
 
--- a command with its files, and how often a loop may turn
-pub data Task : Type 0 where
-  Hyper : List ℕ → ℕ → Task
-  Traces : List ℕ → ℕ → Task
-  Channel : List ℕ → ℕ → Task
+pub data Command : Type 0 where
+  Hyper : Command
+  Traces : Command
+  Channel : Command
+
+-- a command, the files that it is about, and how often a loop may turn
+pub record Task : Type 0 where
+  pub command : Command
+  pub files : List (List ℕ)
+  pub turns : ℕ
 
 -- how often a loop may turn where no word says it
 abbrev pub default_turns : ℕ
@@ -39,10 +44,14 @@ turns_after [] = Some default_turns
 turns_after (option ∷ word ∷ []) = if bytes_eq option (codes "--turns") then turns_said word else None
 turns_after _ = None
 
--- the one file that these words name, and how often a loop may turn
-abbrev pub file_task : (List ℕ → ℕ → Task) → List (List ℕ) → Option Task
+-- a command on one file
+abbrev pub on_file : Command → List ℕ → ℕ → Task
+on_file command file turns = record { command = command; files = file ∷ []; turns = turns }
+
+-- a command with the one file that these words name, and how often a loop may turn
+abbrev pub file_task : Command → List (List ℕ) → Option Task
 file_task command [] = None
-file_task command (file ∷ others) = if is_file file then option_map (command file) (turns_after others) else None
+file_task command (file ∷ others) = if is_file file then option_map (on_file command file) (turns_after others) else None
 
 -- the task of a command's word and the words after it
 abbrev pub command_task : List ℕ → List (List ℕ) → Option Task
@@ -56,21 +65,10 @@ abbrev pub task_of : List (List ℕ) → Option Task
 task_of (_ ∷ word ∷ others) = command_task word others
 task_of _ = None
 
-abbrev pub files_of_task : Task → List (List ℕ)
-files_of_task (Hyper file turns) = file ∷ []
-files_of_task (Traces file turns) = file ∷ []
-files_of_task (Channel file turns) = file ∷ []
-
 abbrev pub files_of_some : Option Task → List (List ℕ)
 files_of_some None = []
-files_of_some (Some task) = files_of_task task
+files_of_some (Some task) = task.files
 
 -- the files that the words name
 abbrev pub files_of : List (List ℕ) → List (List ℕ)
 files_of words = files_of_some (task_of words)
-
--- a task's loops may turn so often
-abbrev pub HasTurns : Task → Type 0
-HasTurns (Hyper file turns) = (1 ≤ turns) × (turns ≤ 65535)
-HasTurns (Traces file turns) = (1 ≤ turns) × (turns ≤ 65535)
-HasTurns (Channel file turns) = (1 ≤ turns) × (turns ≤ 65535)

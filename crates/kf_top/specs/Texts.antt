@@ -1,4 +1,4 @@
--- Printed hypers, tables of traces and channels.
+-- Believed: printed hypers, tables of traces and channels.
 use Rattle.std.specs.Prelude.{ℕ, pos, List, [], ◌∷◌, ◌++◌, length, codes, decimal, flat_map, map}
 use Rattle.std.specs.List.{enumerate_from}
 use Rattle.kf_frac.specs.Fractions.{fraction_text}
@@ -8,8 +8,7 @@ use Rattle.kf_value.specs.Targets.{Item, target_text, target_value_text}
 use Rattle.kf_hyper.specs.declared.entry.Entry.{Entry}
 use Rattle.kf_hyper.specs.Columns.{total}
 use Rattle.kf_hyper.specs.Hypers.{Inner}
-use Rattle.kf_hyper.specs.Traces.{Row}
-use Rattle.kf_channel.specs.Channels.{cell}
+use Rattle.kf_hyper.specs.Traces.{Row, share_at}
 
 -- a line is ended by LF
 abbrev pub line : List ℕ → List ℕ
@@ -61,9 +60,9 @@ column_line numbered = line (codes "column " ++ (decimal numbered.0 ++ (codes " 
 
 -- two spaces, and the probability that a secret shows this trace
 abbrev pub cell_line : List Row → ℕ → Row → List ℕ
-cell_line rows x row = line (codes "  " ++ fraction_text (pos (cell rows row x).part) (cell rows row x).whole)
+cell_line rows x row = line (codes "  " ++ fraction_text (pos (share_at rows row x).part) (share_at rows row x).whole)
 
--- a secret, and its cell in each column
+-- a secret, and its share of each column
 abbrev pub secret_lines : List Item → List Row → ℕ → List ℕ
 secret_lines target rows x = line (codes "row " ++ target_value_text target x) ++ flat_map (cell_line rows x) rows
 

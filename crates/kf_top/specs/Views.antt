@@ -1,17 +1,29 @@
--- What the code's values show.
+-- For bodies: what the code's values show.
+use Rattle.std.specs.Prelude.{ℕ, List, ◌≤◌}
+use Rattle.kf_core.specs.Views.{program_tree}
 use Rattle.kf_top.specs.Answer.{Shown, Statement, States}
+use Rattle.kf_top.specs.Outcome as outcome
 use Rattle.kf_top.specs.Task as task
 use Rattle.kf_top.specs.declared.stops.Done.{Done}
 use Rattle.kf_top.specs.declared.words.Job.{Job}
+use Rattle.kf_top.specs.declared.work.Text.{Text}
 use Rattle.kf_top.specs.declared.words.Job.TheVariants as job
 
 abbrev pub shown : Done → Shown
 shown done = record { yes = done.yes; bytes = done.bytes.items }
 
 abbrev pub task_of_job : Job → task.Task
-task_of_job (job.Hyper file turns) = task.Hyper file turns
-task_of_job (job.Traces file turns) = task.Traces file turns
-task_of_job (job.Channel file turns) = task.Channel file turns
+task_of_job (job.Hyper file turns) = task.on_file task.Hyper file turns
+task_of_job (job.Traces file turns) = task.on_file task.Traces file turns
+task_of_job (job.Channel file turns) = task.on_file task.Channel file turns
+
+-- a file's text, by its name
+abbrev pub text_of : List ℕ → Text → outcome.Text
+text_of name t = record { name = name; bytes = t.bytes.items; program = program_tree t.program }
+
+-- a task's loops may turn so often
+abbrev pub HasTurns : task.Task → Type 0
+HasTurns t = (1 ≤ t.turns) × (t.turns ≤ 65535)
 
 abbrev pub ShowsStatement : Done → Statement → Type 0
 ShowsStatement done statement = States (shown done) statement

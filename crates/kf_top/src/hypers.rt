@@ -1,10 +1,10 @@
 ghost use Rattle.std.specs.Prelude.{◌≡◌, IfOk, map};
 ghost use Rattle.kf_core.specs.Joint.{joint_of};
-ghost use Rattle.kf_core.specs.Programs.{program_tree};
-ghost use Rattle.kf_hyper.specs.Traces.{row_of};
+ghost use Rattle.kf_core.specs.Views.{program_tree};
+ghost use Rattle.kf_hyper.specs.Tables.{table_row};
 ghost use Rattle.kf_hyper.specs.Views.{inners_of, scale_of, target_of};
 ghost use Rattle.kf_support.specs.Cleared.{program_of, turns_of, whole_scale};
-ghost use Rattle.kf_top.specs.Columns.{IsHyperOf};
+ghost use Rattle.kf_core.specs.Rows.{IsHyperOf};
 
 use kf_hyper::{ColumnList, Columns, Hyper, TraceRowList, abstract_columns};
 use kf_support::Cleared;
@@ -14,7 +14,7 @@ use std::alloc::Global;
 
 // The columns of these rows, without their traces.
 fn columns_of(alloc: Global, rows: TraceRowList) -> Result<ColumnList, Mem>
-    ensures { IfOk result (λ columns. columns ≡ map (λ r. r.column) (map row_of rows)) }
+    ensures { IfOk result (λ columns. columns ≡ map (λ r. r.column) (map table_row rows)) }
 {
     let mut columns = Vec::new(alloc);
     for row in rows.into_items() {

@@ -1,15 +1,20 @@
-ghost use Rattle.kf_top.specs.Ends.{AtMostOneAnswer};
+ghost use Rattle.kf_top.specs.Laws.{ExactlyOneAnswer};
 
+use kf_channel::some_secrets;
 use kf_check::type_laws;
+use kf_core::joint_laws;
 use kf_lex::one_reading;
 use kf_parse::{grammar, refusals};
 
-/// A law of the definitions: words over files have at most one defined answer. It does nothing when it runs.
-pub fn at_most_one_answer()
-    ensures { AtMostOneAnswer }
+/// A law of the definitions: whatever the words and whatever the files hold, there is exactly one defined answer. It does
+/// nothing when it runs.
+pub fn exactly_one_answer()
+    ensures { ExactlyOneAnswer }
 {
     one_reading();
     grammar();
     refusals();
     type_laws();
+    joint_laws();
+    some_secrets();
 }

@@ -5,6 +5,7 @@ mod hypers;
 mod law;
 mod places;
 mod stops;
+mod telling;
 #[cfg(test)]
 mod tests;
 mod texts;
@@ -14,7 +15,7 @@ mod trace_tests;
 mod words;
 mod work;
 
-pub use law::at_most_one_answer;
+pub use law::exactly_one_answer;
 pub use places::place;
 pub use texts::{channel_text, hyper_text, trace_text};
 pub use top::run;

@@ -1,7 +1,7 @@
 ghost use Rattle.std.specs.Prelude.{◌≡◌, All, IfOk};
-ghost use Rattle.kf_value.specs.Targets.{target_size};
+ghost use Rattle.kf_value.specs.Numbers.{target_size};
 ghost use Rattle.kf_value.specs.Views.{items_of};
-ghost use Rattle.kf_hyper.specs.Columns.{IsBelow};
+ghost use Rattle.kf_hyper.specs.Shapes.{IsBelow};
 ghost use Rattle.kf_hyper.specs.Joint.{mass};
 
 use crate::hyper_text;

@@ -1,8 +1,8 @@
 ghost use Rattle.std.specs.Prelude.{◌≡◌, ◌≤◌, IfOk, IfSome, IsErrOf, None, Some, map, string_bytes};
 ghost use Rattle.std.specs.Char.{is_ascii_digit};
 ghost use Rattle.std.specs.List.{list_all};
-ghost use Rattle.kf_top.specs.Task.{task_of, is_file, is_numeral as is_numeral_word, turns_said as turns_of, turns_after as turns_behind, HasTurns};
-ghost use Rattle.kf_top.specs.Views.{task_of_job};
+ghost use Rattle.kf_top.specs.Task.{task_of, is_file, is_numeral as is_numeral_word, turns_said as turns_of, turns_after as turns_behind};
+ghost use Rattle.kf_top.specs.Views.{task_of_job, HasTurns};
 
 use kf_value::Name;
 use std::alloc::{AllocError, Global};

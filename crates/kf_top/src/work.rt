@@ -1,20 +1,20 @@
-ghost use Rattle.std.specs.Prelude.{◌≡◌, ◌≤◌, ◌∷◌, [], ℕ, List, length, vec_len, Ok, IfOk, IfErr};
+ghost use Rattle.std.specs.Prelude.{◌≡◌, ◌≤◌, ◌∷◌, [], ℕ, List, length, vec_len, Contains, IfOk};
 ghost use Rattle.std.specs.Option.{ForSome};
-ghost use Rattle.kf_ast.specs.Sources.{source_tree};
+ghost use Rattle.kf_ast.specs.Views.{source_tree};
 ghost use Rattle.kf_check.specs.Laws.{IsWellBuilt};
 ghost use Rattle.kf_lex.specs.Readings.{IsTokens};
 ghost use Rattle.kf_parse.specs.Answers.{IsParsed};
 ghost use Rattle.kf_core.specs.Checked.{IsChecked};
-ghost use Rattle.kf_core.specs.Programs.{program_tree};
+ghost use Rattle.kf_core.specs.Views.{program_tree};
 ghost use Rattle.kf_support.specs.Answers.{cause_of};
 ghost use Rattle.kf_support.specs.Cleared.{program_of, turns_of};
-ghost use Rattle.kf_top.specs.Outcome.{After, Gives, TokensOf, SourceOf, ProgramOf, cause_word, cleared as whether_cleared, ClearedOf, FileOf, hyper_statement, traces_statement, channel_statement, source_of, TaskOutcome};
+ghost use Rattle.kf_top.specs.Outcome.{Gives, TokensOf, SourceOf, ProgramOf, TypedOf, TextOf, cause_word, cleared as whether_cleared, ClearedOf, statement_of, source_of, TaskOutcome};
 ghost use Rattle.kf_top.specs.Place.{line_at, column_at};
-ghost use Rattle.kf_top.specs.Task.{files_of_task, HasTurns};
-ghost use Rattle.kf_top.specs.Stops.{Answers, Causes, is_bytes, is_tokens, is_source, is_program, is_cleared};
+ghost use Rattle.kf_top.specs.Task.{Command, Hyper, Traces, Channel, Task, on_file};
+ghost use Rattle.kf_top.specs.Stops.{Answers, Causes, is_bytes, is_tokens, is_source, is_program, is_text, is_cleared, is_alone};
 ghost use Rattle.kf_top.specs.declared.stops.Refusal.TheVariants as refusal;
 ghost use Rattle.kf_top.specs.declared.stops.Stop.TheVariants as stop;
-ghost use Rattle.kf_top.specs.Views.{task_of_job, ShowsStatement};
+ghost use Rattle.kf_top.specs.Views.{task_of_job, text_of, HasTurns, ShowsStatement};
 
 use crate::hypers::hyper_of;
 use crate::places::place;
@@ -44,7 +44,7 @@ fn bad_text<'a>(name: &'a str, bytes: &[u8], at: u32, word: &'static str) -> Sto
 // The bytes of a file that isn't too long.
 fn source<'a, F: Files>(alloc: Global, files: &mut F, name: &'a str) -> Result<Vec<u8>, Stop<'a>>
     ensures answer { ForSome (F.contents files.old) (λ c. Answers is_bytes result (Gives (source_of c name.now))) }
-    ensures causes { Causes (name.now ∷ []) (F.faults files.old) (F.faults files.new) result }
+    ensures causes { (task : Task) → Contains task.files name.now → Causes task (F.faults files.old) (F.faults files.new) result }
     ensures unchanged { F.contents files.new ≡ F.contents files.old }
     ensures short { IfOk result (λ bytes. vec_len bytes ≤ 1048576) }
 {
@@ -61,7 +61,7 @@ fn tokens<'a>(alloc: Global, name: &'a str, bytes: &[u8]) -> Result<Tokens, Stop
     requires { length bytes.now ≤ 1048576 }
     ensures answer { Answers is_tokens result (TokensOf name.now bytes.now) }
     ensures tokens { IfOk result (λ tokens. IsTokens bytes.now tokens) }
-    ensures causes { (before : List ℕ → ℕ) → Causes (name.now ∷ []) before before result }
+    ensures causes { (task : Task) (before : List ℕ → ℕ) → Contains task.files name.now → Causes task before before result }
 {
     match lex(alloc, bytes) {
         Ok(tokens) => Ok(tokens),
@@ -78,7 +78,7 @@ fn tree<'a>(alloc: Global, name: &'a str, bytes: &[u8], tokens: &Tokens) -> Resu
     requires tokens { IsTokens bytes.now tokens.now }
     ensures answer { Answers is_source result (SourceOf name.now bytes.now tokens.now) }
     ensures parsed { IfOk result (λ source. IsParsed bytes.now tokens.now (source_tree source)) }
-    ensures causes { (before : List ℕ → ℕ) → Causes (name.now ∷ []) before before result }
+    ensures causes { (task : Task) (before : List ℕ → ℕ) → Contains task.files name.now → Causes task before before result }
 {
     match parse(alloc, bytes, tokens) {
         Ok(source) => Ok(source),
@@ -100,7 +100,7 @@ fn program<'a>(
     requires built { IsWellBuilt (source_tree source.now) }
     ensures answer { Answers is_program result (ProgramOf name.now bytes.now (source_tree source.now)) }
     ensures checked { IfOk result (λ program. IsChecked (program_tree program)) }
-    ensures causes { (before : List ℕ → ℕ) → Causes (name.now ∷ []) before before result }
+    ensures causes { (task : Task) (before : List ℕ → ℕ) → Contains task.files name.now → Causes task before before result }
 {
     match check(alloc, source) {
         Ok(program) => Ok(program),
@@ -134,26 +134,54 @@ fn fault_word(kind: RunFault) -> &'static str
     }
 }
 
-// The program as one that meets no fault and whose scale isn't too wide.
-fn cleared<'a>(
-    alloc: Global,
-    name: &'a str,
-    bytes: &[u8],
-    program: Program,
-    turns: u32,
-) -> Result<Cleared, Stop<'a>>
+// The program of a file's bytes.
+#[tactic(auto, unfolding(crate::specs::Outcome::TypedOf))]
+fn typed<'a>(alloc: Global, name: &'a str, bytes: &[u8]) -> Result<Program, Stop<'a>>
     requires short { length bytes.now ≤ 1048576 }
-    requires checked { IsChecked (program_tree program) }
+    ensures answer { Answers is_program result (TypedOf name.now bytes.now) }
+    ensures checked { IfOk result (λ program. IsChecked (program_tree program)) }
+    ensures causes { (task : Task) (before : List ℕ → ℕ) → Contains task.files name.now → Causes task before before result }
+{
+    grammar();
+    let tokens = tokens(alloc, name, bytes)?;
+    let source = tree(alloc, name, bytes, &tokens)?;
+    program(alloc, name, bytes, &source)
+}
+
+// A file's bytes, and the program that they are.
+#[derive(Drop)]
+struct Text {
+    bytes: Vec<u8>,
+    program: Program,
+}
+
+// The text of a file.
+fn text_of_file<'a, F: Files>(alloc: Global, files: &mut F, name: &'a str) -> Result<Text, Stop<'a>>
+    ensures answer { ForSome (F.contents files.old) (λ c. Answers (is_text name.now) result (TextOf c name.now)) }
+    ensures causes { (task : Task) → Contains task.files name.now → Causes task (F.faults files.old) (F.faults files.new) result }
+    ensures short { IfOk result (λ text. vec_len text.bytes ≤ 1048576) }
+    ensures checked { IfOk result (λ text. IsChecked (program_tree text.program)) }
+{
+    let bytes = source(alloc, files, name)?;
+    let program = typed(alloc, name, &bytes)?;
+    Ok(Text { bytes, program })
+}
+
+// A text's program as one that meets no fault and whose scale isn't too wide.
+fn cleared<'a>(alloc: Global, name: &'a str, text: Text, turns: u32) -> Result<Cleared, Stop<'a>>
+    requires short { vec_len text.bytes ≤ 1048576 }
+    requires checked { IsChecked (program_tree text.program) }
     requires some_turns { 1 ≤ turns }
     requires few_turns { turns ≤ 65535 }
-    ensures answer { Answers is_cleared result (After (Gives (whether_cleared name.now bytes.now turns (program_tree program))) (λ _. Gives (Ok (program_tree program)))) }
+    ensures answer { Answers is_cleared result (Gives (whether_cleared turns (text_of name.now text))) }
     ensures turns { IfOk result (λ cleared. turns_of cleared ≡ turns) }
-    ensures causes { (before : List ℕ → ℕ) → Causes (name.now ∷ []) before before result }
+    ensures causes { (task : Task) (before : List ℕ → ℕ) → Contains task.files name.now → Causes task before before result }
 {
+    let Text { bytes, program } = text;
     match clear(alloc, program, turns) {
         Ok(cleared) => Ok(cleared),
         Err(Halt::Fault { kind, at }) => {
-            let (line, column) = place(bytes, at);
+            let (line, column) = place(&bytes, at);
             let word = fault_word(kind);
             Err(Stop::Refused(Refusal::BadRun(name, line, column, word)))
         }
@@ -162,24 +190,7 @@ fn cleared<'a>(
     }
 }
 
-// The cleared program of a file's bytes.
-#[tactic(auto, unfolding(crate::specs::Outcome::ClearedOf))]
-fn text<'a>(alloc: Global, name: &'a str, bytes: &[u8], turns: u32) -> Result<Cleared, Stop<'a>>
-    requires short { length bytes.now ≤ 1048576 }
-    requires some_turns { 1 ≤ turns }
-    requires few_turns { turns ≤ 65535 }
-    ensures answer { Answers is_cleared result (ClearedOf name.now turns bytes.now) }
-    ensures turns { IfOk result (λ cleared. turns_of cleared ≡ turns) }
-    ensures causes { (before : List ℕ → ℕ) → Causes (name.now ∷ []) before before result }
-{
-    grammar();
-    let tokens = tokens(alloc, name, bytes)?;
-    let source = tree(alloc, name, bytes, &tokens)?;
-    let program = program(alloc, name, bytes, &source)?;
-    cleared(alloc, name, bytes, program, turns)
-}
-
-// The cleared program of a file.
+// The cleared program of the one file of a command.
 fn file<'a, F: Files>(
     alloc: Global,
     files: &mut F,
@@ -188,18 +199,18 @@ fn file<'a, F: Files>(
 ) -> Result<Cleared, Stop<'a>>
     requires some_turns { 1 ≤ turns }
     requires few_turns { turns ≤ 65535 }
-    ensures answer { ForSome (F.contents files.old) (λ c. Answers is_cleared result (FileOf c name.now turns)) }
+    ensures answer { (command : Command) → ForSome (F.contents files.old) (λ c. Answers is_alone result (ClearedOf c (on_file command name.now turns))) }
     ensures turns { IfOk result (λ cleared. turns_of cleared ≡ turns) }
-    ensures causes { Causes (name.now ∷ []) (F.faults files.old) (F.faults files.new) result }
+    ensures causes { (task : Task) → Contains task.files name.now → Causes task (F.faults files.old) (F.faults files.new) result }
 {
-    let source = source(alloc, files, name)?;
-    text(alloc, name, &source, turns)
+    let text = text_of_file(alloc, files, name)?;
+    cleared(alloc, name, text, turns)
 }
 
 // The command `hyper`.
 fn hyper<'a>(alloc: Global, cleared: &Cleared) -> Result<Done, Stop<'a>>
-    ensures states { IfOk result (λ done. ShowsStatement done (hyper_statement (turns_of cleared.now) (program_tree (program_of cleared.now)))) }
-    ensures memory { IfErr result (λ s. s ≡ stop.Mem) }
+    ensures answer { Answers ShowsStatement result (Gives (statement_of Hyper (turns_of cleared.now) (program_tree (program_of cleared.now) ∷ []))) }
+    ensures causes { (task : Task) (before : List ℕ → ℕ) → Causes task before before result }
 {
     let hyper = hyper_of(alloc, cleared)?;
     let bytes = hyper_text(alloc, &hyper)?;
@@ -208,8 +219,8 @@ fn hyper<'a>(alloc: Global, cleared: &Cleared) -> Result<Done, Stop<'a>>
 
 // The command `traces`.
 fn traces<'a>(alloc: Global, cleared: &Cleared) -> Result<Done, Stop<'a>>
-    ensures states { IfOk result (λ done. ShowsStatement done (traces_statement (turns_of cleared.now) (program_tree (program_of cleared.now)))) }
-    ensures memory { IfErr result (λ s. s ≡ stop.Mem) }
+    ensures answer { Answers ShowsStatement result (Gives (statement_of Traces (turns_of cleared.now) (program_tree (program_of cleared.now) ∷ []))) }
+    ensures causes { (task : Task) (before : List ℕ → ℕ) → Causes task before before result }
 {
     let table = table(alloc, cleared)?;
     let bytes = trace_text(alloc, &table)?;
@@ -218,8 +229,8 @@ fn traces<'a>(alloc: Global, cleared: &Cleared) -> Result<Done, Stop<'a>>
 
 // The command `channel`.
 fn channel<'a>(alloc: Global, cleared: &Cleared) -> Result<Done, Stop<'a>>
-    ensures answer { Answers ShowsStatement result (Gives (channel_statement (turns_of cleared.now) (program_tree (program_of cleared.now)))) }
-    ensures causes { (names : List (List ℕ)) (before : List ℕ → ℕ) → Causes names before before result }
+    ensures answer { Answers ShowsStatement result (Gives (statement_of Channel (turns_of cleared.now) (program_tree (program_of cleared.now) ∷ []))) }
+    ensures causes { (task : Task) (before : List ℕ → ℕ) → task.command ≡ Channel → Causes task before before result }
 {
     let table = table(alloc, cleared)?;
     let channel = match channel_of(alloc, &table) {
@@ -235,7 +246,7 @@ fn channel<'a>(alloc: Global, cleared: &Cleared) -> Result<Done, Stop<'a>>
 pub fn work<'a, F: Files>(alloc: Global, files: &mut F, job: &'a Job) -> Result<Done, Stop<'a>>
     requires { HasTurns (task_of_job job.now) }
     ensures answer { ForSome (F.contents files.old) (λ c. Answers ShowsStatement result (TaskOutcome c (task_of_job job.now))) }
-    ensures causes { Causes (files_of_task (task_of_job job.now)) (F.faults files.old) (F.faults files.new) result }
+    ensures causes { Causes (task_of_job job.now) (F.faults files.old) (F.faults files.new) result }
 {
     match job {
         Job::Hyper { file: name, turns } => {

@@ -1,9 +1,7 @@
-mod Sums
 mod Measures
 mod Splitting
 mod Carrying
 mod Ordering
-mod Solid
 mod Lasting
 mod Telling
 mod Locating

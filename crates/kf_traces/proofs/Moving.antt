@@ -7,10 +7,11 @@ use Rattle.std.proofs.lemmas.List.Sums.{sum_by-cons}
 use Rattle.kf_value.specs.Types.{TypeTree}
 use Rattle.kf_core.specs.Choices.{Weighted, total}
 use Rattle.kf_core.specs.Runs.{replaced}
+use Rattle.kf_core.proofs.Measures.{Measure}
 use Rattle.kf_traces.specs.Laws.{sum_of}
 use Rattle.kf_traces.specs.Traced.{Weights, with_weight, with_move, with_moves}
 use Rattle.kf_traces.proofs.Locating.{weight_sum}
-use Rattle.kf_traces.proofs.Measures.{Measure, grown}
+use Rattle.kf_traces.proofs.Measures.{grown}
 
 -- all stores are below the number of all that there are
 abbrev pub AllBelow : ℕ → Weights → Type 0

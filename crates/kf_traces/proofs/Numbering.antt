@@ -1,45 +1,21 @@
--- The number of the target's value in a store, digit by digit.
-use Rattle.std.proofs.Common.{◌≡◌, ℕ, zero, suc, ◌+◌, ◌*◌, ◌/◌, ◌%◌, ◌<◌, ◌≤◌, ◌==◌, false, List, [], ◌∷◌, length, map, take, get_or, slice_get, Option, Some, None, refl, sym, ap, ◌∙◌, subst, arith}
+-- The number of the target's value in a store is what the store becomes at the target's variables.
+use Rattle.std.proofs.Common.{◌≡◌, ℕ, suc, ◌*◌, ◌<◌, ◌==◌, false, List, [], ◌∷◌, length, map, get_or, slice_get, Option, Some, None, refl, sym, ap, subst, ◌∙◌, arith}
 use Rattle.std.specs.Option.{option_map}
 use Rattle.std.specs.List.{All, IsDistinct, AllByRecursion as Each}
-use Rattle.std.proofs.lemmas.List.{length-map}
 use Rattle.std.proofs.lemmas.List.Elements.{All-from_recursion}
-use Rattle.std.proofs.lemmas.Option.{slice_get-map, slice_get_within, get_or_from_slice_get}
+use Rattle.std.proofs.lemmas.Option.{slice_get-map, slice_get-get_or, slice_get_within, get_or_from_slice_get}
 use Rattle.std.proofs.lemmas.Bool.{ne_eqb}
 use Rattle.kf_value.specs.Values.{ValueTree, Truth}
-use Rattle.kf_value.specs.Types.{TypeTree, values, count, product, combinations}
-use Rattle.kf_value.specs.Targets.{Item, target_size}
-use Rattle.kf_value.specs.Stores.{stores, IsStore, digits}
-use Rattle.kf_value.proofs.Places.{length-combinations, combination_at, combination_split}
+use Rattle.kf_value.specs.Types.{TypeTree, count, product}
+use Rattle.kf_value.specs.Targets.{Item}
+use Rattle.kf_value.specs.Numbers.{target_size}
 use Rattle.kf_core.specs.Checked.{IsChecked}
 use Rattle.kf_core.specs.Joint.{target_number, target_values_at}
 use Rattle.kf_core.specs.Programs.{ProgramTree}
 use Rattle.kf_core.specs.Runs.{store_at}
-use Rattle.kf_support.proofs.Stores.{counts, store_number_is}
+use Rattle.kf_core.proofs.Stores.{length-store, store_is, store_number_is}
+use Rattle.kf_hyper.specs.Laws.{AreAt, ProjectedNumbers}
 use Rattle.kf_hyper.specs.Projection.{at_places, projected}
-use Rattle.kf_hyper.proofs.Projecting.{first_product}
-use Rattle.kf_traces.proofs.Splits.{store_there}
-
--- ---- the digits of a store
-
--- so many combinations there are
-length-all : (ts : List TypeTree) → length (combinations (map values ts)) ≡ product (map count ts)
-length-all ts = length-combinations (map values ts) ∙ ap product (counts ts)
-
--- a variable's value in a store has the digit there as its number
-digit_at : (ts : List TypeTree) (n i : ℕ) (s : List ValueTree) (t : TypeTree) → slice_get (combinations (map values ts)) n ≡ Some s → slice_get ts i ≡ Some t
-    → slice_get (values t) (get_or (digits (map count ts) n) i 0) ≡ Some (get_or s i (Truth false))
-digit_at [] n i s t at typed = (cc)
-digit_at (u ∷ ts) n zero s t at typed =
-    let found = combination_split (values u) (map values ts) n s at in
-    let one : u ≡ t = (cc) in
-    ap (λ x. slice_get (values x) (n / product (map count ts))) (sym one)
-    ∙ (ap (λ m. slice_get (values u) (n / m)) (sym (length-all ts)) ∙ (found.2 ∙ ap (λ (l : List ValueTree). Some (get_or l 0 (Truth false))) (sym found.4)))
-digit_at (u ∷ ts) n (suc i) s t at typed =
-    let found = combination_split (values u) (map values ts) n s at in
-    let rest : slice_get (combinations (map values ts)) (n % product (map count ts)) ≡ Some found.1 =
-    ap (λ m. slice_get (combinations (map values ts)) (n % m)) (sym (length-all ts)) ∙ found.3 in
-    digit_at ts (n % product (map count ts)) i found.1 t rest typed ∙ ap (λ (l : List ValueTree). Some (get_or l (suc i) (Truth false))) (sym found.4)
 
 -- ---- values read at places
 
@@ -67,18 +43,17 @@ places_within ts [] (i ∷ places) h = absurd h
 places_within ts (u ∷ us) [] h = absurd h
 places_within ts (u ∷ us) (i ∷ places) h = (slice_get_within ts i u h.0, places_within ts us places h.1)
 
--- the number of the values read is the number of the digits read
-number_is : (ts : List TypeTree) (n : ℕ) (s : List ValueTree) → slice_get (combinations (map values ts)) n ≡ Some s → (us : List TypeTree) (places : List ℕ) → Reads ts us places
-    → slice_get (combinations (map values us)) (projected (map count ts) places n) ≡ Some (map (λ i. get_or s i (Truth false)) places)
-number_is ts n s at [] [] h = refl
-number_is ts n s at [] (i ∷ places) h = absurd h
-number_is ts n s at (u ∷ us) [] h = absurd h
-number_is ts n s at (u ∷ us) (i ∷ places) h =
-    let d : ℕ = get_or (digits (map count ts) n) i 0 in
-    let m : ℕ = projected (map count ts) places n in
-    let long : length (combinations (map values us)) ≡ product (at_places places (map count ts)) = length-all us ∙ ap product (sizes_read ts us places h.1) in
-    combination_at (values u) (map values us) d m (d * product (at_places places (map count ts)) + m) (get_or s i (Truth false)) (map (λ j. get_or s j (Truth false)) places)
-    (ap (λ k. d * k + m) (sym long)) (digit_at ts n i s u at h.0) (number_is ts n s at us places h.1)
+-- the types are those at the places
+reads_at : (ts us : List TypeTree) (places : List ℕ) → Reads ts us places → AreAt ts places us
+reads_at ts [] [] h = refl
+reads_at ts [] (i ∷ places) h = absurd h
+reads_at ts (u ∷ us) [] h = absurd h
+reads_at ts (u ∷ us) (i ∷ places) h = (let others = reads_at ts us places h.1 in λ k. h.0 k ∷ others k)
+
+-- and so are the values
+values_at : (s : List ValueTree) (places : List ℕ) → Each (λ i. i < length s) places → AreAt s places (map (λ i. get_or s i (Truth false)) places)
+values_at s [] h = refl
+values_at s (i ∷ places) h = (let one = slice_get-get_or s i (Truth false) h.0 in let others = values_at s places h.1 in λ k. one k ∷ others k)
 
 -- ---- the target of a checked program
 
@@ -128,24 +103,17 @@ module _ (p : ProgramTree) (checked : IsChecked p) where
   pub slots_distinct : IsDistinct (λ i j. i == j) p.target_slots
   slots_distinct = distinct_slots p.target_slots checked.apart
 
-  -- of a read list of them, each is a place
-  pub slot_within : (slots : List ℕ) → slots ≡ p.target_slots → (k i : ℕ) → k < length slots → i ≡ get_or slots k i → i < length p.types
-  slot_within slots read k i inside is = subst (λ j. j < length p.types) (sym is) (subst (λ l. All (λ i. i < length p.types) l) (sym read) slots_within k i inside)
-
-  -- and the numbers at the first so many don't pass those of all stores
-  pub slots_room : (slots : List ℕ) → slots ≡ p.target_slots → (k : ℕ) → 0 < product (map count p.types) → product (at_places (take k slots) (map count p.types)) ≤ product (map count p.types)
-  slots_room slots read k some =
-      subst (λ l. product (at_places (take k l) (map count p.types)) ≤ product (map count p.types)) (sym read)
-      (first_product (map count p.types) p.target_slots k some (subst (λ m. All (λ i. i < m) p.target_slots) (sym (length-map p.types count)) slots_within) slots_distinct)
-
   -- the target has as many values as the variables from which it is read
   pub target_size_is : target_size p.target ≡ product (at_places p.target_slots (map count p.types))
   target_size_is = size_is p.target ∙ ap product (sizes_read p.types target_types p.target_slots target_reads)
 
-  -- the number of the digits read is the target's
-  pub target_number_is : (n : ℕ) → n < product (map count p.types) → projected (map count p.types) p.target_slots n ≡ target_number p n
-  unfolding stores
-  target_number_is n below =
-      let m : ℕ = projected (map count p.types) p.target_slots n in
-      let at : IsStore target_types m (target_values_at p n) = number_is p.types n (store_at p.types n) (store_there p.types n below) target_types p.target_slots target_reads in
-      sym (ap number_or (store_number_is target_types m (target_values_at p n) at))
+  -- what a store becomes is the number of the target's value in it
+  pub target_number_is : ProjectedNumbers → (n : ℕ) → n < product (map count p.types) → projected (map count p.types) p.target_slots n ≡ target_number p n
+  target_number_is numbers n below =
+      let store = store_is p.types n below in
+      let long : length (store_at p.types n) ≡ length p.types = length-store p.types n (store_at p.types n) store in
+      let within = subst (λ m. Each (λ i. i < m) p.target_slots) (sym long) (places_within p.types target_types p.target_slots target_reads) in
+      let at =
+      numbers p.types target_types p.target_slots n (store_at p.types n) (target_values_at p n) store (reads_at p.types target_types p.target_slots target_reads)
+      (values_at (store_at p.types n) p.target_slots within) in
+      sym (ap number_or (store_number_is target_types (projected (map count p.types) p.target_slots n) (target_values_at p n) at))

@@ -7,11 +7,10 @@ use Rattle.std.specs.declared.cmp.Ordering.TheVariants.{Less, Equal, Greater}
 use Rattle.std.specs.List.{AllByRecursion as Each, flat_map}
 use Rattle.std.specs.List.Sorted.{IsStrictlySortedBy}
 use Rattle.kf_value.specs.Types.{TypeTree}
-use Rattle.kf_value.specs.Values.{ValueTree, order, lexicographic}
+use Rattle.kf_value.specs.Values.{ValueTree, order, lexicographic, truth}
 use Rattle.kf_value.proofs.ListLemmas.{each_append, each_weaker}
 use Rattle.kf_value.proofs.Orders.{flip, goes_on, order-itself, first_less, then_less}
 use Rattle.kf_value.proofs.Sorting.{sorted-nil, sorted-cons}
-use Rattle.kf_ops.specs.Values.{truth}
 use Rattle.kf_core.specs.Choices.{Weighted, total}
 use Rattle.kf_core.specs.Dxs.{DxTree}
 use Rattle.kf_core.specs.Sts.{StTree, StTrees, Skip, Assign, Observe, If, While, no_sts, more_sts, sts}

@@ -1,44 +1,26 @@
 -- What is chosen in a store, and stores that are split one after the other.
-use Rattle.std.proofs.Common.{◌≡◌, ℕ, ◌+◌, ◌*◌, ◌/◌, ◌^◌, ◌≤◌, ◌<◌, false, true≢false, List, [], ◌∷◌, length, map, Ok, Err, refl, sym, ap, subst, ◌∙◌, arith}
+use Rattle.std.proofs.Common.{◌≡◌, ℕ, ◌+◌, ◌*◌, ◌/◌, ◌^◌, ◌≤◌, ◌<◌, false, true≢false, List, [], ◌∷◌, Ok, Err, refl, sym, ap, subst, ◌∙◌, arith}
 use Rattle.std.specs.List.{All, AllByRecursion as Each}
 use Rattle.std.proofs.Math.Nat.{div-mul-le_self, mul-add, mul-zero}
 use Rattle.std.proofs.lemmas.List.Elements.{All-head, All-tail, All-from_recursion}
 use Rattle.std.proofs.lemmas.List.Sums.{sum_by-cons}
-use Rattle.std.proofs.lemmas.Option.{slice_get-get_or}
 use Rattle.kf_value.specs.Values.{ValueTree}
 use Rattle.kf_value.proofs.ListLemmas.{each_any, each_weaker}
-use Rattle.kf_value.specs.Types.{TypeTree, values, count, product}
-use Rattle.kf_value.specs.Stores.{stores, IsStore}
-use Rattle.kf_value.proofs.Ascending.{length-values}
-use Rattle.kf_value.proofs.Places.{length-combinations}
 use Rattle.kf_core.specs.Choices.{Weighted, Chosen, total}
-use Rattle.kf_core.specs.Runs.{Halted, Tried, placed_at, store_at}
+use Rattle.kf_core.specs.Runs.{Halted, Tried, placed_at}
 use Rattle.kf_core.proofs.Scales.{Weighty}
 use Rattle.kf_eval.specs.Choices.{IsChoiceFaultOf}
 use Rattle.kf_eval.specs.declared.choice.ChoiceError.{ChoiceError}
 use Rattle.kf_eval.specs.declared.choice.ChoiceError.TheVariants as error
+use Rattle.kf_core.proofs.Filled.{Filled}
+use Rattle.kf_core.proofs.Measures.{Measure}
 use Rattle.kf_traces.specs.Choosing.{is_mem}
 use Rattle.kf_traces.specs.Laws.{sum_of}
 use Rattle.kf_traces.specs.Traced.{Weights, Part, with_part, with_shares, parted, split}
 use Rattle.kf_traces.specs.Views.{parts_sum, PartsAscend}
-use Rattle.kf_traces.proofs.Carrying.{Filled}
 use Rattle.kf_traces.proofs.Locating.{part_sum}
-use Rattle.kf_traces.proofs.Measures.{Measure}
 use Rattle.kf_traces.proofs.Splitting.{shares_joined}
 use Rattle.kf_traces.proofs.Ordering.{shares_ascend}
-
--- ---- a store by its number
-
-counts : (ts : List TypeTree) → map length (map values ts) ≡ map count ts
-counts [] = refl
-counts (t ∷ ts) = (let one = length-values t in let others = counts ts in λ i. one i ∷ others i)
-
-length-all : (ts : List TypeTree) → length (stores ts) ≡ product (map count ts)
-unfolding stores
-length-all ts = length-combinations (map values ts) ∙ ap product (counts ts)
-
-pub store_there : (ts : List TypeTree) (n : ℕ) → n < product (map count ts) → IsStore ts n (store_at ts n)
-store_there ts n below = let long = length-all ts in slice_get-get_or (stores ts) n [] (omega (arith, long, below))
 
 -- ---- what is chosen
 

@@ -9,10 +9,11 @@ use Rattle.kf_value.specs.Values.{ValueTree, order}
 use Rattle.kf_value.proofs.Orders.{same}
 use Rattle.kf_core.specs.Choices.{Weighted, total}
 use Rattle.kf_core.specs.Runs.{Run, Tried, branched, silent, shown, moved, replaced, stay}
-use Rattle.kf_traces.specs.Traced.{Weights, Traced, Part, with_weight, with_part, with_shares, parted, split, with_move, with_moves, assign_all}
+use Rattle.kf_core.proofs.Measures.{Measure, Trace, RunsWithin, runs_value, ahead, choices_run, stay_within, stay_value}
+use Rattle.kf_core.proofs.Sums.{adds}
+use Rattle.kf_traces.specs.Traced.{Weights, Part, with_weight, with_part, with_shares, parted, split, with_move, with_moves}
 use Rattle.kf_traces.specs.Traced as spec
-use Rattle.kf_traces.proofs.Sums.{adds}
-use Rattle.kf_traces.proofs.Measures.{Measure, Trace, Within, measure, grown, RunsWithin, runs_value, ahead, choices_run, stay_within, stay_value}
+use Rattle.kf_traces.proofs.Measures.{Within, measure, grown}
 
 -- ---- parts
 

@@ -1,79 +1,22 @@
--- The weights of the target's values, gathered from stores one by one.
-use Rattle.std.proofs.Common.{◌≡◌, ℕ, ◌+◌, ◌^◌, ◌<◌, ◌≤◌, ◌==◌, Bool, true, false, cond, [], ◌∷◌, length, refl, sym, ap, subst, ◌∙◌, arith}
-use Rattle.std.specs.Prelude.{filter, if◌then◌else◌, Result, Ok, Err, IfOk}
+-- The column of the stores behind a trace, and what becomes of it about the target.
+use Rattle.std.proofs.Common.{◌≡◌, ℕ, ◌+◌, ◌<◌, ◌≤◌, ◌==◌, cond, List, [], ◌∷◌, ◌++◌, length, map, refl, sym, ap, subst, ◌∙◌, arith}
+use Rattle.std.specs.Prelude.{filter, if◌then◌else◌}
 use Rattle.std.specs.List.{All, AllByRecursion as Each}
-use Rattle.std.proofs.lemmas.List.Elements.{All-from_recursion, recursion_from_All}
+use Rattle.std.proofs.lemmas.List.Elements.{All-from_recursion, recursion_from_All, All-cons, All-head, All-nil}
 use Rattle.std.proofs.lemmas.List.Sums.{sum_by-cons}
+use Rattle.kf_frac.specs.Fractions.{limit}
 use Rattle.kf_hyper.specs.declared.entry.Entry.{Entry}
-use Rattle.kf_hyper.specs.Columns.{IsBelow, weight_at, total}
+use Rattle.kf_hyper.specs.declared.column.Column.{Column}
+use Rattle.kf_hyper.specs.Columns.{weight_at, total}
+use Rattle.kf_hyper.specs.Shapes.{IsBelow}
+use Rattle.kf_hyper.specs.Joint.{IsJoint, mass}
+use Rattle.kf_hyper.specs.Projection.{weight_through}
 use Rattle.kf_hyper.specs.Sums.{summed, ArePositive}
+use Rattle.kf_core.proofs.Sums.{adds, sum_filtered}
 use Rattle.kf_traces.specs.Laws.{sum_of}
-use Rattle.kf_traces.specs.Traced.{Weights, with_weight}
-use Rattle.kf_traces.proofs.Locating.{weight_sum}
-use Rattle.kf_traces.proofs.Measures.{Measure, measure, grown}
-use Rattle.kf_traces.proofs.Sums.{adds}
-use Rattle.kf_traces.proofs.Telling.{sum_filtered}
+use Rattle.kf_traces.specs.Traced.{Weights}
 
--- a test passes on a sum as on its parts
-pub cond_sum : (b : Bool) (m n : ℕ) → cond b (m + n) 0 ≡ cond b m 0 + cond b n 0
-cond_sum true m n = refl
-cond_sum false m n = refl
-
--- the weight at one value, of weights above 0 on values of a target of this size
-abbrev at_value : ℕ → ℕ → Measure
-at_value size x = record {
-  holds = λ n w. (n < size) × (0 < w);
-  value = λ n w. cond (n == x) w 0;
-  closed = λ n a b h k. (h.0, omega (arith, h.1, k.1));
-  linear = λ n a b h k. cond_sum (n == x) a b;
-}
-
--- what these stores give to a value
-abbrev through : (ℕ → ℕ) → Weights → ℕ → ℕ
-through number es x = adds (λ e. cond (number e.0 == x) e.1 0) es
-
--- the stores that are left, beside the weights that are gathered
-pub record GathersOn (number : ℕ → ℕ) (size room : ℕ) (left whole now : Weights) : Type 0 where
-  pub weights : (x : ℕ) → measure (at_value size x) now + through number left x ≡ through number whole x
-  pub sum : sum_of now + sum_of left ≡ sum_of whole
-  pub held : Each (λ e. (e.0 < size) × (0 < e.1)) now
-  pub left_below : Each (λ e. e.0 < room) left
-  pub left_positive : Each (λ e. 0 < e.1) left
-  pub narrow : sum_of whole < 2 ^ 127
-
-module _ (number : ℕ → ℕ) (size room : ℕ) (left es whole now : Weights) (e : ℕ × ℕ) (next : left ≡ e ∷ es) (had : GathersOn number size room left whole now) where
-  -- the sum with the next weight apart
-  opened_sum : sum_of now + (e.1 + sum_of es) ≡ sum_of whole
-  opened_sum = let one = ap sum_of next in omega (arith, one, had.sum, sum_by-cons (λ (e : ℕ × ℕ). e.1) e es)
-
-  -- with its weight at its target value
-  pub gathers_more : (k : ℕ) (after : Weights) → k ≡ number e.0 → k < size → after ≡ with_weight now k e.1 → GathersOn number size room es whole after
-  gathers_more k after is below made =
-      let positive : Each (λ e. 0 < e.1) (e ∷ es) = subst (λ (l : Weights). Each (λ e. 0 < e.1) l) next had.left_positive in
-      let low : Each (λ e. e.0 < room) (e ∷ es) = subst (λ (l : Weights). Each (λ e. e.0 < room) l) next had.left_below in
-      subst (λ (m : Weights). GathersOn number size room es whole m) (sym made) (record {
-        weights = λ x.
-            let more : measure (at_value size x) (with_weight now k e.1) ≡ measure (at_value size x) now + cond (k == x) e.1 0 =
-            (grown (at_value size x) k e.1 (below, positive.0) now had.held).1 in
-            let here : cond (k == x) e.1 0 ≡ cond (number e.0 == x) e.1 0 = ap (λ m. cond (m == x) e.1 0) is in
-            let opened : through number left x ≡ cond (number e.0 == x) e.1 0 + through number es x = ap (λ l. through number l x) next in
-            omega (arith, more, here, opened, had.weights x);
-        sum = omega (arith, weight_sum k e.1 now, opened_sum);
-        held = (grown (at_value size 0) k e.1 (below, positive.0) now had.held).0;
-        left_below = low.1;
-        left_positive = positive.1;
-        narrow = had.narrow;
-      })
-
--- ---- the sums as a column
-
--- weights at a value, read as entries
-weight_summed : (size : ℕ) (es : Weights) (x : ℕ) → weight_at (summed es) x ≡ measure (at_value size x) es
-weight_summed size [] x = refl
-weight_summed size (e ∷ es) x =
-    sum_by-cons (λ (u : Entry). if u.value == x then u.weight else 0) (record { value = e.0; weight = e.1 }) (summed es) ∙ ap (λ n. cond (e.0 == x) e.1 0 + n) (weight_summed size es x)
-
--- and all weights together
+-- all weights together
 total_summed : (es : Weights) → total (summed es) ≡ sum_of es
 total_summed [] = refl
 total_summed (e ∷ es) =
@@ -89,36 +32,65 @@ some_sum : (es : Weights) → 1 ≤ length es → Each (λ e. 0 < e.1) es → 0 
 some_sum [] long h = absurd (omega (arith, long))
 some_sum (e ∷ es) long h = omega (arith, h.0, sum_by-cons (λ (e : ℕ × ℕ). e.1) e es)
 
--- what holds of each weight, fact by fact
-parts : (size : ℕ) (es : Weights) → Each (λ e. (e.0 < size) × (0 < e.1)) es → Each (λ e. e.0 < size) es × Each (λ e. 0 < e.1) es
-parts size [] h = (tt, tt)
-parts size (e ∷ es) h = let others = parts size es h.1 in ((h.0.0, others.0), (h.0.1, others.1))
+-- ---- the column of the stores
 
-module _ (number : ℕ → ℕ) (size room : ℕ) (left whole now : Weights) (none : left ≡ []) (had : GathersOn number size room left whole now) where
-  -- each value has the weight of its stores
-  pub gathered_weights : (x : ℕ) → weight_at (summed now) x ≡ sum_of (filter (λ e. number e.0 == x) whole)
-  gathered_weights x =
-      let rest : through number left x ≡ 0 = ap (λ l. through number l x) none in
-      let all : measure (at_value size x) now ≡ through number whole x = omega (arith, rest, had.weights x) in
-      weight_summed size now x ∙ all ∙ sym (sum_filtered (λ (e : ℕ × ℕ). e.1) (λ e. number e.0 == x) whole)
+module _ (es : Weights) (positive : All (λ e. 0 < e.1) es) where
+  -- each store has some weight
+  pub stores_positive : ArePositive (summed es)
+  stores_positive = All-from_recursion (λ (u : Entry). 0 < u.weight) (summed es) (each_summed (λ n w. 0 < w) es (recursion_from_All (λ (e : ℕ × ℕ). 0 < e.1) es positive))
 
-  -- all weight is there
-  pub gathered_total : total (summed now) ≡ sum_of whole
-  gathered_total = let rest : sum_of left ≡ 0 = ap sum_of none in total_summed now ∙ omega (arith, rest, had.sum)
+  -- and so they have some together, where there are stores
+  pub stores_some : 1 ≤ length es → 0 < total (summed es)
+  stores_some long = let some = some_sum es long (recursion_from_All (λ (e : ℕ × ℕ). 0 < e.1) es positive) in omega (arith, total_summed es, some)
 
-  -- the values are the target's
-  pub gathered_below : IsBelow size (summed now)
-  gathered_below = All-from_recursion (λ (u : Entry). u.value < size) (summed now) (each_summed (λ n w. n < size) now (parts size now had.held).0)
+-- a list that it alone was put into
+pub only_pushed : (c : Column) (none items cs : List Column) → none ≡ [] → items ≡ none ++ c ∷ [] → cs ≡ items → cs ≡ c ∷ []
+only_pushed c none items cs empty pushed is = is ∙ pushed ∙ ap (λ l. l ++ c ∷ []) empty
 
-  -- each has some weight
-  pub gathered_positive : ArePositive (summed now)
-  gathered_positive = All-from_recursion (λ (u : Entry). 0 < u.weight) (summed now) (each_summed (λ n w. 0 < w) now (parts size now had.held).1)
+-- alone it is a joint matrix over a scale that it doesn't pass
+pub alone_is_joint : (scale : ℕ) (es : Weights) (c : Column) (cs : List Column) → cs ≡ c ∷ [] → c ≡ summed es → 0 < total (summed es) → sum_of es ≤ scale → scale ≤ limit
+    → IsJoint (record { scale = scale; columns = cs })
+alone_is_joint scale es c cs one is some within narrow =
+    let sum : mass cs ≡ total c + 0 = ap mass one ∙ sum_by-cons total c [] in
+    let all : total c ≡ sum_of es = ap total is ∙ total_summed es in
+    record {
+      some = omega (arith, some, total_summed es, within);
+      narrow = narrow;
+      fits = omega (arith, sum, all, within);
+    }
 
-  -- and there is some weight, where there are stores
-  pub gathered_some : 1 ≤ length whole → All (λ e. 0 < e.1) whole → 0 < total (summed now)
-  gathered_some long positive = let some = some_sum whole long (recursion_from_All (λ (e : ℕ × ℕ). 0 < e.1) whole positive) in omega (arith, gathered_total, some)
+-- of the stores
+pub alone_below : (size : ℕ) (es : Weights) (c : Column) (cs : List Column) → cs ≡ c ∷ [] → c ≡ summed es → All (λ e. e.0 < size) es → All (IsBelow size) cs
+alone_below size es c cs one is below =
+    let each : IsBelow size (summed es) = All-from_recursion (λ (u : Entry). u.value < size) (summed es) (each_summed (λ n w. n < size) es (recursion_from_All (λ (e : ℕ × ℕ). e.0 < size) es below)) in
+    subst (All (IsBelow size)) (sym one) (All-cons (IsBelow size) c [] (subst (IsBelow size) (sym is) each) (All-nil (IsBelow size)))
 
--- what follows of a value follows where there is one
-pub if_so : {X E : Type 0} (P Q : X → Type 0) → ((x : X) → P x → Q x) → (r : Result X E) → IfOk r P → IfOk r Q
-if_so P Q so (Ok x) h = so x h
-if_so P Q so (Err e) h = tt
+-- ---- the same about the target
+
+abbrev head_of : (ℕ → ℕ) → List (ℕ → ℕ) → ℕ → ℕ
+head_of f [] = f
+head_of f (g ∷ gs) = g
+
+-- what stores give to a value, where each becomes the number of its target value
+module _ (become number : ℕ → ℕ) (room : ℕ) (alike : (n : ℕ) → n < room → become n ≡ number n) (x : ℕ) where
+  adds_through : (es : Weights) → Each (λ e. e.0 < room) es → weight_through become (summed es) x ≡ adds (λ e. cond (number e.0 == x) e.1 0) es
+  adds_through [] below = refl
+  adds_through (e ∷ es) below =
+      sum_by-cons (λ (u : Entry). if become u.value == x then u.weight else 0) (record { value = e.0; weight = e.1 }) (summed es)
+      ∙ ap (λ n. cond (become e.0 == x) e.1 0 + n) (adds_through es below.1)
+      ∙ ap (λ m. cond (m == x) e.1 0 + adds (λ u. cond (number u.0 == x) u.1 0) es) (alike e.0 below.0)
+
+  through_is : (es : Weights) → All (λ e. e.0 < room) es → weight_through become (summed es) x ≡ sum_of (filter (λ e. number e.0 == x) es)
+  through_is es below =
+      adds_through es (recursion_from_All (λ (e : ℕ × ℕ). e.0 < room) es below) ∙ sym (sum_filtered (λ (e : ℕ × ℕ). e.1) (λ e. number e.0 == x) es)
+
+-- each value has the weight of its stores
+pub about_weights : (es : Weights) (c now : Column) (cs abouts : List Column) → cs ≡ c ∷ [] → c ≡ summed es → abouts ≡ now ∷ [] → (become number : ℕ → ℕ) (room : ℕ) → ((n : ℕ) → n < room → become n ≡ number n)
+    → All (λ e. e.0 < room) es → map weight_at abouts ≡ map (weight_through become) cs → (x : ℕ) → weight_at now x ≡ sum_of (filter (λ e. number e.0 == x) es)
+about_weights es c now cs abouts one is only become number room alike below weights x =
+    let both : weight_at now ∷ [] ≡ weight_through become c ∷ [] = sym (ap (map weight_at) only) ∙ weights ∙ ap (map (weight_through become)) one in
+    ap (λ fs. head_of (λ n. 0) fs x) both ∙ ap (λ u. weight_through become u x) is ∙ through_is become number room alike x es below
+
+-- and the values are the target's
+pub about_below : (size : ℕ) (now : Column) (abouts : List Column) → abouts ≡ now ∷ [] → All (IsBelow size) abouts → IsBelow size now
+about_below size now abouts only below = All-head (IsBelow size) now [] (subst (All (IsBelow size)) only below)

@@ -1,5 +1,5 @@
 -- Rows that are made of the traced states of a program are the rows of its joint.
-use Rattle.std.proofs.Common.{◌≡◌, ℕ, zero, suc, ◌+◌, ◌^◌, ◌-◌, ◌<◌, ◌≤◌, ◌==◌, Bool, true, false, cond, List, [], ◌∷◌, ◌++◌, length, map, get_or, refl, sym, ap, subst, ◌∙◌, arith, eq-eqb, append_assoc}
+use Rattle.std.proofs.Common.{◌≡◌, ℕ, zero, suc, ◌+◌, ◌<◌, ◌≤◌, ◌==◌, Bool, true, false, cond, List, [], ◌∷◌, ◌++◌, length, map, get_or, refl, sym, ap, subst, ◌∙◌, arith, eq-eqb, append_assoc}
 use Rattle.std.specs.Prelude.{filter, sum_by, IsOk, Contains, ◌↔◌, ◌&&◌}
 use Rattle.std.specs.List.{All, AllByRecursion as Each}
 use Rattle.std.specs.List.Sorted.{IsStrictlySortedBy}
@@ -9,25 +9,26 @@ use Rattle.std.proofs.lemmas.Bool.{false_from_ne_true}
 use Rattle.std.proofs.lemmas.List.{map-append}
 use Rattle.std.proofs.lemmas.List.Elements.{All-from_recursion, recursion_from_All, All-head, All-tail, All-push}
 use Rattle.std.proofs.lemmas.List.Sums.{sum_by-cons}
-use Rattle.kf_value.specs.Values.{ValueTree}
+use Rattle.kf_frac.specs.Fractions.{limit}
+use Rattle.kf_value.specs.Values.{ValueTree, is_equal}
 use Rattle.kf_value.proofs.ListLemmas.{each_weaker}
-use Rattle.kf_ops.specs.Values.{is_equal}
 use Rattle.kf_core.proofs.Unsquashed.{checked_again}
 use Rattle.kf_core.specs.Checked.{IsChecked}
 use Rattle.kf_core.specs.Joint.{Cell, joint_of, is_cell_at, target_number, trace_weight, weight_of, HasTrace}
 use Rattle.kf_core.specs.Programs.{ProgramTree}
+use Rattle.kf_core.specs.Rows.{AreRowsOf}
 use Rattle.kf_core.specs.Runs.{program_runs}
 use Rattle.kf_core.specs.Scale.{scale_of}
 use Rattle.kf_core.specs.Support.{program_pass}
-use Rattle.kf_hyper.specs.Columns.{IsBelow, IsColumn, weight_at, total}
-use Rattle.kf_hyper.specs.Traces.{Row, IsTable, trace_order}
+use Rattle.kf_hyper.specs.Columns.{IsColumn, weight_at, total}
+use Rattle.kf_hyper.specs.Shapes.{IsBelow}
+use Rattle.kf_hyper.specs.Traces.{Row, trace_order}
+use Rattle.kf_hyper.specs.Tables.{IsTable}
+use Rattle.kf_core.proofs.Sums.{adds, sum_filtered}
 use Rattle.kf_traces.specs.Laws.{sum_of, target_weight, TracesJoin, TracesTell, AreTraces}
-use Rattle.kf_traces.specs.Rows.{AreRowsOf}
 use Rattle.kf_traces.specs.Traced.{Weights, Traced, program_traced}
 use Rattle.kf_traces.specs.Views.{Fits, AllFit}
-use Rattle.kf_support.proofs.Stores.{lists_decide, lists_order-itself}
-use Rattle.kf_traces.proofs.Sums.{adds}
-use Rattle.kf_traces.proofs.Telling.{sum_filtered}
+use Rattle.kf_core.proofs.Stores.{lists_decide, lists_order-itself}
 
 -- ---- strictly ascending traces are different
 
@@ -272,7 +273,7 @@ module _ (turns : ℕ) (p : ProgramTree) (checked : IsChecked p) (clear : IsOk (
   }
 
   -- and those of a table over the scale
-  pub table_is : (size scale : ℕ) → scale ≡ scale_of turns p → 0 < scale_of turns p → scale ≤ 2 ^ 127 - 1 → All (λ r. IsBelow size r.column) rs → IsTable size scale rs
+  pub table_is : (size scale : ℕ) → scale ≡ scale_of turns p → 0 < scale_of turns p → scale ≤ limit → All (λ r. IsBelow size r.column) rs → IsTable size scale rs
   table_is size scale is some narrow below = record {
     some = omega (arith, is, some);
     narrow = narrow;
@@ -291,7 +292,7 @@ moved_over f g now after left rest x y whole grown next is had =
     ∙ ap (λ z. map f now ++ z ∷ map g rest) is ∙ ap (λ l. map f now ++ map g l) (sym next) ∙ had
 
 -- the rows made so far and the states that are left, which together are the whole
-pub record RowsOn (number : ℕ → ℕ) (size room : ℕ) (left whole : List Traced) (now : List Row) : Type 0 where
+pub record RowsOn (number : ℕ → ℕ) (size room scale : ℕ) (left whole : List Traced) (now : List Row) : Type 0 where
   pub traces : map (λ r. r.trace) now ++ map (λ s. s.trace) left ≡ map (λ s. s.trace) whole
   pub weights : map (λ (r : Row). weight_at r.column) now ++ map (λ s x. value_in number x s) left ≡ map (λ s x. value_in number x s) whole
   pub totals : map (λ (r : Row). total r.column) now ++ map (λ s. sum_of s.stores) left ≡ map (λ s. sum_of s.stores) whole
@@ -300,8 +301,9 @@ pub record RowsOn (number : ℕ → ℕ) (size room : ℕ) (left whole : List Tr
   pub fits : AllFit room left
   pub some : All (λ s. 1 ≤ length s.stores) left
   pub positive : All (λ s. All (λ e. 0 < e.1) s.stores) left
+  pub within : All (λ s. sum_of s.stores ≤ scale) left
 
-module _ (number : ℕ → ℕ) (size room : ℕ) (left rest whole : List Traced) (now : List Row) (s : Traced) (next : left ≡ s ∷ rest) (had : RowsOn number size room left whole now) where
+module _ (number : ℕ → ℕ) (size room scale : ℕ) (left rest whole : List Traced) (now : List Row) (s : Traced) (next : left ≡ s ∷ rest) (had : RowsOn number size room scale left whole now) where
   -- the next state's stores fit
   pub state_fits : Fits room s.stores
   state_fits = All-head (λ (s : Traced). Fits room s.stores) s rest (subst (AllFit room) next had.fits)
@@ -314,9 +316,13 @@ module _ (number : ℕ → ℕ) (size room : ℕ) (left rest whole : List Traced
   pub state_positive : All (λ e. 0 < e.1) s.stores
   state_positive = All-head (λ (s : Traced). All (λ e. 0 < e.1) s.stores) s rest (subst (λ l. All (λ (s : Traced). All (λ e. 0 < e.1) s.stores) l) next had.positive)
 
+  -- and no more than the whole
+  pub state_within : sum_of s.stores ≤ scale
+  state_within = All-head (λ (s : Traced). sum_of s.stores ≤ scale) s rest (subst (λ l. All (λ (s : Traced). sum_of s.stores ≤ scale) l) next had.within)
+
   -- the next state moves over with its row
   pub rows_more : (r : Row) (after : List Row) → after ≡ now ++ r ∷ [] → r.trace ≡ s.trace → ((x : ℕ) → weight_at r.column x ≡ value_in number x s) → total r.column ≡ sum_of s.stores
-      → IsBelow size r.column → IsColumn r.column → RowsOn number size room rest whole after
+      → IsBelow size r.column → IsColumn r.column → RowsOn number size room scale rest whole after
   rows_more r after grown trace weights sum below column = record {
     traces = moved_over (λ (r : Row). r.trace) (λ (s : Traced). s.trace) now after left rest r s _ grown next trace had.traces;
     weights = moved_over (λ (r : Row). weight_at r.column) (λ (s : Traced) x. value_in number x s) now after left rest r s _ grown next (λ i x. weights x i) had.weights;
@@ -326,7 +332,18 @@ module _ (number : ℕ → ℕ) (size room : ℕ) (left rest whole : List Traced
     fits = All-tail (λ (s : Traced). Fits room s.stores) s rest (subst (AllFit room) next had.fits);
     some = All-tail (λ (s : Traced). 1 ≤ length s.stores) s rest (subst (λ l. All (λ (s : Traced). 1 ≤ length s.stores) l) next had.some);
     positive = All-tail (λ (s : Traced). All (λ e. 0 < e.1) s.stores) s rest (subst (λ l. All (λ (s : Traced). All (λ e. 0 < e.1) s.stores) l) next had.positive);
+    within = All-tail (λ (s : Traced). sum_of s.stores ≤ scale) s rest (subst (λ l. All (λ (s : Traced). sum_of s.stores ≤ scale) l) next had.within);
   }
+
+-- no state weighs more than all together
+each_within : (scale : ℕ) (ss : List Traced) → sum_by (λ s. sum_of s.stores) ss ≤ scale → Each (λ s. sum_of s.stores ≤ scale) ss
+each_within scale [] h = tt
+each_within scale (s ∷ ss) h =
+    let sum = sum_by-cons (λ (s : Traced). sum_of s.stores) s ss in
+    (omega (arith, h, sum), each_within scale ss (omega (arith, h, sum)))
+
+pub all_within : (scale : ℕ) (ss : List Traced) → sum_by (λ s. sum_of s.stores) ss ≡ scale → All (λ s. sum_of s.stores ≤ scale) ss
+all_within scale ss sum = All-from_recursion (λ (s : Traced). sum_of s.stores ≤ scale) ss (each_within scale ss (omega (arith, sum)))
 
 -- the states that a cleared program ends in tell of its runs
 pub states_tell : (turns scale : ℕ) (p : ProgramTree) (ss : List Traced) → ∥ IsChecked p ∥₁ → IsOk (program_pass turns p) → scale ≡ scale_of turns p → TracesTell

@@ -1,33 +1,34 @@
 -- The traced states of a program tell the weights of its runs.
-use Rattle.std.proofs.Common.{◌≡◌, ℕ, ◌+◌, ◌*◌, ◌/◌, ◌<◌, ◌≤◌, Bool, true, false, cond, List, [], ◌∷◌, map, length, Result, Ok, Err, refl, sym, ap, subst, ◌∙◌, arith, true≢false}
+use Rattle.std.proofs.Common.{◌≡◌, ℕ, ◌+◌, ◌*◌, ◌/◌, ◌<◌, ◌≤◌, Bool, true, false, cond, List, [], ◌∷◌, length, Result, Ok, Err, refl, sym, ap, ◌∙◌, arith}
 use Rattle.std.specs.Prelude.{filter, sum_by, IsOk, ◌&&◌, ◌==◌}
 use Rattle.std.specs.List.{All, AllByRecursion as Each, flat_map}
 use Rattle.std.specs.Int.{◌∣◌}
 use Rattle.std.specs.Cmp.Lexicographic.{pointwise}
-use Rattle.std.proofs.Math.Nat.{mul-div_cancel', mul-div_assoc, mul_comm}
-use Rattle.std.proofs.lemmas.List.Elements.{All-from_recursion, recursion_from_All}
-use Rattle.std.proofs.lemmas.List.Sums.{sum_by-cons}
-use Rattle.kf_frac.proofs.CommonMultiples.{product_positive}
-use Rattle.kf_value.specs.Values.{ValueTree}
+use Rattle.std.proofs.Math.Nat.{mul-div_assoc, mul_comm}
+use Rattle.std.proofs.lemmas.List.Elements.{All-from_recursion}
+use Rattle.kf_value.specs.Values.{ValueTree, is_equal}
 use Rattle.kf_value.proofs.ListLemmas.{each_weaker}
-use Rattle.kf_ops.specs.Values.{is_equal}
 use Rattle.kf_core.specs.Checked.{IsChecked}
 use Rattle.kf_core.specs.ChoiceLaws.{ChoicesAreShares}
 use Rattle.kf_core.specs.Programs.{ProgramTree}
 use Rattle.kf_core.specs.Sts.{sts}
 use Rattle.kf_core.specs.Runs.{Run, Halted, chain, declared, all_runs, copied, program_runs}
 use Rattle.kf_core.specs.Scale.{scale_of}
-use Rattle.kf_core.specs.Joint.{Cell, cells_of, is_cell_at, target_number, weight_of}
+use Rattle.kf_core.specs.Joint.{Cell, cell_of, cells, is_cell_at, target_number, weight_of}
 use Rattle.kf_core.specs.Support.{program_pass}
 use Rattle.kf_core.specs.SupportLaws.{ProgramAgrees, ScalesArePositive, CommonScaleIsLeast}
+use Rattle.kf_core.proofs.Filled.{all_full, AllSolid}
+use Rattle.kf_core.proofs.Measures.{Measure, Trace, end_value, run_value, RunsWithin, runs_value, ahead, Full}
+use Rattle.kf_core.proofs.Solid.{all_solid, decls_solid}
+use Rattle.kf_core.proofs.Sums.{adds, adds_flat, adds_same, adds_nothing, each_is, sum_is, sum_filtered}
+use Rattle.kf_core.proofs.WeightKept.{all_weight}
+use Rattle.kf_core.proofs.WholeJoint.{all_divide, from_keeps, within}
 use Rattle.kf_traces.specs.Traced.{Weights, Traced, with_weight, copy_all, copied_traced, all_traced, declared_traced, program_traced}
 use Rattle.kf_traces.specs.Laws.{sum_of, ends_at, run_weight, TracesJoin, TracesTell}
-use Rattle.kf_traces.proofs.Sums.{adds, adds_flat, adds_same, second_positive}
-use Rattle.kf_traces.proofs.Measures.{Measure, Trace, Within, measure, Ends, end_value, run_value, RunsWithin, runs_value, ahead, Full, grown}
-use Rattle.kf_traces.proofs.Carrying.{StateWithin, StatesWithin, state_value, states_value, Carries, chain_carries, all_carry, decls_carry, all_full, AllSolid}
+use Rattle.kf_traces.proofs.Measures.{Within, measure, grown}
+use Rattle.kf_traces.proofs.Carrying.{StateWithin, StatesWithin, state_value, states_value, Carries, chain_carries, all_carry, decls_carry}
 use Rattle.kf_traces.proofs.Ordering.{program_sorted}
-use Rattle.kf_traces.proofs.Solid.{all_solid, decls_solid, program_heavy}
-use Rattle.kf_traces.proofs.Lasting.{Lasts, StatesFull, weight_full, chain_lasts, all_last, decls_last, all_weight, Keeps, chain_keeps, all_keep, decls_keep}
+use Rattle.kf_traces.proofs.Lasting.{Lasts, StatesFull, weight_full, chain_lasts, all_last, decls_last}
 
 -- ---- carried copies
 
@@ -92,49 +93,6 @@ module _ (turns : ℕ) (p : ProgramTree) (checked : IsChecked p) where
       chain_lasts (declared_traced p.types 0 p.decls) body_states (declared p.types 0 p.decls) body_runs body_full
       (decls_carry p.types 0 p.decls (decls_solid p checked)) (decls_last p.types 0 p.decls (decls_solid p checked))
       (copy_lasts p (all_traced p.types turns (sts p.body)) (all_runs p.types turns (sts p.body)) (all_last p.types turns (sts p.body) sound))
-
-  from_keeps : Keeps runs_from
-  from_keeps =
-      chain_keeps body_runs (λ t n v. all_keep p.types turns (sts p.body) sound t (copied p n) v) (declared p.types 0 p.decls) body_full (decls_keep p.types 0 p.decls (decls_solid p checked))
-
--- ---- runs that end, each with its share of the whole
-
-module _ (whole : ℕ) (some : 0 < whole) where
-  share_positive : (r : Run) → r.scale ∣ whole → 0 < r.weight → 0 < whole / r.scale * r.weight
-  share_positive r d p =
-      product_positive (whole / r.scale) r.weight (second_positive r.scale (whole / r.scale) (subst (λ (n : ℕ). 0 < n) (sym (mul-div_cancel' r.scale d)) some)) p
-
-  module _ (M : Trace → Measure) (holds : (t : Trace) (n w : ℕ) → 0 < w → (M t).holds n w) where
-    end_within : (t : Trace) (x : Result ℕ Halted) (w : ℕ) → IsOk x → 0 < w → Ends (M t) x w
-    end_within t (Ok n) w is p = holds t n w p
-    end_within t (Err f) w is p = absurd (true≢false (sym is))
-
-    pub all_within : (rs : List Run) → Each (λ r. 0 < r.scale) rs → Each (λ r. r.scale ∣ whole) rs → Each (λ r. IsOk r.end) rs → Each (λ r. 0 < r.weight) rs → RunsWithin M [] whole rs
-    all_within [] a b c d = tt
-    all_within (r ∷ rs) a b c d = ((a.0, b.0, end_within r.trace r.end (whole / r.scale * r.weight) c.0 (share_positive r b.0 d.0)), all_within rs a.1 b.1 c.1 d.1)
-
--- ---- sums
-
-sum_is : {X : Type 0} (f : X → ℕ) (xs : List X) → sum_by f xs ≡ adds f xs
-sum_is f [] = refl
-sum_is f (x ∷ xs) = sum_by-cons f x xs ∙ ap (λ n. f x + n) (sum_is f xs)
-
-module _ {X : Type 0} (f : X → ℕ) (q : X → Bool) where
-  kept_at : (b : Bool) (x : X) (ys : List X) → sum_by f (cond b (x ∷ ys) ys) ≡ cond b (f x) 0 + sum_by f ys
-  kept_at true x ys = sum_by-cons f x ys
-  kept_at false x ys = omega arith
-
-  pub sum_filtered : (xs : List X) → sum_by f (filter q xs) ≡ adds (λ x. cond (q x) (f x) 0) xs
-  sum_filtered [] = refl
-  sum_filtered (x ∷ xs) = kept_at (q x) x (filter q xs) ∙ ap (λ n. cond (q x) (f x) 0 + n) (sum_filtered xs)
-
-adds_nothing : {X : Type 0} (xs : List X) → 0 ≡ adds (λ x. 0) xs
-adds_nothing [] = refl
-adds_nothing (x ∷ xs) = omega (arith, adds_nothing xs)
-
-each_is : {X : Type 0} (f g : X → ℕ) → ((x : X) → f x ≡ g x) → (xs : List X) → adds f xs ≡ adds g xs
-each_is f g h [] = refl
-each_is f g h (x ∷ xs) = omega (arith, h x, each_is f g h xs)
 
 -- ---- weight at one trace and one store
 
@@ -202,11 +160,14 @@ module _ (t : List ValueTree) (n : ℕ) where
 
 -- ---- joint weight
 
-module _ (p : ProgramTree) (whole : ℕ) (t : List ValueTree) (x : ℕ) where
+module _ (number : ℕ → ℕ) (whole : ℕ) (t : List ValueTree) (x : ℕ) where
   abbrev of_value : ℕ → Bool
-  of_value m = target_number p m == x
+  of_value m = number m == x
 
-  cells_share : (r : Run) (e : Result ℕ Halted) → r.end ≡ e → adds (λ c. cond (is_cell_at t x c) c.weight 0) (cells_of whole p r) ≡ cond (pointwise is_equal r.trace t && ends_so t of_value e) (r.weight * whole / r.scale) 0
+  abbrev cell_weight : Cell → ℕ
+  cell_weight c = cond (is_cell_at t x c) c.weight 0
+
+  cells_share : (r : Run) (e : Result ℕ Halted) → r.end ≡ e → adds cell_weight (cell_of number whole r) ≡ cond (pointwise is_equal r.trace t && ends_so t of_value e) (r.weight * whole / r.scale) 0
   cells_share r (Ok n) is = rw is (omega arith)
   cells_share r (Err f) is = rw is (nothing (pointwise is_equal r.trace t))
     where
@@ -214,12 +175,12 @@ module _ (p : ProgramTree) (whole : ℕ) (t : List ValueTree) (x : ℕ) where
       nothing true = refl
       nothing false = refl
 
-  cells_there : (rs : List Run) → Each (λ r. r.scale ∣ whole) rs → weight_of (flat_map (cells_of whole p) rs) t x ≡ runs_value (there t of_value) [] whole rs
+  cells_there : (rs : List Run) → Each (λ r. r.scale ∣ whole) rs → weight_of (cells number whole rs) t x ≡ runs_value (there t of_value) [] whole rs
   cells_there rs d =
-      sum_filtered (λ (c : Cell). c.weight) (is_cell_at t x) (flat_map (cells_of whole p) rs)
-      ∙ adds_flat (λ (c : Cell). cond (is_cell_at t x c) c.weight 0) (cells_of whole p) rs
-      ∙ adds_same (λ (r : Run). adds (λ (c : Cell). cond (is_cell_at t x c) c.weight 0) (cells_of whole p r)) (λ r. run_value (there t of_value) [] whole r) rs
-      (each_weaker (λ (r : Run). r.scale ∣ whole) (λ (r : Run). adds (λ (c : Cell). cond (is_cell_at t x c) c.weight 0) (cells_of whole p r) ≡ run_value (there t of_value) [] whole r)
+      sum_filtered (λ (c : Cell). c.weight) (is_cell_at t x) (cells number whole rs)
+      ∙ adds_flat cell_weight (cell_of number whole) rs
+      ∙ adds_same (λ (r : Run). adds cell_weight (cell_of number whole r)) (λ r. run_value (there t of_value) [] whole r) rs
+      (each_weaker (λ (r : Run). r.scale ∣ whole) (λ (r : Run). adds cell_weight (cell_of number whole r) ≡ run_value (there t of_value) [] whole r)
       (λ r divides. cells_share r r.end refl ∙ run_share t of_value whole r divides) rs d)
 
 -- ---- positive weights
@@ -248,24 +209,18 @@ module _ (shares : ChoicesAreShares) (agrees : ProgramAgrees) (scales : ScalesAr
     start = record { trace = []; stores = (0, whole) ∷ [] }
 
     divide : Each (λ r. r.scale ∣ whole) rs
-    divide = of_mapped rs (recursion_from_All (λ k. k ∣ whole) (map (λ (r : Run). r.scale) rs) (least rs (scales turns p)).multiple)
-      where
-        of_mapped : (qs : List Run) → Each (λ k. k ∣ whole) (map (λ (r : Run). r.scale) qs) → Each (λ r. r.scale ∣ whole) qs
-        of_mapped [] h = tt
-        of_mapped (q ∷ qs) h = (h.0, of_mapped qs h.1)
+    divide = all_divide turns p scales least
 
-    within : (M : Trace → Measure) → ((t : Trace) (n w : ℕ) → 0 < w → (M t).holds n w) → RunsWithin M [] whole rs
-    within M holds =
-        all_within whole (least rs (scales turns p)).positive M holds rs (recursion_from_All (λ r. 0 < r.scale) rs (scales turns p)) divide
-        (recursion_from_All (λ r. IsOk r.end) rs ((agrees turns p).0.0 clear)) (program_heavy shares turns p)
+    ends_within : (M : Trace → Measure) → ((t : Trace) (n w : ℕ) → 0 < w → (M t).holds n w) → RunsWithin M [] whole rs
+    ends_within = within shares agrees scales least turns p clear
 
     brought : (M : Trace → Measure) → ((t : Trace) (n w : ℕ) → 0 < w → (M t).holds n w) → StatesWithin M ss × (states_value M ss ≡ runs_value M [] whole rs)
     brought M holds =
-        let r = from_carries turns p checked M start (within M holds, tt) in
+        let r = from_carries turns p checked M start (ends_within M holds, tt) in
         (r.0, omega (arith, r.1))
 
     lasting : StatesFull ss
-    lasting = from_lasts turns p checked all_weight start tt (within all_weight (λ u m w h. tt), tt)
+    lasting = from_lasts turns p checked all_weight start tt (ends_within all_weight (λ u m w h. tt), tt)
 
   pub traces_tell : TracesTell
   traces_tell turns p checked clear =
@@ -287,11 +242,12 @@ module _ (shares : ChoicesAreShares) (agrees : ProgramAgrees) (scales : ScalesAr
             let r = brought turns p checked clear all_weight (λ u m w h. tt) in
             sum_is (λ (s : Traced). sum_of s.stores) states
             ∙ each_is (λ (s : Traced). sum_of s.stores) (λ s. state_value all_weight s) (λ s. sum_is (λ (e : ℕ × ℕ). e.1) s.stores) states
-            ∙ r.1 ∙ from_keeps turns p checked [] 0 T (within turns p checked clear all_weight (λ u m w h. tt));
+            ∙ r.1 ∙ from_keeps turns p checked [] 0 T (ends_within turns p checked clear all_weight (λ u m w h. tt));
       }
 
   pub traces_join : TracesJoin
   traces_join turns p checked clear t x =
-      let q : ℕ → Bool = of_value p (scale_of turns p) t x in
+      let number : ℕ → ℕ = target_number p in
+      let q : ℕ → Bool = of_value number (scale_of turns p) t x in
       let r = brought turns p checked clear (there t q) (λ u m w h. tt) in
-      states_there t q (program_traced turns (scale_of turns p) p) ∙ r.1 ∙ sym (cells_there p (scale_of turns p) t x (program_runs turns p) (divide turns p checked clear))
+      states_there t q (program_traced turns (scale_of turns p) p) ∙ r.1 ∙ sym (cells_there number (scale_of turns p) t x (program_runs turns p) (divide turns p checked clear))

@@ -6,11 +6,9 @@ use Rattle.std.proofs.lemmas.List.Concat.{flat_map-append}
 use Rattle.std.proofs.lemmas.List.Elements.{All-append, All-cons, All-head, All-nil, All-rest, All-same, All-tail}
 use Rattle.kf_value.specs.declared.shape.Shape.{Shape}
 use Rattle.kf_value.specs.declared.value.Value.{Value}
-use Rattle.kf_value.specs.Shapes.{shape_types, shape_sizes}
-use Rattle.kf_value.specs.Types.{product}
-use Rattle.kf_value.specs.Values.{ValueTree}
+use Rattle.kf_value.specs.Shapes.{shape_size, shape_types}
+use Rattle.kf_value.specs.Values.{ValueTree, truth}
 use Rattle.kf_value.specs.Views.{value_tree}
-use Rattle.kf_ops.specs.Values.{truth}
 use Rattle.kf_core.specs.Sts.{StTree, sts}
 use Rattle.kf_core.specs.Checked.{IsSound, AreSound, more}
 use Rattle.kf_eval.specs.Kinds.{shape_kinds}
@@ -126,7 +124,7 @@ module _ (shape : Shape) (turns : ℕ) where
 
   -- stores of this shape
   abbrev Fit : Traced → Type 0
-  Fit s = InSize (product (shape_sizes shape)) s
+  Fit s = InSize (shape_size shape) s
 
   -- the statements that are left lead from these states to all ends
   pub record BlockOn (whole : List Traced) (left : List StTree) (states : List Traced) : Type 0 where

@@ -4,11 +4,11 @@ use Rattle.std.specs.Prelude.{flat_map, if◌then◌else◌}
 use Rattle.std.proofs.lemmas.List.{append-nil, append_assoc, reverse-append}
 use Rattle.std.proofs.lemmas.List.Elements.{All-append, All-cons, All-head, All-nil, All-push, All-same, All-tail, All-from_recursion, recursion_from_All}
 use Rattle.kf_value.proofs.ListLemmas.{each_reverse}
-use Rattle.kf_ops.specs.Values.{truth}
+use Rattle.kf_value.specs.Values.{truth}
 use Rattle.kf_core.specs.Runs.{Tried}
+use Rattle.kf_core.proofs.Sums.{adds, adds_joined, adds_mapped}
 use Rattle.kf_traces.specs.Traced.{Part, Traced, split, behind, branches, alone, gone, guard_traced, loop_traced}
 use Rattle.kf_traces.specs.Visits.{VisitTree, Left, Asks, leaked, last_true, side, visitor, asks_again, visits_next}
-use Rattle.kf_traces.proofs.Sums.{adds, adds_joined, adds_mapped}
 use Rattle.kf_traces.proofs.Walking.{InSize, flat_flat, flat_mapped, flat_same, last_behind}
 
 -- ---- branches

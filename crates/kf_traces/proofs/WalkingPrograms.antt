@@ -2,19 +2,18 @@
 use Rattle.std.proofs.Common.{◌≡◌, ℕ, suc, ◌+◌, ◌^◌, ◌<◌, ◌≤◌, List, [], ◌∷◌, length, map, drop, get_or, refl, sym, ap, subst, ◌∙◌, arith}
 use Rattle.std.specs.Prelude.{flat_map}
 use Rattle.std.proofs.lemmas.List.{append-nil, length-map}
-use Rattle.std.proofs.lemmas.List.Elements.{All-cons, All-head, All-nil}
+use Rattle.std.proofs.lemmas.List.Elements.{All-cons, All-nil}
 use Rattle.std.proofs.lemmas.List.Sums.{sum_by-cons}
-use Rattle.kf_value.specs.Shapes.{shape_types, shape_sizes}
-use Rattle.kf_value.specs.Types.{product}
+use Rattle.kf_value.specs.Shapes.{shape_size, shape_types}
 use Rattle.kf_value.proofs.ListLemmas.{left_step, left_end}
 use Rattle.kf_core.specs.declared.dx.Dx.{Dx}
 use Rattle.kf_core.specs.declared.program.Program.{Program}
 use Rattle.kf_core.specs.declared.st.St.{St}
 use Rattle.kf_core.specs.Checked.{IsChecked}
-use Rattle.kf_core.specs.Dxs.{DxTree, dx_tree, dx_items}
-use Rattle.kf_core.specs.Sts.{sts, st_tree, st_items}
-use Rattle.kf_core.specs.Programs.{program_tree}
-use Rattle.kf_support.proofs.FirstStore.{first_store}
+use Rattle.kf_core.specs.Dxs.{DxTree}
+use Rattle.kf_core.specs.Views.{dx_tree, dx_items, st_tree, st_items, program_tree}
+use Rattle.kf_core.specs.Sts.{sts}
+use Rattle.kf_core.proofs.FirstStore.{first_store_there}
 use Rattle.kf_traces.specs.Traced.{Traced, alone, all_traced, assign_traced, copied_traced, declared_traced, program_traced}
 use Rattle.kf_traces.specs.Visits.{first_of}
 use Rattle.kf_traces.proofs.Walking.{InSize}
@@ -22,7 +21,7 @@ use Rattle.kf_traces.proofs.Walking.{InSize}
 module _ (program : Program) (turns : ℕ) where
   -- how many stores the program has
   abbrev size : ℕ
-  size = product (shape_sizes program.shape)
+  size = shape_size program.shape
 
   -- what a state comes to behind all declarations
   abbrev behind_decls : Traced → List Traced
@@ -37,17 +36,13 @@ module _ (program : Program) (turns : ℕ) where
     pub same : flat_map behind_decls (declared_from i (map dx_tree (drop i (dx_items program.decls))) s) ≡ whole
     pub fits : InSize size s
 
-  -- there is a first store
-  some_stores : 0 < size
-  some_stores = (All-head (λ (e : ℕ × ℕ). (e.0 < size) × ((1 ≤ e.1) × (e.1 ≤ 2 ^ 127))) (0, 1) [] (first_store program.shape)).0
-
   -- at the start all weight lies on the first store
   pub decls_start : (scale : ℕ) (s : Traced) → s ≡ first_of scale → scale < 2 ^ 127 → DeclsOn (program_traced turns scale (program_tree program)) 0 s
   decls_start scale s is narrow =
       let sum = sum_by-cons (λ (e : ℕ × ℕ). e.1) (0, scale) [] in
       subst (DeclsOn (program_traced turns scale (program_tree program)) 0) (sym is) (record {
         same = refl;
-        fits = record { below = All-cons (λ (e : ℕ × ℕ). e.0 < size) (0, scale) [] some_stores (All-nil (λ (e : ℕ × ℕ). e.0 < size)); narrow = omega (arith, sum, narrow) };
+        fits = record { below = All-cons (λ (e : ℕ × ℕ). e.0 < size) (0, scale) [] (first_store_there program.shape) (All-nil (λ (e : ℕ × ℕ). e.0 < size)); narrow = omega (arith, sum, narrow) };
       })
 
   module _ (whole : List Traced) (i : ℕ) (s : Traced) (before : DeclsOn whole i s) where

@@ -2,12 +2,12 @@
 use Rattle.std.proofs.Common.{◌≡◌, ℕ, true, false, List, map, rules, sym, ap, ◌∙◌}
 use Rattle.std.specs.Prelude.{flat_map}
 use Rattle.kf_value.specs.Types.{TypeTree}
-use Rattle.kf_core.specs.Dxs.{dx_tree}
+use Rattle.kf_core.specs.Views.{dx_tree, st_tree, st_items}
 use Rattle.kf_core.specs.declared.dx.Dx.{Dx}
 use Rattle.kf_core.specs.declared.st.St.{St, the_lemmas}
 use Rattle.kf_core.specs.declared.st.St.TheVariants as code
 use Rattle.kf_core.specs.declared.st.StList.{StList}
-use Rattle.kf_core.specs.Sts.{StTree, Skip, Assign, Observe, If, While, sts, st_tree, st_items}
+use Rattle.kf_core.specs.Sts.{StTree, Skip, Assign, Observe, If, While, sts}
 use Rattle.kf_core.specs.Runs.{tried}
 use Rattle.kf_traces.specs.Traced.{Traced, alone, assign_traced, traced, all_traced, loop_traced}
 use Rattle.kf_traces.specs.Visits.{leaked, last_true, side}

@@ -1,4 +1,4 @@
--- Which errors of choices are want of memory.
+-- For bodies: which errors of choices are want of memory.
 use Rattle.std.specs.Prelude.{Bool, true, false}
 use Rattle.kf_eval.specs.declared.choice.ChoiceError.{ChoiceError}
 use Rattle.kf_eval.specs.declared.choice.ChoiceError.TheVariants as error

@@ -1,10 +1,9 @@
--- How the traced states of a program tell of its runs.
+-- For bodies: how the traced states of a program tell of its runs.
 use Rattle.std.specs.Prelude.{◌≡◌, ℕ, ◌*◌, ◌/◌, ◌<◌, ◌≤◌, Bool, false, ◌&&◌, ◌==◌, List, map, length, filter, sum_by, Result, Ok, Err, IsOk}
 use Rattle.std.specs.List.{All}
 use Rattle.std.specs.List.Sorted.{IsStrictlySortedBy}
 use Rattle.std.specs.Cmp.Lexicographic.{pointwise}
-use Rattle.kf_value.specs.Values.{ValueTree}
-use Rattle.kf_ops.specs.Values.{is_equal}
+use Rattle.kf_value.specs.Values.{ValueTree, is_equal}
 use Rattle.kf_core.specs.Checked.{IsChecked}
 use Rattle.kf_core.specs.Programs.{ProgramTree}
 use Rattle.kf_core.specs.Runs.{Run, Halted, program_runs}

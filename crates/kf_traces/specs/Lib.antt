@@ -1,6 +1,6 @@
+-- For bodies
 pub mod Traced
 pub mod Laws
 pub mod Views
 pub mod Choosing
-pub mod Rows
 pub mod Visits

@@ -1,9 +1,8 @@
--- Runs told apart by their traces: what is leaked so far, and how much weight lies on each store behind it.
+-- For bodies: runs told apart by their traces: what is leaked so far, and how much weight lies on each store behind it.
 use Rattle.std.specs.Prelude.{ℕ, zero, suc, ◌+◌, ◌*◌, ◌/◌, List, [], ◌∷◌, ◌++◌, flat_map, if◌then◌else◌, Option, None, Some, Ok, Err}
 use Rattle.std.specs.Ordering.{nat_cmp, match_ordering}
-use Rattle.kf_value.specs.Values.{ValueTree, order}
+use Rattle.kf_value.specs.Values.{ValueTree, order, truth}
 use Rattle.kf_value.specs.Types.{TypeTree}
-use Rattle.kf_ops.specs.Values.{truth}
 use Rattle.kf_core.specs.Choices.{Weighted, total}
 use Rattle.kf_core.specs.Dxs.{DxTree}
 use Rattle.kf_core.specs.Sts.{StTree, StTrees, Skip, Assign, Observe, If, While, no_sts, more_sts, sts}

@@ -1,7 +1,6 @@
--- What walks from state to state come to, and the visits to a loop's guard.
+-- For bodies: what walks from state to state come to, and the visits to a loop's guard.
 use Rattle.std.specs.Prelude.{ℕ, Bool, false, zero, suc, List, [], ◌∷◌, map, if◌then◌else◌}
-use Rattle.kf_value.specs.Values.{ValueTree}
-use Rattle.kf_ops.specs.Values.{truth}
+use Rattle.kf_value.specs.Values.{ValueTree, truth}
 use Rattle.kf_core.specs.Runs.{Tried}
 use Rattle.kf_traces.specs.declared.walks.Visit.{Visit}
 use Rattle.kf_traces.specs.declared.walks.Visit.TheVariants as code

@@ -3,13 +3,11 @@
 ghost use Rattle.std.specs.Prelude.{◌≡◌, ◌+◌, ◌*◌, ◌^◌, ◌<◌, [], length, map, IfOk, OnOk};
 ghost use Rattle.std.specs.List.{All};
 ghost use Rattle.kf_value.specs.Kinds.{KindTree};
-ghost use Rattle.kf_value.specs.Values.{IsWellFormed};
-ghost use Rattle.kf_value.specs.Shapes.{shape_types, shape_sizes};
-ghost use Rattle.kf_value.specs.Types.{product};
+ghost use Rattle.kf_value.specs.Forms.{IsWellFormed};
+ghost use Rattle.kf_value.specs.Shapes.{shape_size, shape_types};
 ghost use Rattle.kf_core.specs.Checked.{DistKinded, IsChecked};
 ghost use Rattle.kf_core.specs.Choices.{total};
-ghost use Rattle.kf_core.specs.Dxs.{dx_tree};
-ghost use Rattle.kf_core.specs.Programs.{program_tree};
+ghost use Rattle.kf_core.specs.Views.{dx_tree, program_tree};
 ghost use Rattle.kf_eval.specs.Choices.{weighted_tree};
 ghost use Rattle.kf_eval.specs.Kinds.{shape_kinds};
 ghost use Rattle.kf_traces.specs.Laws.{sum_of};
@@ -37,12 +35,12 @@ fn add_moves(
     reached: &mut BTreeMap<u64, u128>,
 ) -> Result<(), Mem>
     requires variable { slot < length (shape_types shape.now) }
-    requires store { store < product (shape_sizes shape.now) }
+    requires store { store < shape_size shape.now }
     requires formed { All (λ w. IsWellFormed w.value) (map weighted_tree choices.now) }
-    requires below { All (λ e. e.0 < product (shape_sizes shape.now)) reached.old.entries }
+    requires below { All (λ e. e.0 < shape_size shape.now) reached.old.entries }
     requires within { sum_of reached.old.entries + share * total (map weighted_tree choices.now) < 2 ^ 127 }
     ensures moved { OnOk result (reached.new.entries ≡ with_moves (shape_types shape.now) slot store reached.old.entries share (map weighted_tree choices.now)) }
-    ensures below { OnOk result (All (λ e. e.0 < product (shape_sizes shape.now)) reached.new.entries) }
+    ensures below { OnOk result (All (λ e. e.0 < shape_size shape.now) reached.new.entries) }
 {
     for choice in choices {
         if let Some(after) = moved(shape, slot, store, &choice.value) {
@@ -62,9 +60,9 @@ pub fn assign(
 ) -> Result<BTreeMap<u64, u128>, Mem>
     requires variable { slot < length (shape_types shape.now) }
     requires kinded { (k : KindTree) × DistKinded (shape_kinds shape.now) (dx_tree dist.now) k }
-    requires fits { Fits (product (shape_sizes shape.now)) stores.now.entries }
+    requires fits { Fits (shape_size shape.now) stores.now.entries }
     ensures assigned { IfOk result (λ m. m.entries ≡ assign_all (shape_types shape.now) slot (dx_tree dist.now) [] stores.now.entries) }
-    ensures fits { IfOk result (λ m. Fits (product (shape_sizes shape.now)) m.entries) }
+    ensures fits { IfOk result (λ m. Fits (shape_size shape.now) m.entries) }
 {
     let mut reached = BTreeMap::new(alloc);
     for (store, weight) in stores {
@@ -90,9 +88,9 @@ pub fn copy(
     stores: &BTreeMap<u64, u128>,
 ) -> Result<BTreeMap<u64, u128>, Mem>
     requires checked { IsChecked (program_tree program.now) }
-    requires fits { Fits (product (shape_sizes program.now.shape)) stores.now.entries }
+    requires fits { Fits (shape_size program.now.shape) stores.now.entries }
     ensures copied { IfOk result (λ m. m.entries ≡ copy_all (program_tree program.now) [] stores.now.entries) }
-    ensures fits { IfOk result (λ m. Fits (product (shape_sizes program.now.shape)) m.entries) }
+    ensures fits { IfOk result (λ m. Fits (shape_size program.now.shape) m.entries) }
 {
     let mut copied = BTreeMap::new(alloc);
     for (store, weight) in stores {

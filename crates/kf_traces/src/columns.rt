@@ -1,56 +1,59 @@
 //! How much weight the stores behind a trace give to each value of the target.
 
-ghost use Rattle.std.specs.Prelude.{◌≡◌, ℕ, ◌<◌, ◌≤◌, ◌==◌, All, filter, length, IfOk};
-ghost use Rattle.kf_value.specs.Shapes.{shape_sizes};
-ghost use Rattle.kf_value.specs.Targets.{target_size};
-ghost use Rattle.kf_value.specs.Types.{product};
+ghost use Rattle.std.specs.Prelude.{◌≡◌, ℕ, ◌<◌, ◌≤◌, ◌==◌, [], ◌∷◌, All, filter, length, IfOk};
+ghost use Rattle.kf_frac.specs.Fractions.{limit};
+ghost use Rattle.kf_value.specs.Shapes.{shape_size};
+ghost use Rattle.kf_value.specs.Numbers.{target_size};
 ghost use Rattle.kf_value.specs.Views.{items_of};
 ghost use Rattle.kf_core.specs.Checked.{IsChecked};
 ghost use Rattle.kf_core.specs.Joint.{target_number};
-ghost use Rattle.kf_core.specs.Programs.{program_tree};
-ghost use Rattle.kf_hyper.specs.Columns.{IsBelow, IsColumn, weight_at, total};
+ghost use Rattle.kf_core.specs.Views.{program_tree};
+ghost use Rattle.kf_hyper.specs.Columns.{IsColumn, weight_at, total};
+ghost use Rattle.kf_hyper.specs.Shapes.{IsBelow};
 ghost use Rattle.kf_traces.specs.Laws.{sum_of};
 ghost use Rattle.kf_traces.specs.Views.{Fits};
 
-use crate::parts::add_weight;
 use kf_core::Program;
-use kf_hyper::{Column, column_of};
+use kf_hyper::{Column, ColumnList, Columns, column_of, project, projection_laws};
 use kf_value::Mem;
 use std::alloc::Global;
 use std::collections::BTreeMap;
 
-/// The number of the target's value in a store: mixed radix over the numbers of its items' values, the first item most
-/// significant.
-fn number_in(program: &Program, store: u64) -> u64
-    requires checked { IsChecked (program_tree program.now) }
-    requires store { store < product (shape_sizes program.now.shape) }
-    ensures number { result ≡ target_number (program_tree program.now) store }
-    ensures below { result < target_size (items_of program.now.target) }
-{
-    let mut number = 0;
-    for slot in program.target_slots.as_slice() {
-        let i = usize::from(*slot);
-        number = number * u64::from(program.shape.size(i))
-            + u64::from(program.shape.slot(store, i));
-    }
-    number
-}
-
-/// How much weight lies on each value of the target.
-pub fn column(alloc: Global, program: &Program, stores: &BTreeMap<u64, u128>) -> Result<Column, Mem>
-    requires checked { IsChecked (program_tree program.now) }
-    requires fits { Fits (product (shape_sizes program.now.shape)) stores.now.entries }
-    requires some { 1 ≤ length stores.now.entries }
-    requires positive { All (λ e. 0 < e.1) stores.now.entries }
-    ensures weights { IfOk result (λ column. (x : ℕ)
-        → weight_at column x ≡ sum_of (filter (λ e. target_number (program_tree program.now) e.0 == x) stores.now.entries)) }
-    ensures below { IfOk result (λ column. IsBelow (target_size (items_of program.now.target)) column) }
-    ensures total { IfOk result (λ column. total column ≡ sum_of stores.now.entries) }
+/// The column of a joint matrix that has one alone.
+fn only_column(alloc: Global, joint: &Columns) -> Result<Column, Mem>
+    requires { length joint.now.columns ≡ 1 }
+    ensures only { IfOk result (λ column. joint.now.columns ≡ column ∷ []) }
     ensures column { IfOk result (λ column. IsColumn column) }
 {
-    let mut sums = BTreeMap::new(alloc);
-    for (store, weight) in stores {
-        add_weight(&mut sums, number_in(program, *store), *weight)?;
-    }
-    column_of(alloc, sums)
+    joint.columns().as_slice()[0].copy(alloc)
+}
+
+/// How much weight lies on each value of the target: the column of the stores, about the target's variables alone.
+///
+/// Weights are whole, over `scale`, which they don't pass together.
+pub fn column(
+    alloc: Global,
+    program: &Program,
+    scale: u128,
+    stores: BTreeMap<u64, u128>,
+) -> Result<Column, Mem>
+    requires checked { IsChecked (program_tree program.now) }
+    requires fits { Fits (shape_size program.now.shape) stores.entries }
+    requires some { 1 ≤ length stores.entries }
+    requires positive { All (λ e. 0 < e.1) stores.entries }
+    requires within { sum_of stores.entries ≤ scale }
+    requires narrow { scale ≤ limit }
+    ensures weights { IfOk result (λ column. (x : ℕ)
+        → weight_at column x ≡ sum_of (filter (λ e. target_number (program_tree program.now) e.0 == x) stores.entries)) }
+    ensures below { IfOk result (λ column. IsBelow (target_size (items_of program.now.target)) column) }
+    ensures total { IfOk result (λ column. total column ≡ sum_of stores.entries) }
+    ensures column { IfOk result (λ column. IsColumn column) }
+{
+    projection_laws();
+    let mut columns = Vec::new(alloc);
+    columns.push(column_of(alloc, stores)?)?;
+    let joint = Columns::new(scale, ColumnList::new(columns));
+    let about = project(alloc, &joint, &program.shape, &program.target_slots)?;
+    let column = only_column(alloc, &about)?;
+    Ok(column)
 }

@@ -7,8 +7,7 @@ ghost use Rattle.kf_traces.specs.Views.{part_of, traced_of};
 ghost use Rattle.kf_traces.specs.Visits.{last_true};
 
 use crate::parts::Part;
-use kf_eval::is_true;
-use kf_value::{Mem, Value};
+use kf_value::{Mem, Value, is_true};
 use std::alloc::Global;
 use std::collections::BTreeMap;
 

@@ -3,12 +3,11 @@
 ghost use Rattle.std.specs.Prelude.{◌≡◌, ◌^◌, ◌<◌, ◌≤◌, [], map, None, Err, Ok, IfOk, IfSome};
 ghost use Rattle.std.specs.List.{All};
 ghost use Rattle.kf_value.specs.Kinds.{KindTree};
-ghost use Rattle.kf_value.specs.Values.{IsWellFormed};
-ghost use Rattle.kf_value.specs.Shapes.{shape_types, shape_sizes};
-ghost use Rattle.kf_value.specs.Types.{product};
+ghost use Rattle.kf_value.specs.Forms.{IsWellFormed};
+ghost use Rattle.kf_value.specs.Shapes.{shape_size, shape_types};
 ghost use Rattle.kf_core.specs.Checked.{DistKinded};
 ghost use Rattle.kf_core.specs.Choices.{total};
-ghost use Rattle.kf_core.specs.Dxs.{dx_tree};
+ghost use Rattle.kf_core.specs.Views.{dx_tree};
 ghost use Rattle.kf_core.specs.Runs.{Halted, tried};
 ghost use Rattle.kf_eval.specs.Choices.{weighted_trees};
 ghost use Rattle.kf_eval.specs.Kinds.{shape_kinds};
@@ -26,7 +25,7 @@ use std::collections::BTreeMap;
 
 /// What the distribution chooses in a store; none where it has a fault there.
 pub fn chosen_in(alloc: Global, shape: &Shape, dist: &Dx, store: u64) -> Result<Option<Choice>, Mem>
-    requires store { store < product (shape_sizes shape.now) }
+    requires store { store < shape_size shape.now }
     requires kinded { (k : KindTree) × DistKinded (shape_kinds shape.now) (dx_tree dist.now) k }
     ensures choice { IfOk result (λ o. IfSome o (λ c. tried (shape_types shape.now) (dx_tree dist.now) store ≡ Ok (weighted_trees c))) }
     ensures total { IfOk result (λ o. IfSome o (λ c. c.total ≡ total (weighted_trees c))) }
@@ -68,9 +67,9 @@ pub fn split(
     stores: &BTreeMap<u64, u128>,
 ) -> Result<Vec<Part>, Mem>
     requires kinded { (k : KindTree) × DistKinded (shape_kinds shape.now) (dx_tree dist.now) k }
-    requires below { All (λ e. e.0 < product (shape_sizes shape.now)) stores.now.entries }
+    requires below { All (λ e. e.0 < shape_size shape.now) stores.now.entries }
     requires within { sum_of stores.now.entries < 2 ^ 127 }
-    ensures below { IfOk result (λ ps. All (λ p. All (λ e. e.0 < product (shape_sizes shape.now)) p.stores) (map part_of ps.items)) }
+    ensures below { IfOk result (λ ps. All (λ p. All (λ e. e.0 < shape_size shape.now) p.stores) (map part_of ps.items)) }
     ensures within { IfOk result (λ ps. All (λ p. sum_of p.stores < 2 ^ 127) (map part_of ps.items)) }
     ensures parts { IfOk result (λ ps. map part_of ps.items ≡ split_of (tried (shape_types shape.now) (dx_tree dist.now)) [] stores.now.entries) }
 {

@@ -1,19 +1,20 @@
 //! The table of a cleared program: its traces, each with the column of the stores behind it.
 
-ghost use Rattle.std.specs.Prelude.{◌≡◌, ℕ, ◌<◌, ◌≤◌, ◌==◌, All, filter, length, map, IfOk};
-ghost use Rattle.kf_value.specs.Shapes.{shape_sizes};
-ghost use Rattle.kf_value.specs.Targets.{target_size};
-ghost use Rattle.kf_value.specs.Types.{product};
+ghost use Rattle.std.specs.Prelude.{◌≡◌, ◌<◌, ◌≤◌, ◌==◌, All, filter, length, map, IfOk};
+ghost use Rattle.kf_frac.specs.Fractions.{limit};
+ghost use Rattle.kf_value.specs.Shapes.{shape_size};
+ghost use Rattle.kf_value.specs.Numbers.{target_size};
 ghost use Rattle.kf_value.specs.Views.{items_of};
 ghost use Rattle.kf_core.specs.Checked.{IsChecked};
 ghost use Rattle.kf_core.specs.Joint.{joint_of, target_number};
-ghost use Rattle.kf_core.specs.Programs.{program_tree};
-ghost use Rattle.kf_hyper.specs.Columns.{IsBelow, IsColumn, weight_at, total};
-ghost use Rattle.kf_hyper.specs.Traces.{row_of};
+ghost use Rattle.kf_core.specs.Views.{program_tree};
+ghost use Rattle.kf_core.specs.Rows.{AreRowsOf};
+ghost use Rattle.kf_hyper.specs.Columns.{IsColumn, weight_at, total};
+ghost use Rattle.kf_hyper.specs.Shapes.{IsBelow};
+ghost use Rattle.kf_hyper.specs.Tables.{table_row};
 ghost use Rattle.kf_hyper.specs.Views.{rows_of};
 ghost use Rattle.kf_support.specs.Cleared.{program_of, turns_of, whole_scale};
 ghost use Rattle.kf_traces.specs.Laws.{sum_of};
-ghost use Rattle.kf_traces.specs.Rows.{AreRowsOf};
 ghost use Rattle.kf_traces.specs.Views.{traced_of, AllFit};
 
 use crate::columns::column;
@@ -27,21 +28,28 @@ use kf_value::{Mem, ValueList};
 use std::alloc::Global;
 
 /// A row for each state: its trace, and the column of the stores behind it.
-fn rows_for(alloc: Global, program: &Program, states: Vec<State>) -> Result<Vec<TraceRow>, Mem>
+fn rows_for(
+    alloc: Global,
+    program: &Program,
+    scale: u128,
+    states: Vec<State>,
+) -> Result<Vec<TraceRow>, Mem>
     requires checked { IsChecked (program_tree program.now) }
-    requires fits { AllFit (product (shape_sizes program.now.shape)) (map traced_of states.items) }
+    requires fits { AllFit (shape_size program.now.shape) (map traced_of states.items) }
     requires some { All (λ s. 1 ≤ length s.stores) (map traced_of states.items) }
     requires positive { All (λ s. All (λ e. 0 < e.1) s.stores) (map traced_of states.items) }
-    ensures traces { IfOk result (λ rs. map (λ r. r.trace) (map row_of rs.items) ≡ map (λ s. s.trace) (map traced_of states.items)) }
-    ensures weights { IfOk result (λ rs. map (λ r. weight_at r.column) (map row_of rs.items)
+    requires within { All (λ s. sum_of s.stores ≤ scale) (map traced_of states.items) }
+    requires narrow { scale ≤ limit }
+    ensures traces { IfOk result (λ rs. map (λ r. r.trace) (map table_row rs.items) ≡ map (λ s. s.trace) (map traced_of states.items)) }
+    ensures weights { IfOk result (λ rs. map (λ r. weight_at r.column) (map table_row rs.items)
         ≡ map (λ s. λ x. sum_of (filter (λ e. target_number (program_tree program.now) e.0 == x) s.stores)) (map traced_of states.items)) }
-    ensures totals { IfOk result (λ rs. map (λ r. total r.column) (map row_of rs.items) ≡ map (λ s. sum_of s.stores) (map traced_of states.items)) }
-    ensures below { IfOk result (λ rs. All (λ r. IsBelow (target_size (items_of program.now.target)) r.column) (map row_of rs.items)) }
-    ensures columns { IfOk result (λ rs. All (λ r. IsColumn r.column) (map row_of rs.items)) }
+    ensures totals { IfOk result (λ rs. map (λ r. total r.column) (map table_row rs.items) ≡ map (λ s. sum_of s.stores) (map traced_of states.items)) }
+    ensures below { IfOk result (λ rs. All (λ r. IsBelow (target_size (items_of program.now.target)) r.column) (map table_row rs.items)) }
+    ensures columns { IfOk result (λ rs. All (λ r. IsColumn r.column) (map table_row rs.items)) }
 {
     let mut rows = Vec::new(alloc);
     for state in states {
-        let column = column(alloc, program, &state.stores)?;
+        let column = column(alloc, program, scale, state.stores)?;
         rows.push(TraceRow {
             trace: ValueList::new(state.trace),
             column,
@@ -52,7 +60,8 @@ fn rows_for(alloc: Global, program: &Program, states: Vec<State>) -> Result<Vec<
 
 /// The traces of a cleared program, ascending, each with the weights of the target's values behind it.
 ///
-/// A trace that no run has is not listed. Each trace is kept, however many there are.
+/// Weights are whole, over the program's scale, which is the table's and their sum. A trace that no run has is not
+/// listed. Each trace is kept, however many there are. The one error is want of memory.
 pub fn table(alloc: Global, c: &Cleared) -> Result<TraceTable, Mem>
     ensures rows { IfOk result (λ t. AreRowsOf (joint_of (turns_of c.now) (program_tree (program_of c.now))) (rows_of t)) }
     ensures scale { IfOk result (λ t. t.scale ≡ whole_scale c.now) }
@@ -61,7 +70,7 @@ pub fn table(alloc: Global, c: &Cleared) -> Result<TraceTable, Mem>
     run_laws();
     traced_laws();
     let states = walk_program(alloc, c)?;
-    let rows = rows_for(alloc, c.program(), states)?;
+    let rows = rows_for(alloc, c.program(), c.scale(), states)?;
     Ok(TraceTable {
         target: c.program().target.copy(alloc)?,
         scale: c.scale(),

@@ -3,13 +3,12 @@
 ghost use Rattle.std.specs.Prelude.{◌≡◌, ◌^◌, ◌<◌, length, map, flat_map, IfOk};
 ghost use Rattle.std.specs.List.{All};
 ghost use Rattle.kf_value.specs.Kinds.{KindTree, TruthKind};
-ghost use Rattle.kf_value.specs.Shapes.{shape_types, shape_sizes};
+ghost use Rattle.kf_value.specs.Shapes.{shape_size, shape_types, shape_sizes};
 ghost use Rattle.kf_value.specs.Types.{product};
 ghost use Rattle.kf_core.specs.Checked.{AreSound, DistKinded, IsChecked, IsSound};
-ghost use Rattle.kf_core.specs.Dxs.{dx_tree};
-ghost use Rattle.kf_core.specs.Programs.{program_tree};
+ghost use Rattle.kf_core.specs.Views.{dx_tree, st_tree, program_tree};
 ghost use Rattle.kf_core.specs.Runs.{tried};
-ghost use Rattle.kf_core.specs.Sts.{st_tree, sts};
+ghost use Rattle.kf_core.specs.Sts.{sts};
 ghost use Rattle.kf_eval.specs.Kinds.{shape_kinds};
 ghost use Rattle.kf_support.specs.Cleared.{program_of, turns_of, whole_scale};
 ghost use Rattle.kf_traces.specs.Traced.{alone, all_traced, assign_traced, loop_traced, program_traced, traced};
@@ -47,9 +46,9 @@ fn only(alloc: Global, state: State) -> Result<Vec<State>, Mem>
 fn assigned(alloc: Global, shape: &Shape, slot: usize, dist: &Dx, from: State) -> Result<State, Mem>
     requires variable { slot < length (shape_types shape.now) }
     requires kinded { (k : KindTree) × DistKinded (shape_kinds shape.now) (dx_tree dist.now) k }
-    requires fits { Fits (product (shape_sizes shape.now)) (traced_of from).stores }
+    requires fits { Fits (shape_size shape.now) (traced_of from).stores }
     ensures assigned { IfOk result (λ s. alone (traced_of s) ≡ assign_traced (shape_types shape.now) slot (dx_tree dist.now) (traced_of from)) }
-    ensures fits { IfOk result (λ s. Fits (product (shape_sizes shape.now)) (traced_of s).stores) }
+    ensures fits { IfOk result (λ s. Fits (shape_size shape.now) (traced_of s).stores) }
 {
     let stores = assign(alloc, shape, slot, dist, &from.stores)?;
     Ok(State {
@@ -61,9 +60,9 @@ fn assigned(alloc: Global, shape: &Shape, slot: usize, dist: &Dx, from: State) -
 /// One state for each value that is leaked, in ascending order.
 fn leak(alloc: Global, shape: &Shape, dist: &Dx, from: State) -> Result<Vec<State>, Mem>
     requires kinded { (k : KindTree) × DistKinded (shape_kinds shape.now) (dx_tree dist.now) k }
-    requires fits { Fits (product (shape_sizes shape.now)) (traced_of from).stores }
+    requires fits { Fits (shape_size shape.now) (traced_of from).stores }
     ensures leaked { IfOk result (λ ss. map traced_of ss.items ≡ leaked (tried (shape_types shape.now) (dx_tree dist.now)) (traced_of from)) }
-    ensures fits { IfOk result (λ ss. AllFit (product (shape_sizes shape.now)) (map traced_of ss.items)) }
+    ensures fits { IfOk result (λ ss. AllFit (shape_size shape.now) (map traced_of ss.items)) }
 {
     let parts = split(alloc, shape, dist, &from.stores)?;
     let states = all_behind(alloc, from.trace, parts)?;
@@ -80,9 +79,9 @@ fn walk(
     from: State,
 ) -> Result<Vec<State>, Mem>
     requires sound { IsSound (shape_kinds shape.now) (st_tree statement.now) }
-    requires fits { Fits (product (shape_sizes shape.now)) (traced_of from).stores }
+    requires fits { Fits (shape_size shape.now) (traced_of from).stores }
     ensures walked { IfOk result (λ ss. map traced_of ss.items ≡ traced (shape_types shape.now) turns (st_tree statement.now) (traced_of from)) }
-    ensures fits { IfOk result (λ ss. AllFit (product (shape_sizes shape.now)) (map traced_of ss.items)) }
+    ensures fits { IfOk result (λ ss. AllFit (shape_size shape.now) (map traced_of ss.items)) }
 {
     match statement {
         St::Skip => only(alloc, from),
@@ -128,9 +127,9 @@ fn walk_while(
 ) -> Result<Vec<State>, Mem>
     requires kinded { DistKinded (shape_kinds shape.now) (dx_tree test.now) TruthKind }
     requires sound { AreSound (shape_kinds shape.now) (map st_tree body.now) }
-    requires fits { Fits (product (shape_sizes shape.now)) (traced_of from).stores }
+    requires fits { Fits (shape_size shape.now) (traced_of from).stores }
     ensures walked { IfOk result (λ ss. map traced_of ss.items ≡ loop_traced turns (tried (shape_types shape.now) (dx_tree test.now)) (all_traced (shape_types shape.now) turns (sts (map st_tree body.now))) (traced_of from)) }
-    ensures fits { IfOk result (λ ss. AllFit (product (shape_sizes shape.now)) (map traced_of ss.items)) }
+    ensures fits { IfOk result (λ ss. AllFit (shape_size shape.now) (map traced_of ss.items)) }
 {
     let mut ended = Vec::new(alloc);
     let mut visits = Vec::new(alloc);
@@ -162,9 +161,9 @@ fn turn(
     states: Vec<State>,
 ) -> Result<Vec<Visit>, Mem>
     requires sound { AreSound (shape_kinds shape.now) (map st_tree body.now) }
-    requires fits { AllFit (product (shape_sizes shape.now)) (map traced_of states.items) }
+    requires fits { AllFit (shape_size shape.now) (map traced_of states.items) }
     ensures visits { IfOk result (λ vs. map visit_of vs.items ≡ flat_map (visits_next (all_traced (shape_types shape.now) turns (sts (map st_tree body.now))) rest) (map traced_of states.items)) }
-    ensures fits { IfOk result (λ vs. All (λ v. Fits (product (shape_sizes shape.now)) (visitor v).stores) (map visit_of vs.items)) }
+    ensures fits { IfOk result (λ vs. All (λ v. Fits (shape_size shape.now) (visitor v).stores) (map visit_of vs.items)) }
 {
     let mut visits = Vec::new(alloc);
     for state in states {
@@ -189,9 +188,9 @@ fn ask_again(
     state: State,
 ) -> Result<Vec<Visit>, Mem>
     requires sound { AreSound (shape_kinds shape.now) (map st_tree body.now) }
-    requires fits { Fits (product (shape_sizes shape.now)) (traced_of state).stores }
+    requires fits { Fits (shape_size shape.now) (traced_of state).stores }
     ensures visits { IfOk result (λ vs. map visit_of vs.items ≡ asks_again (all_traced (shape_types shape.now) turns (sts (map st_tree body.now))) rest (traced_of state)) }
-    ensures fits { IfOk result (λ vs. All (λ v. Fits (product (shape_sizes shape.now)) (visitor v).stores) (map visit_of vs.items)) }
+    ensures fits { IfOk result (λ vs. All (λ v. Fits (shape_size shape.now) (visitor v).stores) (map visit_of vs.items)) }
 {
     if rest == 0 {
         return Ok(Vec::new(alloc));
@@ -222,9 +221,9 @@ fn walk_all(
     from: State,
 ) -> Result<Vec<State>, Mem>
     requires sound { AreSound (shape_kinds shape.now) (map st_tree statements.now) }
-    requires fits { Fits (product (shape_sizes shape.now)) (traced_of from).stores }
+    requires fits { Fits (shape_size shape.now) (traced_of from).stores }
     ensures walked { IfOk result (λ ss. map traced_of ss.items ≡ all_traced (shape_types shape.now) turns (sts (map st_tree statements.now)) (traced_of from)) }
-    ensures fits { IfOk result (λ ss. AllFit (product (shape_sizes shape.now)) (map traced_of ss.items)) }
+    ensures fits { IfOk result (λ ss. AllFit (shape_size shape.now) (map traced_of ss.items)) }
 {
     let mut states = only(alloc, from)?;
     for statement in statements {
@@ -243,9 +242,9 @@ fn walk_each(
     states: Vec<State>,
 ) -> Result<Vec<State>, Mem>
     requires sound { IsSound (shape_kinds shape.now) (st_tree statement.now) }
-    requires fits { AllFit (product (shape_sizes shape.now)) (map traced_of states.items) }
+    requires fits { AllFit (shape_size shape.now) (map traced_of states.items) }
     ensures walked { IfOk result (λ ss. map traced_of ss.items ≡ flat_map (traced (shape_types shape.now) turns (st_tree statement.now)) (map traced_of states.items)) }
-    ensures fits { IfOk result (λ ss. AllFit (product (shape_sizes shape.now)) (map traced_of ss.items)) }
+    ensures fits { IfOk result (λ ss. AllFit (shape_size shape.now) (map traced_of ss.items)) }
 {
     let mut next = Vec::new(alloc);
     for state in states {
@@ -277,7 +276,7 @@ fn walk_checked(
     requires checked { IsChecked (program_tree program.now) }
     requires narrow { scale < 2 ^ 127 }
     ensures states { IfOk result (λ ss. map traced_of ss.items ≡ program_traced turns scale (program_tree program.now)) }
-    ensures fits { IfOk result (λ ss. AllFit (product (shape_sizes program.now.shape)) (map traced_of ss.items)) }
+    ensures fits { IfOk result (λ ss. AllFit (shape_size program.now.shape) (map traced_of ss.items)) }
 {
     let decls = program.decls.as_slice();
     let mut state = first(alloc, scale)?;

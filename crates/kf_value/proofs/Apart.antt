@@ -11,10 +11,12 @@ use Rattle.std.proofs.lemmas.Int.{ints}
 use Rattle.std.proofs.lemmas.List.{append-nil}
 use Rattle.std.proofs.lemmas.List.Elements.{All-head, All-tail, All-map}
 use Rattle.kf_value.specs.Values.{ValueTree, Whole, Tuple, Set, parts, parts_list, order}
-use Rattle.kf_value.specs.Types.{TypeTree, TypeTrees, Boolean, Range, TupleOf, SetOf, no_type, more_types, values, each_values, combinations, subsets, count, counted, in_bounds, fault_within, fault_of, first_fault, HasSize}
+use Rattle.kf_value.specs.Types.{TypeTree, TypeTrees, Boolean, Range, TupleOf, SetOf, no_type, more_types, values, each_values, combinations, subsets, count, counted, in_bounds}
+use Rattle.kf_value.specs.Sizes.{fault_within, fault_of, first_fault, HasSize}
 use Rattle.kf_value.specs.Texts.{text}
 use Rattle.kf_value.specs.Stores.{stores}
-use Rattle.kf_value.specs.Targets.{Item, target_size, target_value_text, shown}
+use Rattle.kf_value.specs.Targets.{Item, target_value_text, shown}
+use Rattle.kf_value.specs.Numbers.{target_size}
 use Rattle.kf_value.proofs.Ascending.{each_combination, each_part, combinations_ascend, values_ascend}
 use Rattle.kf_value.proofs.ByForm.{range_sized, in_bounds_tells, within_counted}
 use Rattle.kf_value.proofs.ListLemmas.{each_map, each_weaker, each_at}

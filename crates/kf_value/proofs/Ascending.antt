@@ -11,8 +11,10 @@ use Rattle.std.proofs.lemmas.List.FromFn.{length-map-range_with_len}
 use Rattle.std.proofs.lemmas.Int.{ints}
 use Rattle.std.proofs.lemmas.Bool.{and_parts}
 use Rattle.std.proofs.lemmas.Bool.Decides.{nat_tests}
-use Rattle.kf_value.specs.Values.{ValueTree, Truth, Whole, Tuple, Set, parts, order, IsWellFormed, EachWellFormed}
-use Rattle.kf_value.specs.Types.{TypeTree, TypeTrees, Boolean, Range, TupleOf, SetOf, no_type, more_types, type_list, values, each_values, combinations, subsets, count, counts, counted, product, well_formed, each_well_formed}
+use Rattle.kf_value.specs.Values.{ValueTree, Truth, Whole, Tuple, Set, parts, order}
+use Rattle.kf_value.specs.Forms.{IsWellFormed, EachWellFormed}
+use Rattle.kf_value.specs.Types.{TypeTree, TypeTrees, Boolean, Range, TupleOf, SetOf, no_type, more_types, values, each_values, combinations, subsets, count, counts, counted, product}
+use Rattle.kf_value.specs.Sizes.{type_list, well_formed, each_well_formed}
 use Rattle.kf_value.proofs.Trees.{parts_list-parts}
 use Rattle.kf_value.proofs.ListLemmas.{each_any, each_map, each_flat_map, each_weaker, each_both, each_reverse}
 use Rattle.kf_value.proofs.Orders.{lists_order, tuples_order, sets_order, order-itself, first_less, then_less, then-Less}

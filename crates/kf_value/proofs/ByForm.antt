@@ -14,8 +14,10 @@ use Rattle.kf_value.specs.declared.value.Value.{Value}
 use Rattle.kf_value.specs.declared.value.Value.TheVariants as value
 use Rattle.kf_value.specs.declared.value.ValueList.{ValueList}
 use Rattle.kf_value.specs.Views.{value_tree}
-use Rattle.kf_value.specs.Values.{ValueTree, Truth, Whole, Tuple, Set, parts, parts_list, order, IsWellFormed, EachWellFormed}
-use Rattle.kf_value.specs.Types.{TypeTree, Boolean, Range, TupleOf, SetOf, type_parts, values, each_values, combinations, subsets, count, counted, in_bounds, crowded, HasSize, IsPlaceIn}
+use Rattle.kf_value.specs.Values.{ValueTree, Truth, Whole, Tuple, Set, parts, parts_list, order}
+use Rattle.kf_value.specs.Forms.{IsWellFormed, EachWellFormed}
+use Rattle.kf_value.specs.Types.{TypeTree, Boolean, Range, TupleOf, SetOf, type_parts, values, each_values, combinations, subsets, count, counted, in_bounds}
+use Rattle.kf_value.specs.Sizes.{crowded, HasSize, IsPlaceIn}
 use Rattle.kf_value.specs.declared.ty.TyFault.{TyFault}
 use Rattle.kf_value.specs.declared.ty.TyFault.TheVariants.{BadRange}
 use Rattle.kf_value.proofs.Ascending.{length-values}

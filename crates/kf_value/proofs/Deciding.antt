@@ -5,7 +5,8 @@ use Rattle.std.specs.declared.cmp.Ordering.TheVariants.{Less, Equal, Greater}
 use Rattle.std.specs.Ordering.{ordering_then, ordering_reverse}
 use Rattle.std.specs.List.{AllByRecursion as Each}
 use Rattle.std.specs.List.Sorted.{IsStrictlySortedBy}
-use Rattle.kf_value.specs.Values.{ValueTree, Set, parts, order, IsIn, HoldsGreatest}
+use Rattle.kf_value.specs.Values.{ValueTree, Set, parts, order}
+use Rattle.kf_value.specs.Laws.{IsIn, HoldsGreatest}
 use Rattle.kf_value.proofs.Ascending.{reverse-cons}
 use Rattle.kf_value.proofs.ListLemmas.{each_append, each_reverse}
 use Rattle.kf_value.proofs.Orders.{lists_order, sets_order, flip, same, goes_on, order-itself, not_both_less}

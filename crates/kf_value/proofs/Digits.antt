@@ -8,8 +8,10 @@ use Rattle.std.proofs.lemmas.List.Elements.{All-head, All-tail}
 use Rattle.kf_value.proofs.Sizing.{some_values, few_values}
 use Rattle.std.proofs.lemmas.List.{get_or_default}
 use Rattle.kf_value.specs.Values.{ValueTree}
-use Rattle.kf_value.specs.Types.{TypeTree, values, combinations, product, count, fault_of, HasSize, HasNumber}
-use Rattle.kf_value.specs.Stores.{stores, IsStore, HasDigit, weights, digits}
+use Rattle.kf_value.specs.Types.{TypeTree, values, combinations, product, count}
+use Rattle.kf_value.specs.Sizes.{fault_of, HasSize, HasNumber}
+use Rattle.kf_value.specs.Stores.{stores}
+use Rattle.kf_value.specs.Numbers.{IsStore, HasDigit, weights, digits, mixed_radix, AreDigits}
 use Rattle.kf_value.proofs.Parts.{total, length-choices}
 use Rattle.kf_value.proofs.Places.{combination_at, combination_split}
 
@@ -216,3 +218,42 @@ pub size_small : (ts : List TypeTree) (i : ℕ) → All (λ t. fault_of t ≡ No
 size_small [] i h within = absurd (omega arith)
 size_small (t ∷ ts) zero h within = few_values 65536 t (All-head (λ u. fault_of u ≡ None) t ts h)
 size_small (t ∷ ts) (suc i) h within = size_small ts i (All-tail (λ u. fault_of u ≡ None) t ts h) (omega arith)
+
+-- ---- digits and numbers undo each other
+
+pub digits_fit : (ss : List ℕ) (n : ℕ) → n < product ss → AreDigits ss (digits ss n)
+digits_fit [] n h = tt
+digits_fit (s ∷ ss) n h =
+    let some = some_below s (product ss) n h in
+    (div_below n (product ss) s some h, digits_fit ss (n % product ss) (mod_below n (product ss) some))
+
+pub from_digits : (ss : List ℕ) (n : ℕ) → n < product ss → mixed_radix ss (digits ss n) ≡ n
+from_digits [] n h = omega arith
+from_digits (s ∷ ss) n h =
+    let some = some_below s (product ss) n h in
+    ap (λ z. n / product ss * product ss + z) (from_digits ss (n % product ss) (mod_below n (product ss) some)) ∙ div-add-mod' n (product ss)
+
+pub radix_below : (ss ds : List ℕ) → AreDigits ss ds → mixed_radix ss ds < product ss
+radix_below [] [] h = omega arith
+radix_below [] (d ∷ ds) h = elim h [ ]
+radix_below (s ∷ ss) [] h = elim h [ ]
+radix_below (s ∷ ss) (d ∷ ds) h =
+    let later = radix_below ss ds h.1 in
+    let first = h.0 in
+    let grown : (d + 1) * product ss ≤ s * product ss = mul-le-mul_right (product ss) (omega arith) in
+    omega arith
+
+pub to_digits : (ss ds : List ℕ) → AreDigits ss ds → digits ss (mixed_radix ss ds) ≡ ds
+to_digits [] [] h = refl
+to_digits [] (d ∷ ds) h = elim h [ ]
+to_digits (s ∷ ss) [] h = elim h [ ]
+to_digits (s ∷ ss) (d ∷ ds) h =
+    let p = product ss in
+    let r = mixed_radix ss ds in
+    let later = radix_below ss ds h.1 in
+    ap (λ z. z ∷ digits ss ((d * p + r) % p)) (div-mul-add d p r later)
+    ∙ (ap (λ z. d ∷ digits ss z) (mod-mul-add d p r later) ∙ ap (λ zs. d ∷ zs) (to_digits ss ds h.1))
+
+pub stores_counted : (ts : List TypeTree) → length (stores ts) ≡ product (map count ts)
+unfolding stores
+stores_counted ts = length-choices ts

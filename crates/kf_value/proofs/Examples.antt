@@ -3,8 +3,10 @@ use Rattle.std.proofs.Common.{◌≡◌, ℕ, pos, negsuc, true, false, List, []
 use Rattle.std.specs.declared.cmp.Ordering.TheVariants.{Less, Greater}
 use Rattle.kf_value.specs.declared.ty.TyFault.TheVariants.{BadRange, TooManyValues}
 use Rattle.kf_value.specs.Values.{ValueTree, Truth, Whole, Tuple, Set, parts, order}
-use Rattle.kf_value.specs.Types.{TypeTree, Boolean, Range, TupleOf, SetOf, type_parts, values, count, size_of}
-use Rattle.kf_value.specs.Stores.{stores, digits, mixed_radix}
+use Rattle.kf_value.specs.Types.{TypeTree, Boolean, Range, TupleOf, SetOf, type_parts, values, count}
+use Rattle.kf_value.specs.Sizes.{size_of}
+use Rattle.kf_value.specs.Stores.{stores}
+use Rattle.kf_value.specs.Numbers.{digits, mixed_radix}
 use Rattle.kf_value.specs.Targets.{Item, target_value_text}
 use Rattle.std.specs.Fmt.{digits as decimal_digits}
 

@@ -7,8 +7,10 @@ use Rattle.kf_value.proofs.Trees.{counts-type_parts}
 use Rattle.std.proofs.lemmas.Nat.{div-mul-add, mod-mul-add, div-add-mod', div_below, mod_below}
 use Rattle.std.proofs.lemmas.Option.{slice_get-map}
 use Rattle.kf_value.specs.declared.value.Value.{Value}
-use Rattle.kf_value.specs.Values.{ValueTree, Tuple, Set, parts, IsWellFormed}
-use Rattle.kf_value.specs.Types.{TypeTree, TupleOf, SetOf, type_parts, values, combinations, subsets, count, fault_within, first_fault, well_formed, HasSize, HasNumber}
+use Rattle.kf_value.specs.Values.{ValueTree, Tuple, Set, parts}
+use Rattle.kf_value.specs.Forms.{IsWellFormed}
+use Rattle.kf_value.specs.Types.{TypeTree, TupleOf, SetOf, type_parts, values, combinations, subsets, count}
+use Rattle.kf_value.specs.Sizes.{fault_within, first_fault, well_formed, HasSize, HasNumber}
 use Rattle.kf_value.specs.Views.{value_tree}
 use Rattle.kf_value.proofs.Ascending.{length-values, values_well_formed}
 use Rattle.kf_value.proofs.ByForm.{values-TupleOf, values-SetOf}

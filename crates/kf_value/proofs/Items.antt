@@ -5,9 +5,12 @@ use Rattle.std.proofs.lemmas.List.{length-map}
 use Rattle.std.specs.List.{All, list_all}
 use Rattle.std.proofs.lemmas.List.Elements.{All-head, All-tail, All-map, All-nil, All-cons}
 use Rattle.kf_value.specs.declared.target_item.TargetItem.{TargetItem}
-use Rattle.kf_value.specs.Types.{TypeTree, type_parts, product, count, fault_of, first_fault, first_of, values, combinations}
+use Rattle.kf_value.specs.Types.{TypeTree, type_parts, product, count, values, combinations}
+use Rattle.kf_value.specs.Sizes.{fault_of, first_fault, first_of}
 use Rattle.kf_value.specs.Stores.{stores}
-use Rattle.kf_value.specs.Targets.{Item, item_of, target_size, target_values}
+use Rattle.kf_value.specs.Targets.{Item, target_values}
+use Rattle.kf_value.specs.Numbers.{target_size}
+use Rattle.kf_value.specs.TypeViews.{item_of}
 use Rattle.kf_value.proofs.Digits.{sizes}
 
 abbrev pub item_type : TargetItem → TypeTree

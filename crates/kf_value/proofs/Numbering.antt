@@ -5,8 +5,11 @@ use Rattle.std.specs.List.Sorted.{IsStrictlySortedBy}
 use Rattle.std.proofs.lemmas.List.{length-map}
 use Rattle.kf_value.specs.declared.value.Value.{Value}
 use Rattle.kf_value.specs.declared.ty.Ty.{Ty}
-use Rattle.kf_value.specs.Values.{ValueTree, Tuple, Set, parts, order, IsWellFormed}
-use Rattle.kf_value.specs.Types.{TypeTree, TupleOf, SetOf, type_tree, type_parts, values, count, HasSize, IsPlaceIn}
+use Rattle.kf_value.specs.Values.{ValueTree, Tuple, Set, parts, order}
+use Rattle.kf_value.specs.Forms.{IsWellFormed}
+use Rattle.kf_value.specs.Types.{TypeTree, TupleOf, SetOf, type_parts, values, count}
+use Rattle.kf_value.specs.Sizes.{HasSize, IsPlaceIn}
+use Rattle.kf_value.specs.TypeViews.{type_tree}
 use Rattle.kf_value.specs.Views.{value_tree}
 use Rattle.kf_value.proofs.Ascending.{length-values, values_ascend}
 use Rattle.kf_value.proofs.ByForm.{tuple_place, set_place, tuple_formed, set_formed}

@@ -3,7 +3,8 @@ use Rattle.std.proofs.Common.{◌≡◌, ℕ, zero, suc, ◌+◌, ◌*◌, ◌<�
 use Rattle.std.proofs.Math.Nat.{mul_assoc, mul-le-mul_left, mul-le-mul_right}
 use Rattle.std.proofs.lemmas.Option.{slice_get_within}
 use Rattle.kf_value.specs.Values.{ValueTree}
-use Rattle.kf_value.specs.Types.{TypeTree, values, combinations, product, count, type_parts, fault_within, first_fault, HasSize}
+use Rattle.kf_value.specs.Types.{TypeTree, values, combinations, product, count, type_parts}
+use Rattle.kf_value.specs.Sizes.{fault_within, first_fault, HasSize}
 use Rattle.kf_value.proofs.Places.{length-combinations, combination_at, combination_of}
 use Rattle.kf_value.proofs.Ascending.{length-values}
 use Rattle.kf_value.proofs.Sizing.{first_of-None, rest_some}

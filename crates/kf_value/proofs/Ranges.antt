@@ -5,7 +5,8 @@ use Rattle.std.specs.Fmt.{decimal}
 use Rattle.kf_value.specs.Types.{Range, counted, values}
 use Rattle.kf_value.specs.Values.{Whole}
 use Rattle.kf_value.specs.Stores.{stores}
-use Rattle.kf_value.specs.Targets.{Item, target_size, target_values, target_value_text}
+use Rattle.kf_value.specs.Targets.{Item, target_values, target_value_text}
+use Rattle.kf_value.specs.Numbers.{target_size}
 use Rattle.kf_value.proofs.ByForm.{whole_place}
 use Rattle.kf_value.proofs.Places.{combination_at}
 use Rattle.kf_value.proofs.Printing.{target_text_is}

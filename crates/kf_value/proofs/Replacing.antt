@@ -4,8 +4,10 @@ use Rattle.std.specs.List.{All}
 use Rattle.std.proofs.lemmas.List.{length-map}
 use Rattle.kf_value.specs.declared.ty.Ty.{Ty}
 use Rattle.kf_value.specs.Values.{ValueTree}
-use Rattle.kf_value.specs.Types.{TypeTree, type_tree, count, product, fault_of, HasNumber}
-use Rattle.kf_value.specs.Stores.{IsStore, weights, digits}
+use Rattle.kf_value.specs.Types.{TypeTree, count, product}
+use Rattle.kf_value.specs.Sizes.{fault_of, HasNumber}
+use Rattle.kf_value.specs.TypeViews.{type_tree}
+use Rattle.kf_value.specs.Numbers.{IsStore, weights, digits}
 use Rattle.kf_value.proofs.Digits.{sizes, Changed, change_digit, positive_sizes, store_changed, size_at}
 use Rattle.kf_value.proofs.ListLemmas.{mapped_read}
 

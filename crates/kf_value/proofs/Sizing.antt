@@ -8,7 +8,8 @@ use Rattle.std.proofs.lemmas.Int.{ints}
 use Rattle.std.proofs.lemmas.Bool.Decides.{nat_tests}
 use Rattle.kf_value.specs.declared.ty.TyFault.{TyFault}
 use Rattle.kf_value.specs.declared.ty.TyFault.TheVariants.{BadRange, TooManyValues}
-use Rattle.kf_value.specs.Types.{TypeTree, TypeTrees, Boolean, Range, TupleOf, SetOf, no_type, more_types, type_parts, count, counts, product, fault_within, first_fault, first_of, crowded, crowded_after, size_within, capped_product, in_bounds, counted, HasSize}
+use Rattle.kf_value.specs.Types.{TypeTree, TypeTrees, Boolean, Range, TupleOf, SetOf, no_type, more_types, type_parts, count, counts, product, in_bounds, counted}
+use Rattle.kf_value.specs.Sizes.{fault_within, first_fault, first_of, crowded, crowded_after, size_within, capped_product, HasSize}
 use Rattle.kf_value.proofs.Trees.{counts-type_parts}
 
 -- ---- a type without a fault has a value

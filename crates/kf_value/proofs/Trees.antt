@@ -7,7 +7,9 @@ use Rattle.kf_value.specs.declared.ty.Ty.{Ty, the_lemmas as type_lemmas}
 use Rattle.kf_value.specs.declared.ty.Ty.TheVariants as ty
 use Rattle.kf_value.specs.declared.ty.TyList.{TyList}
 use Rattle.kf_value.specs.Values.{ValueTree, Truth, Whole, Tuple, Set, parts, parts_list, order, orders}
-use Rattle.kf_value.specs.Types.{TypeTree, Boolean, Range, TupleOf, SetOf, type_parts, type_list, type_tree, values, each_values, count, counts}
+use Rattle.kf_value.specs.Types.{TypeTree, Boolean, Range, TupleOf, SetOf, type_parts, values, each_values, count, counts}
+use Rattle.kf_value.specs.Sizes.{type_list}
+use Rattle.kf_value.specs.TypeViews.{type_tree}
 use Rattle.kf_value.specs.Texts.{text, texts}
 use Rattle.kf_value.specs.Views.{value_tree, value_trees, type_trees}
 

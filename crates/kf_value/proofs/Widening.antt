@@ -5,8 +5,9 @@ use Rattle.std.proofs.Math.Nat.{mul_assoc}
 use Rattle.std.proofs.lemmas.List.{append_assoc, append-nil}
 use Rattle.std.proofs.lemmas.List.Elements.{All-head, All-tail}
 use Rattle.std.proofs.lemmas.Nat.{div-mul-add}
-use Rattle.kf_value.specs.Types.{TypeTree, count, product, fault_of}
-use Rattle.kf_value.specs.Stores.{weights}
+use Rattle.kf_value.specs.Types.{TypeTree, count, product}
+use Rattle.kf_value.specs.Sizes.{fault_of}
+use Rattle.kf_value.specs.Numbers.{weights}
 use Rattle.kf_value.proofs.Digits.{sizes, positive_sizes, positive_product}
 use Rattle.kf_value.proofs.Sizing.{min_saturates, some_values}
 

@@ -1,6 +1,6 @@
--- Kinds as plain trees, and the kinds of values.
+-- Believed: kinds as plain trees, and the kinds of types.
 use Rattle.std.specs.Prelude.{List, [], ◌∷◌}
-use Rattle.kf_value.specs.Values.{ValueTree, ValueTrees, Truth, Whole, Tuple, Set, no_value, more_values}
+use Rattle.kf_value.specs.Types.{TypeTree, TypeTrees, Boolean, Range, TupleOf, SetOf, no_type, more_types}
 
 mutual
   pub data KindTree : Type 0 where
@@ -18,20 +18,14 @@ abbrev pub kind_parts : List KindTree → KindTrees
 kind_parts [] = no_kind
 kind_parts (k ∷ ks) = more_kinds k (kind_parts ks)
 
--- the value is of this kind: a tuple part by part, a set with each element, so that the empty set has the kind of every set
+-- the kind of a type's values
 abbrev mutual
-  pub HasKind : ValueTree → KindTree → Type 0
-  HasKind (Truth b) TruthKind = Unit {0}
-  HasKind (Whole i) WholeKind = Unit {0}
-  HasKind (Tuple vs) (TupleKind ks) = HaveKinds vs ks
-  HasKind (Set vs) (SetKind k) = AllHaveKind vs k
-  HasKind _ _ = ⊥
+  pub kind_of : TypeTree → KindTree
+  kind_of Boolean = TruthKind
+  kind_of (Range lo hi) = WholeKind
+  kind_of (TupleOf ts) = TupleKind (kinds_of ts)
+  kind_of (SetOf t) = SetKind (kind_of t)
 
-  pub HaveKinds : ValueTrees → KindTrees → Type 0
-  HaveKinds no_value no_kind = Unit {0}
-  HaveKinds (more_values v vs) (more_kinds k ks) = HasKind v k × HaveKinds vs ks
-  HaveKinds _ _ = ⊥
-
-  pub AllHaveKind : ValueTrees → KindTree → Type 0
-  AllHaveKind no_value k = Unit {0}
-  AllHaveKind (more_values v vs) k = HasKind v k × AllHaveKind vs k
+  pub kinds_of : TypeTrees → KindTrees
+  kinds_of no_type = no_kind
+  kinds_of (more_types t ts) = more_kinds (kind_of t) (kinds_of ts)

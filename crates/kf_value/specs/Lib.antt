@@ -1,8 +1,15 @@
+-- Believed
 pub mod Kinds
-pub mod Shapes
 pub mod Stores
 pub mod Targets
 pub mod Texts
 pub mod Types
 pub mod Values
+-- For bodies
+pub mod Forms
+pub mod Laws
+pub mod Numbers
+pub mod Shapes
+pub mod Sizes
+pub mod TypeViews
 pub mod Views

@@ -1,8 +1,7 @@
--- Targets: what a hyper is about, and the texts of their values.
-use Rattle.std.specs.Prelude.{◌≡◌, ◌<◌, ◌↔◌, Option, ℕ, ◌*◌, Bool, List, [], ◌∷◌, ◌++◌, map, codes, slice_get, None, Some, if◌then◌else◌}
-use Rattle.kf_value.specs.declared.target_item.TargetItem.{TargetItem}
+-- Believed: targets, what a hyper is about, and the texts of their values.
+use Rattle.std.specs.Prelude.{ℕ, Bool, List, [], ◌∷◌, ◌++◌, map, codes, slice_get, None, Some, if◌then◌else◌}
 use Rattle.kf_value.specs.Values.{ValueTree, Tuple, parts}
-use Rattle.kf_value.specs.Types.{TypeTree, type_tree, count}
+use Rattle.kf_value.specs.Types.{TypeTree}
 use Rattle.kf_value.specs.Stores.{stores}
 use Rattle.kf_value.specs.Texts.{text, separated}
 
@@ -11,14 +10,6 @@ pub record Item : Type 0 where
   pub initial : Bool
   pub name : List ℕ
   pub ty : TypeTree
-
-abbrev pub item_of : TargetItem → Item
-item_of i = record { initial = i.initial; name = i.name; ty = type_tree i.ty }
-
--- how many values a target has
-abbrev pub target_size : List Item → ℕ
-target_size [] = 1
-target_size (i ∷ items) = count i.ty * target_size items
 
 -- all values of a target in their order: one value for each item
 abbrev pub target_values : List Item → List (List ValueTree)
@@ -39,7 +30,3 @@ item_text i = (if i.initial then codes "old " else []) ++ i.name
 -- the text of a target: its items, a comma and a space between them
 abbrev pub target_text : List Item → List ℕ
 target_text items = separated (map item_text items)
-
--- the answer is the number of the value with this text, or there is no such value
-abbrev pub IsNumberOf : List Item → List ℕ → Option ℕ → Type 0
-IsNumberOf items bytes found = (n : ℕ) → (found ≡ Some n) ↔ ((n < target_size items) × (target_value_text items n ≡ bytes))

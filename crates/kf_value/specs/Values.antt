@@ -1,9 +1,8 @@
--- Values as plain trees, their order, and which are well formed.
-use Rattle.std.specs.Prelude.{◌≡◌, ◌≤◌, ℤ, Bool, List, [], ◌∷◌, ◌⊎◌, length, reverse}
+-- Believed: values as plain trees, and their order.
+use Rattle.std.specs.Prelude.{ℤ, pos, Bool, false, List, [], ◌∷◌, reverse}
 use Rattle.std.specs.declared.cmp.Ordering.{Ordering}
 use Rattle.std.specs.declared.cmp.Ordering.TheVariants.{Less, Equal, Greater}
-use Rattle.std.specs.Ordering.{bool_cmp, int_cmp, ordering_then}
-use Rattle.std.specs.List.Sorted.{IsStrictlySortedBy}
+use Rattle.std.specs.Ordering.{bool_cmp, int_cmp, ordering_then, is_eq}
 
 mutual
   pub data ValueTree : Type 0 where
@@ -64,27 +63,19 @@ abbrev mutual
   orders no_value = []
   orders (more_values v vs) = order v ∷ orders vs
 
--- at each nesting, a tuple has at least two parts and a set's elements ascend
-abbrev mutual
-  pub IsWellFormed : ValueTree → Type 0
-  IsWellFormed (Truth b) = Unit {0}
-  IsWellFormed (Whole i) = Unit {0}
-  IsWellFormed (Tuple vs) = (2 ≤ length (parts_list vs)) × EachWellFormed vs
-  IsWellFormed (Set vs) = IsStrictlySortedBy order (parts_list vs) × EachWellFormed vs
+-- what a value of each form holds; at another form, where it isn't asked for, `false`, 0 and no element
+abbrev pub truth : ValueTree → Bool
+truth (Truth b) = b
+truth _ = false
 
-  pub EachWellFormed : ValueTrees → Type 0
-  EachWellFormed no_value = Unit {0}
-  EachWellFormed (more_values v vs) = IsWellFormed v × EachWellFormed vs
+abbrev pub whole : ValueTree → ℤ
+whole (Whole i) = i
+whole _ = pos 0
 
--- the value is one of the list
-abbrev pub IsIn : ValueTree → List ValueTree → Type 0
-IsIn v [] = ⊥
-IsIn v (w ∷ ws) = (v ≡ w) ⊎ IsIn v ws
+abbrev pub elements : ValueTree → List ValueTree
+elements (Set vs) = parts_list vs
+elements _ = []
 
--- of the values that stand in exactly one of two lists there is a greatest, and it stands in the first list
-pub record HoldsGreatest (vs ws : List ValueTree) : Type 0 where
-  pub greatest : ValueTree
-  pub held : IsIn greatest vs
-  pub missed : IsIn greatest ws → ⊥
-  pub ours : (v : ValueTree) → IsIn v vs → (IsIn v ws → ⊥) → (v ≡ greatest) ⊎ (order v greatest ≡ Less)
-  pub theirs : (v : ValueTree) → IsIn v ws → (IsIn v vs → ⊥) → order v greatest ≡ Less
+-- neither value comes before the other in the order of values
+abbrev pub is_equal : ValueTree → ValueTree → Bool
+is_equal v w = is_eq (order v w)

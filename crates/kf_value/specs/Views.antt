@@ -1,4 +1,4 @@
--- What contracts see of values, kinds, lists and targets.
+-- For bodies: what contracts see of values, kinds, lists and targets.
 use Rattle.std.specs.Prelude.{List, map}
 use Rattle.kf_value.specs.declared.value.Value.{Value, fold-Value, Value-F}
 use Rattle.kf_value.specs.declared.value.ValueList.{ValueList, ValueList-F, out-ValueList}
@@ -9,8 +9,9 @@ use Rattle.kf_value.specs.declared.ty.TyList.{TyList, out-TyList}
 use Rattle.kf_value.specs.declared.target.Target.{Target}
 use Rattle.kf_value.specs.Values.{ValueTree, Truth, Whole, Tuple, Set, parts}
 use Rattle.kf_value.specs.Kinds.{KindTree, TruthKind, WholeKind, TupleKind, SetKind, kind_parts}
-use Rattle.kf_value.specs.Types.{TypeTree, type_tree}
-use Rattle.kf_value.specs.Targets.{Item, item_of}
+use Rattle.kf_value.specs.Types.{TypeTree}
+use Rattle.kf_value.specs.Targets.{Item}
+use Rattle.kf_value.specs.TypeViews.{type_tree, item_of}
 
 -- a value of the program as a tree
 abbrev pub value_step : Value-F ValueTree (List ValueTree) → ValueTree

@@ -14,11 +14,12 @@ mod sizes;
 mod slot_list;
 mod target;
 mod target_item;
+mod truth;
 mod ty;
 mod value;
 
 pub use kind::{Kind, KindList};
-pub use laws::{order_laws, text_laws};
+pub use laws::{order_laws, store_laws, text_laws};
 pub use mem::Mem;
 pub use name::Name;
 pub use nth::value_at;
@@ -30,6 +31,7 @@ pub use sizes::size;
 pub use slot_list::SlotList;
 pub use target::Target;
 pub use target_item::{TargetItem, TargetItemList};
+pub use truth::is_true;
 pub use ty::{Ty, TyFault, TyList};
 pub use value::{Value, ValueList};
 

@@ -1,6 +1,9 @@
 ghost use Rattle.std.specs.Prelude.{◌<◌, map, IfOk, IsTrue};
-ghost use Rattle.kf_value.specs.Values.{Tuple, Set, parts as value_parts, IsWellFormed};
-ghost use Rattle.kf_value.specs.Types.{type_tree, type_parts, TupleOf, SetOf, count, well_formed, HasSize, HasNumber};
+ghost use Rattle.kf_value.specs.Values.{Tuple, Set, parts as value_parts};
+ghost use Rattle.kf_value.specs.Forms.{IsWellFormed};
+ghost use Rattle.kf_value.specs.Types.{type_parts, TupleOf, SetOf, count};
+ghost use Rattle.kf_value.specs.Sizes.{well_formed, HasSize, HasNumber};
+ghost use Rattle.kf_value.specs.TypeViews.{type_tree};
 ghost use Rattle.kf_value.specs.Views.{value_tree, value_trees};
 
 use crate::sizes::{known_product, known_size};

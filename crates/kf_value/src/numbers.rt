@@ -1,6 +1,9 @@
 ghost use Rattle.std.specs.Prelude.{◌<◌, map, IfSome, IsTrue};
-ghost use Rattle.kf_value.specs.Values.{Whole, Tuple, Set, parts as value_parts, IsWellFormed};
-ghost use Rattle.kf_value.specs.Types.{type_tree, type_parts, Range, TupleOf, SetOf, count, values, in_bounds, HasSize, IsPlaceIn};
+ghost use Rattle.kf_value.specs.Values.{Whole, Tuple, Set, parts as value_parts};
+ghost use Rattle.kf_value.specs.Forms.{IsWellFormed};
+ghost use Rattle.kf_value.specs.Types.{type_parts, Range, TupleOf, SetOf, count, values, in_bounds};
+ghost use Rattle.kf_value.specs.Sizes.{HasSize, IsPlaceIn};
+ghost use Rattle.kf_value.specs.TypeViews.{type_tree};
 ghost use Rattle.kf_value.specs.Views.{value_tree};
 
 use crate::sizes::known_size;

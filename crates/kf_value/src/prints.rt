@@ -1,9 +1,11 @@
 ghost use Rattle.std.specs.Prelude.{◌≡◌, ◌≤◌, ◌<◌, ◌^◌, ◌-◌, ◌++◌, min, map, slice_get, None, Some, OnOk, OnErr, IfOk};
 ghost use Rattle.std.specs.List.{All};
-ghost use Rattle.kf_value.specs.Types.{fault_of};
+ghost use Rattle.kf_value.specs.Sizes.{fault_of};
 ghost use Rattle.kf_value.specs.Values.{Tuple, parts};
 ghost use Rattle.kf_value.specs.Texts.{text, separated};
-ghost use Rattle.kf_value.specs.Targets.{item_of, target_size, target_values, target_value_text, shown, IsNumberOf};
+ghost use Rattle.kf_value.specs.Targets.{target_values, target_value_text, shown};
+ghost use Rattle.kf_value.specs.Numbers.{target_size, IsNumberOf};
+ghost use Rattle.kf_value.specs.TypeViews.{item_of};
 ghost use Rattle.kf_value.specs.Views.{value_tree, value_trees, items_of};
 
 use crate::nth::value_at;

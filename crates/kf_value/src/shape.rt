@@ -1,7 +1,9 @@
 ghost use Rattle.std.specs.Prelude.{◌≡◌, ◌≤◌, ◌^◌, ◌-◌, min, map, length, None, IsTrue};
 ghost use Rattle.std.specs.List.{All, list_all};
-ghost use Rattle.kf_value.specs.Types.{type_tree, fault_of, well_formed, count, product};
-ghost use Rattle.kf_value.specs.Stores.{weights as place_weights};
+ghost use Rattle.kf_value.specs.Types.{count, product};
+ghost use Rattle.kf_value.specs.Sizes.{fault_of, well_formed};
+ghost use Rattle.kf_value.specs.TypeViews.{type_tree};
+ghost use Rattle.kf_value.specs.Numbers.{weights as place_weights};
 ghost use Rattle.kf_value.specs.Views.{type_trees};
 
 use crate::numbers::number;
@@ -61,10 +63,12 @@ impl<T: Drop> From<AllocFailed<T>> for ShapeError {
 
 impl Shape {
     ghost use Rattle.std.specs.Prelude.{ℕ, List, ◌<◌, ◌↔◌, slice_get, slice_set, slice_index, Some, Err, IfOk, OnErr};
-    ghost use Rattle.kf_value.specs.Types.{TypeTree, HasNumber};
-    ghost use Rattle.kf_value.specs.Values.{ValueTree, IsWellFormed};
-    ghost use Rattle.kf_value.specs.Stores.{digits, IsStore, HasDigit};
-    ghost use Rattle.kf_value.specs.Shapes.{shape_types, shape_sizes};
+    ghost use Rattle.kf_value.specs.Types.{TypeTree};
+    ghost use Rattle.kf_value.specs.Sizes.{HasNumber};
+    ghost use Rattle.kf_value.specs.Values.{ValueTree};
+    ghost use Rattle.kf_value.specs.Forms.{IsWellFormed};
+    ghost use Rattle.kf_value.specs.Numbers.{digits, IsStore, HasDigit};
+    ghost use Rattle.kf_value.specs.Shapes.{shape_types, shape_sizes, shape_size};
     ghost use Rattle.kf_value.specs.Views.{value_tree};
 
     /// The shape of variables of these types.
@@ -113,7 +117,7 @@ impl Shape {
 
     /// The number, in its type, of the value of variable `i` in a store.
     pub fn slot(&self, store: u64, i: usize) -> u32
-        requires store { store < product (shape_sizes self.now) }
+        requires store { store < shape_size self.now }
         requires variable { i < length (shape_types self.now) }
         ensures digit { result ≡ slice_index (digits (shape_sizes self.now) store) i }
         ensures value { HasDigit (shape_types self.now) store i result }
@@ -124,7 +128,7 @@ impl Shape {
 
     /// The store with variable `i` changed to the value, and all others as before.
     pub fn with_slot(&self, store: u64, i: usize, v: &Value) -> Result<u64, OutOfRange>
-        requires store { store < product (shape_sizes self.now) }
+        requires store { store < shape_size self.now }
         requires variable { i < length (shape_types self.now) }
         requires formed { IsWellFormed (value_tree v.now) }
         ensures changed { IfOk result (λ after. (s : List ValueTree) → IsStore (shape_types self.now) store s
@@ -132,7 +136,7 @@ impl Shape {
         ensures digits { IfOk result (λ after. (t : TypeTree) → slice_get (shape_types self.now) i ≡ Some t
             → (n : ℕ) × HasNumber t (value_tree v.now) n
             × (digits (shape_sizes self.now) after ≡ slice_set (digits (shape_sizes self.now) store) i n)) }
-        ensures below { IfOk result (λ after. after < product (shape_sizes self.now)) }
+        ensures below { IfOk result (λ after. after < shape_size self.now) }
         ensures out_of_range { OnErr result ((t : TypeTree) → slice_get (shape_types self.now) i ≡ Some t
             → (n : ℕ) → ¬ HasNumber t (value_tree v.now) n) }
     {

@@ -1,5 +1,7 @@
 ghost use Rattle.std.specs.Prelude.{◌≡◌, ◌≤◌, ◌<◌, ◌-ℤ◌, map, nat_le, IfOk, if◌then◌else◌};
-ghost use Rattle.kf_value.specs.Types.{type_tree, size_of, size_within, capped_product, in_bounds, counted, count, product, type_parts, TupleOf, HasSize};
+ghost use Rattle.kf_value.specs.Types.{in_bounds, counted, count, product, type_parts, TupleOf};
+ghost use Rattle.kf_value.specs.Sizes.{size_of, size_within, capped_product, HasSize};
+ghost use Rattle.kf_value.specs.TypeViews.{type_tree};
 
 use crate::{Ty, TyFault};
 

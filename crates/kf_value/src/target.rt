@@ -1,7 +1,8 @@
 ghost use Rattle.std.specs.Prelude.{◌≡◌, ◌≤◌, ◌<◌, ◌^◌, map, length, None, IsTrue};
 ghost use Rattle.std.specs.List.{All, list_all};
-ghost use Rattle.kf_value.specs.Types.{fault_of, well_formed};
-ghost use Rattle.kf_value.specs.Targets.{item_of, target_size};
+ghost use Rattle.kf_value.specs.Sizes.{fault_of, well_formed};
+ghost use Rattle.kf_value.specs.Numbers.{target_size};
+ghost use Rattle.kf_value.specs.TypeViews.{item_of};
 
 use crate::{Mem, TargetItemList};
 use std::alloc::Global;

@@ -34,7 +34,7 @@ impl Model for TargetItemList {
 
 impl TargetItem {
     ghost use Rattle.std.specs.Prelude.{IfOk};
-    ghost use Rattle.kf_value.specs.Targets.{item_of};
+    ghost use Rattle.kf_value.specs.TypeViews.{item_of};
 
     /// An equal item.
     pub fn copy(&self, alloc: Global) -> Result<TargetItem, Mem>
@@ -50,7 +50,7 @@ impl TargetItem {
 
 impl TargetItemList {
     ghost use Rattle.std.specs.Prelude.{IfOk, map};
-    ghost use Rattle.kf_value.specs.Targets.{item_of};
+    ghost use Rattle.kf_value.specs.TypeViews.{item_of};
 
     pub fn new(items: Vec<TargetItem>) -> Self
         ensures { result ≡ items.items }

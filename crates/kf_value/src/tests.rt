@@ -1,7 +1,9 @@
 //! Worked rows, and a table of small nested types with all their values.
 
 ghost use Rattle.std.specs.Prelude.{◌≡◌, [], ◌∷◌, IfOk, IsTrue};
-ghost use Rattle.kf_value.specs.Types.{type_tree, type_parts, Boolean, Range, TupleOf, SetOf, well_formed, HasSize};
+ghost use Rattle.kf_value.specs.Types.{type_parts, Boolean, Range, TupleOf, SetOf};
+ghost use Rattle.kf_value.specs.Sizes.{well_formed, HasSize};
+ghost use Rattle.kf_value.specs.TypeViews.{type_tree};
 
 use super::*;
 use crate::sizes::known_size;

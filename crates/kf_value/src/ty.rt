@@ -1,5 +1,5 @@
 ghost use Rattle.std.specs.Prelude.{◌≡◌, IfOk};
-ghost use Rattle.kf_value.specs.Types.{type_tree};
+ghost use Rattle.kf_value.specs.TypeViews.{type_tree};
 ghost use Rattle.kf_value.specs.Views.{type_items, type_trees};
 
 use crate::Mem;

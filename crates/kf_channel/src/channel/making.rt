@@ -2,8 +2,8 @@ ghost use Rattle.std.specs.Prelude.{◌≡◌, ◌↔◌, IfOk, Err, false};
 ghost use Rattle.std.specs.List.{list_all};
 ghost use Rattle.kf_value.specs.Views.{items_of};
 ghost use Rattle.kf_hyper.specs.Views.{rows_of as table_rows};
-ghost use Rattle.kf_channel.specs.Channels.{AreSecrets};
-ghost use Rattle.kf_channel.specs.Views.{target_of, secrets_of, rows_of, all_initial};
+ghost use Rattle.kf_channel.specs.Channels.{AreSecrets, all_initial};
+ghost use Rattle.kf_channel.specs.Views.{target_of, secrets_of, rows_of};
 
 use super::Channel;
 use crate::ChannelError;

@@ -2,13 +2,12 @@ ghost use Rattle.std.specs.Prelude.{◌≡◌, ◌<◌, ℤ, ◌≤ℤ◌, lengt
 ghost use Rattle.std.specs.List.Sorted.{IsStrictlyIncreasing};
 ghost use Rattle.kf_frac.specs.Fractions.{reduced_num, reduced_den};
 ghost use Rattle.kf_frac.specs.Views.{num_of, den_of};
-ghost use Rattle.kf_value.specs.Targets.{target_size};
+ghost use Rattle.kf_value.specs.Numbers.{target_size};
 ghost use Rattle.kf_value.specs.Views.{items_of, value_trees};
 ghost use Rattle.kf_channel.specs.Views.{target_of, secrets_of, rows_of, row_at, cell_at};
 
 use super::Channel;
-use kf_frac::Frac;
-use kf_hyper::share;
+use kf_frac::{Frac, share};
 use kf_value::{Target, ValueList};
 
 impl Channel {

@@ -1,16 +1,16 @@
 ghost use Rattle.std.specs.Prelude.{◌≡◌, ◌≤◌, ◌<◌, ◌^◌, All, IfOk, length, map};
-ghost use Rattle.kf_value.specs.Targets.{target_size};
+ghost use Rattle.kf_value.specs.Numbers.{target_size};
 ghost use Rattle.kf_value.specs.Views.{items_of};
-ghost use Rattle.kf_hyper.specs.Columns.{IsColumn, IsBelow, total};
+ghost use Rattle.kf_hyper.specs.Columns.{IsColumn, total};
+ghost use Rattle.kf_hyper.specs.Shapes.{IsBelow, inner_of, as_inner};
 ghost use Rattle.kf_hyper.specs.Joint.{mass};
 ghost use Rattle.kf_hyper.specs.Hypers.{IsHyper};
 ghost use Rattle.kf_hyper.specs.Classes.{keyed};
-ghost use Rattle.kf_hyper.specs.Shapes.{inner_of, shown};
 ghost use Rattle.kf_hyper.specs.Views.{inners_of, scale_of, target_of};
 
 use super::Hyper;
 use crate::class::Class;
-use crate::classes::{classes_of, total_of};
+use crate::classes::classes_of;
 use crate::{Column, Columns, Entry, EntryList};
 use kf_value::{Mem, Target};
 use std::alloc::Global;
@@ -20,12 +20,12 @@ use std::collections::BTreeMap;
 fn listed(alloc: Global, classes: BTreeMap<Vec<Entry>, u128>) -> Result<Vec<Class>, Mem>
     requires columns { All (λ c. IsColumn c.0) (keyed classes.entries) }
     requires fit { All (λ c. total c.0 < 2 ^ 128) (keyed classes.entries) }
-    ensures { IfOk result (λ listed. map inner_of listed.items ≡ map shown (keyed classes.entries)) }
+    ensures { IfOk result (λ listed. map inner_of listed.items ≡ map as_inner (keyed classes.entries)) }
 {
     let mut list = Vec::new(alloc);
     for (entries, total) in classes {
         let inner = Column::new(EntryList::new(entries));
-        let whole = total_of(&inner);
+        let whole = inner.total();
         list.push(Class {
             inner,
             whole,

@@ -1,7 +1,10 @@
 ghost use Rattle.std.specs.Prelude.{◌≡◌, ◌≤◌, ◌<◌, ◌*◌, ◌+◌, ◌^◌, ◌-◌, ℕ, All, IfOk, length, map, sum_by};
+ghost use Rattle.kf_value.specs.Numbers.{target_size};
 ghost use Rattle.kf_hyper.specs.Columns.{weight_at, total};
-ghost use Rattle.kf_hyper.specs.Sums.{joint_weight, average_weight, summed, ArePositive};
-ghost use Rattle.kf_hyper.specs.Views.{inners_of, inner_at};
+ghost use Rattle.kf_hyper.specs.Sums.{summed, ArePositive};
+ghost use Rattle.kf_hyper.specs.Averages.{joint_weight, average_weight};
+ghost use Rattle.kf_hyper.specs.Shapes.{IsBelow};
+ghost use Rattle.kf_hyper.specs.Views.{inners_of, inner_at, scale_of, target_of};
 
 use super::Hyper;
 use crate::Column;
@@ -24,7 +27,9 @@ impl Hyper {
 
     /// The sum of all joint columns: the weights that the values have before anything is known, over the scale.
     pub fn average(&self, alloc: Global) -> Result<Column, Mem>
-        ensures { IfOk result (λ column. (x : ℕ) → weight_at column x ≡ average_weight (inners_of self.now) x) }
+        ensures weights { IfOk result (λ column. (x : ℕ) → weight_at column x ≡ average_weight (inners_of self.now) x) }
+        ensures total { IfOk result (λ column. total column ≡ scale_of self.now) }
+        ensures below { IfOk result (IsBelow (target_size (target_of self.now))) }
     {
         let mut sums = BTreeMap::new(alloc);
         for class in &self.classes {

@@ -1,14 +1,15 @@
 ghost use Rattle.std.specs.Prelude.{◌≡◌, ◌<◌, length, pos, List};
 ghost use Rattle.kf_frac.specs.Fractions.{reduced_num, reduced_den};
 ghost use Rattle.kf_frac.specs.Views.{num_of, den_of};
-ghost use Rattle.kf_value.specs.Targets.{target_size};
+ghost use Rattle.kf_value.specs.Numbers.{target_size};
 ghost use Rattle.kf_value.specs.Views.{items_of};
-ghost use Rattle.kf_hyper.specs.Columns.{IsBelow, total, entry_at};
-ghost use Rattle.kf_hyper.specs.Views.{inners_of, inner_at, scale_of, target_of};
+ghost use Rattle.kf_hyper.specs.Columns.{total};
+ghost use Rattle.kf_hyper.specs.Views.{entry_at, inners_of, inner_at, scale_of, target_of};
+ghost use Rattle.kf_hyper.specs.Shapes.{IsBelow, IsShape};
 
 use super::Hyper;
-use crate::{Column, share};
-use kf_frac::Frac;
+use crate::Column;
+use kf_frac::{Frac, share};
 use kf_value::Target;
 
 impl Hyper {
@@ -21,7 +22,8 @@ impl Hyper {
 
     /// What a total is divided by to give an outer.
     pub fn scale(&self) -> u128
-        ensures { result ≡ scale_of self.now }
+        ensures kept { result ≡ scale_of self.now }
+        ensures shape { IsShape (target_size (target_of self.now)) (scale_of self.now) (inners_of self.now) }
     {
         self.scale
     }

@@ -1,3 +1,5 @@
+ghost use Rattle.std.specs.Prelude.{◌<◌};
+
 use crate::tests::*;
 
 const PARITY_TEXT: &str = "var x : 0..3 := uniform 0..3;\nobserve x mod 2;\n";
@@ -14,41 +16,58 @@ const USAGE: End<'static> = End {
     err: "kuifje: usage: kuifje COMMAND [FILES] [--gain G] [--turns N] [--json]\n",
 };
 
+// A run over a sink with this room, where these writes fail, leaves this there.
+fn a_write_fails(
+    rt: &(impl Abort + AllocGlobal),
+    room: usize,
+    fail: &[u64],
+    out: &str,
+) -> Result<(), Fail> {
+    let alloc = rt.alloc();
+    let mut files = text_files(alloc, PARITY_TEXT, 65536, &[])?;
+    let sink = MemSink::new(alloc, room, 16, calls(alloc, fail)?)?;
+    let want = End {
+        status: 4,
+        out,
+        err: "kuifje: write failed\n",
+    };
+    ends_over(rt, HYPER, &mut files, sink, ample(alloc)?, want)
+}
+
 #[test]
 fn a_sink_that_fails(rt: HostRuntime) -> Result<(), Fail> {
-    let alloc = rt.alloc();
     for (room, fail, out) in [
         (1000, [1].as_slice(), "target x\nscale 4"),
         (1000, [0].as_slice(), ""),
         (20, [].as_slice(), "target x\nscale 4\ninn"),
         (0, [].as_slice(), ""),
     ] {
-        let mut files = text_files(alloc, PARITY_TEXT, 65536, &[])?;
-        let sink = MemSink::new(alloc, room, 16, calls(alloc, fail)?)?;
-        let want = End {
-            status: 4,
-            out,
-            err: "kuifje: write failed\n",
-        };
-        ends_over(&rt, HYPER, &mut files, sink, ample(alloc)?, want)?;
+        a_write_fails(&rt, room, fail, out)?;
     }
     Ok(())
 }
 
+// A run over a text in pieces of this length ends so, where these reads fail.
+fn a_read_fails(rt: &(impl Abort + AllocGlobal), piece: usize, fail: &[u64]) -> Result<(), Fail>
+    requires { 0 < piece }
+{
+    let mut files = text_files(rt.alloc(), PARITY_TEXT, piece, fail)?;
+    ends(rt, HYPER, &mut files, READ_FAILED)
+}
+
+// And so does one over no file.
+fn no_file(rt: &(impl Abort + AllocGlobal)) -> Result<(), Fail> {
+    let alloc = rt.alloc();
+    let none = FileList::new(Vec::new(alloc));
+    let mut files = MemFiles::new(alloc, none, 10, calls(alloc, &[])?)?;
+    ends(rt, HYPER, &mut files, READ_FAILED)
+}
+
 #[test]
 fn reads_that_fail(rt: HostRuntime) -> Result<(), Fail> {
-    let alloc = rt.alloc();
-    let mut first = text_files(alloc, PARITY_TEXT, 65536, &[0])?;
-    ends(&rt, HYPER, &mut first, READ_FAILED)?;
-    let mut second = text_files(alloc, PARITY_TEXT, 10, &[1])?;
-    ends(&rt, HYPER, &mut second, READ_FAILED)?;
-    let mut missing = MemFiles::new(
-        alloc,
-        FileList::new(Vec::new(alloc)),
-        10,
-        calls(alloc, &[])?,
-    )?;
-    ends(&rt, HYPER, &mut missing, READ_FAILED)
+    a_read_fails(&rt, 65536, &[0])?;
+    a_read_fails(&rt, 10, &[1])?;
+    no_file(&rt)
 }
 
 #[test]

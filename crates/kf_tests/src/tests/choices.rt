@@ -1,5 +1,5 @@
 // Distributions, each with what it chooses, or with its fault; all worked out by hand.
-use crate::tests::values::{first_observed, has_a_store};
+use crate::tests::values::{first_observed, has_a_store, observing};
 use crate::tests::*;
 use itoa::Buffer;
 use kf_eval::{Choice, ChoiceError, choices};
@@ -7,13 +7,7 @@ use kf_value::print_value;
 
 // What the distribution chooses where `x` is 0, or its fault.
 fn choices_of(alloc: Global, dist: &str) -> Result<Result<Choice, ChoiceError>, Fail> {
-    let mut text = String::from_str(alloc, "var x : 0..0 := 0;\nobserve ")?;
-    text.push_str(dist)?;
-    text.push_str(";\n")?;
-    if text.len() > 1000 {
-        return Err(Fail::new("the text is too long"));
-    }
-    let program = program_of(alloc, text.as_str())?;
+    let program = observing(alloc, dist)?;
     if !has_a_store(&program.shape) {
         return Err(Fail::new("there is no store"));
     }
@@ -37,15 +31,26 @@ fn print_choice(alloc: Global, choice: &Choice) -> Result<Vec<u8>, Fail> {
     Ok(text)
 }
 
+// The name of a fault; none of want of memory, which is none of the distribution.
+fn fault_name(error: ChoiceError) -> Option<&'static str> {
+    match error {
+        ChoiceError::DivZero => Some("DivZero"),
+        ChoiceError::ArithWide => Some("ArithWide"),
+        ChoiceError::NoWeight => Some("NoWeight"),
+        ChoiceError::NegativeWeight => Some("NegativeWeight"),
+        ChoiceError::RangeLong => Some("RangeLong"),
+        ChoiceError::Mem => None,
+    }
+}
+
+// What is chosen, or the fault's name.
 fn shown(alloc: Global, choice: Result<Choice, ChoiceError>) -> Result<Vec<u8>, Fail> {
     match choice {
         Ok(choice) => print_choice(alloc, &choice),
-        Err(ChoiceError::DivZero) => Ok(b"DivZero".to_vec(alloc)?),
-        Err(ChoiceError::ArithWide) => Ok(b"ArithWide".to_vec(alloc)?),
-        Err(ChoiceError::NoWeight) => Ok(b"NoWeight".to_vec(alloc)?),
-        Err(ChoiceError::NegativeWeight) => Ok(b"NegativeWeight".to_vec(alloc)?),
-        Err(ChoiceError::RangeLong) => Ok(b"RangeLong".to_vec(alloc)?),
-        Err(ChoiceError::Mem) => Err(Fail::new("want of memory")),
+        Err(error) => match fault_name(error) {
+            Some(name) => Ok(name.as_bytes().to_vec(alloc)?),
+            None => Err(Fail::new("want of memory")),
+        },
     }
 }
 

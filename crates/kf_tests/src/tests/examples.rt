@@ -138,6 +138,90 @@ inner 3 outer 1/4
   3 1
 ";
 
+const NOISY: &str = "var x : 0..1 := uniform 0..1;
+about old x;
+observe choose { x : 3, 1 - x : 1 };
+";
+
+const NOISY_HYPER: &str = "target old x
+scale 8
+inners 2
+inner 0 outer 1/2
+  0 1/4
+  1 3/4
+inner 1 outer 1/2
+  0 3/4
+  1 1/4
+";
+
+const GUARD: &str = "# No line shows anything, but whoever watches sees which branch is taken.
+var h : 0..3 := uniform 0..3;
+var y : 0..1 := 0;
+about old h;
+if h = 2 { y := 1; } else { y := 0; }
+";
+
+const GUARD_HYPER: &str = "target old h
+scale 4
+inners 2
+inner 0 outer 3/4
+  0 1/3
+  1 1/3
+  3 1/3
+inner 1 outer 1/4
+  2 1
+";
+
+const COND: &str = "# The same values in h and y, but no guard: nothing is seen.
+var h : 0..3 := uniform 0..3;
+var y : 0..1 := 0;
+about old h;
+y := cond(h = 2, 1, 0);
+";
+
+const COND_HYPER: &str = "target old h
+scale 4
+inners 1
+inner 0 outer 1
+  0 1/4
+  1 1/4
+  2 1/4
+  3 1/4
+";
+
+const ERASED: &str = "# A secret is shown and erased. Asked what `pin` is now, one knows: 0.
+var pin : 0..3 := uniform 0..3;
+observe pin;
+pin := 0;
+";
+
+const ERASED_HYPER: &str = "target pin
+scale 4
+inners 1
+inner 0 outer 1
+  0 1
+";
+
+const ERASED_OLD: &str = "# The same, asked what `pin` was: one knows that, too.
+var pin : 0..3 := uniform 0..3;
+about old pin;
+observe pin;
+pin := 0;
+";
+
+const ERASED_OLD_HYPER: &str = "target old pin
+scale 4
+inners 4
+inner 0 outer 1/4
+  0 1
+inner 1 outer 1/4
+  1 1
+inner 2 outer 1/4
+  2 1
+inner 3 outer 1/4
+  3 1
+";
+
 #[test]
 fn examples(rt: HostRuntime) -> Result<(), Fail> {
     for (text, out) in [
@@ -147,6 +231,11 @@ fn examples(rt: HostRuntime) -> Result<(), Fail> {
         (DINNER, DINNER_HYPER),
         (TWICE, TWICE_HYPER),
         (COUNTDOWN, COUNTDOWN_HYPER),
+        (NOISY, NOISY_HYPER),
+        (GUARD, GUARD_HYPER),
+        (COND, COND_HYPER),
+        (ERASED, ERASED_HYPER),
+        (ERASED_OLD, ERASED_OLD_HYPER),
     ] {
         ends_over_text(&rt, HYPER, text, End::answer(out))?;
     }

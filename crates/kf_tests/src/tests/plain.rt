@@ -2,23 +2,21 @@
 ghost use Rattle.std.specs.Prelude.{◌≡◌, ◌<◌, length, map, true, IfOk, IfSome};
 ghost use Rattle.std.specs.List.{All};
 ghost use Rattle.kf_value.specs.Kinds.{KindTree, TruthKind};
-ghost use Rattle.kf_value.specs.Shapes.{shape_sizes, shape_types};
+ghost use Rattle.kf_value.specs.Shapes.{shape_size, shape_types};
 ghost use Rattle.kf_value.specs.Types.{product};
-ghost use Rattle.kf_value.specs.Values.{IsWellFormed};
+ghost use Rattle.kf_value.specs.Forms.{IsWellFormed};
 ghost use Rattle.kf_value.specs.Views.{value_tree};
 ghost use Rattle.kf_core.specs.Checked.{AreSound, DistKinded, IsChecked, IsSound};
-ghost use Rattle.kf_core.specs.Dxs.{dx_tree};
-ghost use Rattle.kf_core.specs.Programs.{program_tree};
-ghost use Rattle.kf_core.specs.Sts.{st_tree};
+ghost use Rattle.kf_core.specs.Views.{dx_tree, st_tree, program_tree};
 ghost use Rattle.kf_eval.specs.Choices.{weighted_trees};
 ghost use Rattle.kf_eval.specs.Kinds.{shape_kinds};
 
 use crate::tests::*;
 use kf_core::{Dx, DxNode, Ex, Program, St};
-use kf_eval::{Choice, ChoiceError, Weighted, choices, is_true};
+use kf_eval::{Choice, ChoiceError, Weighted, choices};
 use kf_frac::lcm;
 use kf_support::{Cleared, Halt, clear};
-use kf_value::{Shape, Value, print_value};
+use kf_value::{Shape, Value, is_true, print_value};
 
 // Where a way is, by which scale and with which weight it came there, and the text of what it leaked.
 #[derive(Drop)]
@@ -64,7 +62,7 @@ pub(super) fn variables_of(shape: &Shape) -> usize
 
 // The number of stores.
 fn stores_of(shape: &Shape) -> Option<u64>
-    ensures { IfSome result (λ n. n ≡ product (shape_sizes shape.now)) }
+    ensures { IfSome result (λ n. n ≡ shape_size shape.now) }
 {
     let mut stores: u64 = 1;
     for i in 0..variables_of(shape) {
@@ -75,7 +73,7 @@ fn stores_of(shape: &Shape) -> Option<u64>
 
 // Whether it is the number of a store.
 pub(super) fn is_store(shape: &Shape, store: u64) -> bool
-    ensures { result ≡ true → store < product (shape_sizes shape.now) }
+    ensures { result ≡ true → store < shape_size shape.now }
 {
     match stores_of(shape) {
         Some(stores) => store < stores,
@@ -359,18 +357,29 @@ fn value_of(shape: &Shape, slot: u8) -> Result<Dx, Fail>
     })
 }
 
-// The ways with the carried copies set, each by an assignment.
+// The ways with one carried copy set, by an assignment.
+fn copied_one(
+    alloc: Global,
+    shape: &Shape,
+    slot: u8,
+    copy: usize,
+    from: &Found,
+) -> Result<Found, Fail> {
+    let value = value_of(shape, slot)?;
+    let mut next = nothing(alloc);
+    next.stops = from.stops;
+    for way in from.ends.as_slice() {
+        assigned(alloc, shape, copy, &value, way, &mut next)?;
+    }
+    Ok(next)
+}
+
+// The ways with all carried copies set, one by one.
 fn copied(alloc: Global, program: &Program, from: Found) -> Result<Found, Fail> {
     let declared = program.decls.as_slice().len();
     let mut found = from;
     for (j, slot) in program.copies.as_slice().iter().enumerate() {
-        let value = value_of(&program.shape, *slot)?;
-        let mut next = nothing(alloc);
-        next.stops = found.stops;
-        for way in found.ends.as_slice() {
-            assigned(alloc, &program.shape, declared + j, &value, way, &mut next)?;
-        }
-        found = next;
+        found = copied_one(alloc, &program.shape, *slot, declared + j, &found)?;
     }
     Ok(found)
 }
@@ -680,12 +689,23 @@ fn by_hand() -> [(u32, &'static str, u128); 9] {
     ]
 }
 
+// A text is cleared with this scale.
+fn has_scale(
+    rt: &(impl Abort + AllocGlobal),
+    turns: u32,
+    text: &str,
+    want: u128,
+) -> Result<(), Fail> {
+    let program = short_program(rt.alloc(), text)?;
+    let scale = cleared_scale(rt.alloc(), program, turns)?;
+    assert_eq!(rt; scale, Some(want), "{text} {turns}");
+    Ok(())
+}
+
 #[test]
 fn scales_worked_out_by_hand(rt: HostRuntime) -> Result<(), Fail> {
     for (turns, text, want) in by_hand() {
-        let program = short_program(rt.alloc(), text)?;
-        let scale = cleared_scale(rt.alloc(), program, turns)?;
-        assert_eq!(rt; scale, Some(want), "{text} {turns}");
+        has_scale(&rt, turns, text, want)?;
     }
     Ok(())
 }

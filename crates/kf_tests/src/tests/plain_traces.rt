@@ -1,6 +1,6 @@
 // The traces that the plain program finds, and those of the table beside them.
 ghost use Rattle.kf_core.specs.Checked.{IsChecked};
-ghost use Rattle.kf_core.specs.Programs.{program_tree};
+ghost use Rattle.kf_core.specs.Views.{program_tree};
 
 use crate::tests::plain::{
     Way, branches, cleared_program, distributions, is_store, leak, loops, short_program,

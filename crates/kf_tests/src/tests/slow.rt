@@ -41,17 +41,29 @@ fn groups_of(
     Ok(groups)
 }
 
+// The first line of an inner of so many values, each of the weight 1.
+fn inner_line(alloc: Global, number: usize, count: usize, scale: usize) -> Result<String, Fail> {
+    let outer = fraction(alloc, count, scale)?;
+    Ok(format!(in alloc; "inner {number} outer {outer}\n")?)
+}
+
+// The lines of its values.
+fn value_lines(alloc: Global, group: &[usize]) -> Result<String, Fail> {
+    let each = fraction(alloc, 1, group.len())?;
+    let mut text = String::new(alloc);
+    for value in group {
+        text.push_str(&format!(in alloc; "  {value} {each}\n")?)?;
+    }
+    Ok(text)
+}
+
 // The printed hyper with these inners, of which each value has the weight 1.
 fn text_of(alloc: Global, scale: usize, groups: &[Vec<usize>]) -> Result<String, Fail> {
     let count = groups.len();
     let mut text = format!(in alloc; "target x\nscale {scale}\ninners {count}\n")?;
     for (number, group) in groups.iter().enumerate() {
-        let outer = fraction(alloc, group.len(), scale)?;
-        text.push_str(&format!(in alloc; "inner {number} outer {outer}\n")?)?;
-        let each = fraction(alloc, 1, group.len())?;
-        for value in group {
-            text.push_str(&format!(in alloc; "  {value} {each}\n")?)?;
-        }
+        text.push_str(&inner_line(alloc, number, group.len(), scale)?)?;
+        text.push_str(&value_lines(alloc, group)?)?;
     }
     Ok(text)
 }

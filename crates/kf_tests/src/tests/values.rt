@@ -1,15 +1,14 @@
 // Expressions, each with what its value prints as, or with its fault; all worked out by hand.
-ghost use Rattle.std.specs.Prelude.{◌≡◌, ◌<◌, true, IfSome};
-ghost use Rattle.kf_value.specs.Types.{product};
-ghost use Rattle.kf_value.specs.Shapes.{shape_sizes};
-ghost use Rattle.kf_core.specs.Exs.{ex_tree};
-ghost use Rattle.kf_core.specs.Dxs.{dx_tree, dx_at, Sure};
-ghost use Rattle.kf_core.specs.Sts.{st_tree, Observe};
-ghost use Rattle.kf_core.specs.Programs.{program_tree};
+ghost use Rattle.std.specs.Prelude.{◌≡◌, ◌<◌, true, IfOk, IfSome};
+ghost use Rattle.kf_value.specs.Shapes.{shape_size};
+ghost use Rattle.kf_core.specs.Views.{ex_tree, dx_tree, st_tree, program_tree};
+ghost use Rattle.kf_core.specs.Dxs.{dx_at, Sure};
+ghost use Rattle.kf_core.specs.Sts.{Observe};
 ghost use Rattle.kf_core.specs.Checked.{DistKinded, IsChecked};
 ghost use Rattle.kf_value.specs.Kinds.{KindTree};
 ghost use Rattle.kf_eval.specs.Kinds.{shape_kinds, IsKinded};
 
+use crate::tests::plain::short_program;
 use crate::tests::*;
 use kf_core::{Dx, DxNode, Ex, Program, St};
 use kf_eval::{EvalError, eval};
@@ -56,20 +55,24 @@ fn observed(program: &Program) -> Option<&Ex>
 
 // Whether it is the shape of one variable that has a value.
 pub(super) fn has_a_store(shape: &Shape) -> bool
-    ensures { result ≡ true → 0 < product (shape_sizes shape.now) }
+    ensures { result ≡ true → 0 < shape_size shape.now }
 {
     shape.types().as_slice().len() == 1 && shape.size(0) > 0
 }
 
+// The program that observes this where `x` is 0.
+pub(super) fn observing(alloc: Global, what: &str) -> Result<Program, Fail>
+    ensures { IfOk result (λ p. IsChecked (program_tree p)) }
+{
+    let mut text = String::from_str(alloc, "var x : 0..0 := 0;\nobserve ")?;
+    text.push_str(what)?;
+    text.push_str(";\n")?;
+    short_program(alloc, text.as_str())
+}
+
 // The value of the expression where `x` is 0, or its fault.
 fn value_of(alloc: Global, expression: &str) -> Result<Result<Value, EvalError>, Fail> {
-    let mut text = String::from_str(alloc, "var x : 0..0 := 0;\nobserve ")?;
-    text.push_str(expression)?;
-    text.push_str(";\n")?;
-    if text.len() > 1000 {
-        return Err(Fail::new("the text is too long"));
-    }
-    let program = program_of(alloc, text.as_str())?;
+    let program = observing(alloc, expression)?;
     if !has_a_store(&program.shape) {
         return Err(Fail::new("there is no store"));
     }

@@ -1,6 +1,6 @@
 ghost use Rattle.std.specs.Prelude.{◌≡◌, ◌<◌, ◌++◌, IfOk, OnOk, flat_map, length};
-ghost use Rattle.kf_hyper.specs.Columns.{entry_at, total};
-ghost use Rattle.kf_hyper.specs.Views.{inner_at, inners_of, scale_of, target_of};
+ghost use Rattle.kf_hyper.specs.Columns.{total};
+ghost use Rattle.kf_hyper.specs.Views.{entry_at, inner_at, inners_of, scale_of, target_of};
 ghost use Rattle.kf_top.specs.Texts.{head_lines, entry_line, inner_lines, hyper_text as text_of_hyper};
 
 use super::items::print_about;

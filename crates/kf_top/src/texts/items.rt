@@ -1,6 +1,7 @@
 // What the texts share: lines about targets, and traces.
 ghost use Rattle.std.specs.Prelude.{◌≡◌, ◌++◌, ◌∷◌, [], OnOk, map};
-ghost use Rattle.kf_value.specs.Targets.{item_of, target_text};
+ghost use Rattle.kf_value.specs.Targets.{target_text};
+ghost use Rattle.kf_value.specs.TypeViews.{item_of};
 ghost use Rattle.kf_value.specs.Texts.{text, separated};
 ghost use Rattle.kf_value.specs.Views.{items_of, value_tree};
 ghost use Rattle.kf_top.specs.Texts.{target_line, bracketed};

@@ -1,24 +1,18 @@
 ghost use Rattle.std.specs.Prelude.{◌≡◌, ◌≤◌, ◌<◌, ◌++◌, IfOk, OnOk, flat_map, length};
 ghost use Rattle.kf_frac.specs.Fractions.{limit};
-ghost use Rattle.kf_value.specs.Targets.{target_size};
+ghost use Rattle.kf_value.specs.Numbers.{target_size};
 ghost use Rattle.kf_value.specs.Views.{items_of};
-ghost use Rattle.kf_hyper.specs.Columns.{IsBelow, total};
-ghost use Rattle.kf_hyper.specs.Traces.{row_of};
+ghost use Rattle.kf_hyper.specs.Columns.{total};
+ghost use Rattle.kf_hyper.specs.Shapes.{IsBelow};
+ghost use Rattle.kf_hyper.specs.Tables.{table_row};
 ghost use Rattle.kf_hyper.specs.Views.{rows_of};
 ghost use Rattle.kf_top.specs.Texts.{entry_line, row_lines, table_lines, trace_text as text_of_table};
 
 use super::items::{print_about, print_trace};
-use kf_hyper::{Entry, TraceRow, TraceTable, share};
+use kf_frac::share;
+use kf_hyper::{Entry, TraceRow, TraceTable};
 use kf_value::{Mem, Target, print_target};
 use std::alloc::Global;
-
-// The sum of all weights.
-fn total_of(entries: &[Entry]) -> u128
-    requires { total entries.now ≤ limit }
-    ensures { result ≡ total entries.now }
-{
-    entries.iter().map(|entry| entry.weight).sum()
-}
 
 // Appends the lines before the traces.
 fn print_head(alloc: Global, table: &TraceTable, out: &mut Vec<u8>) -> Result<(), Mem>
@@ -86,10 +80,10 @@ fn print_row(
     requires parts { total row.now.column ≤ scale }
     requires some { 0 < scale }
     requires narrow { scale ≤ limit }
-    ensures { OnOk result (out.new.items ≡ out.old.items ++ row_lines (items_of target.now) scale (row_of row.now)) }
+    ensures { OnOk result (out.new.items ≡ out.old.items ++ row_lines (items_of target.now) scale (table_row row.now)) }
 {
     let entries = row.column.entries().as_slice();
-    let weight = share(total_of(entries), scale);
+    let weight = share(row.column.total(), scale);
     out.extend_from_slice(b"trace ")?;
     print_trace(alloc, row.trace.as_slice(), out)?;
     let text = format!(in alloc; " weight {weight}\n")?;

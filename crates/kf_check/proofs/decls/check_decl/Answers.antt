@@ -1,21 +1,20 @@
-use Rattle.std.proofs.Common.{◌≡◌, map, length, sym, ◌∙◌, arith}
+use Rattle.std.proofs.Common.{◌≡◌, map, length, sym, ◌∙◌}
 use Rattle.std.proofs.lemmas.List.{length-map}
-use Rattle.kf_value.specs.Types.{type_tree}
+use Rattle.kf_value.specs.TypeViews.{type_tree}
 use Rattle.kf_value.specs.Views.{kind_tree}
-use Rattle.kf_ast.specs.TypeForms.{type_form}
-use Rattle.kf_ast.specs.Dists.{dist_tree}
-use Rattle.kf_core.specs.Dxs.{dx_tree}
+use Rattle.kf_ast.specs.Views.{type_form, dist_tree}
+use Rattle.kf_core.specs.Views.{dx_tree}
 use Rattle.kf_check.specs.Views.{known_in}
 use Rattle.kf_check.specs.Variables.{variable_of}
 use Rattle.kf_check.proofs.Left.{passed}
-use Rattle.kf_check.proofs.Sized.{sized_within}
+use Rattle.kf_check.proofs.Sized.{sized}
 use Rattle.kf_check.proofs.DeclTurns as turn
 use Rattle.kf_check.proofs.decls.check_decl.Goals as goal
 
 pub returns-in-Some-clause-answer : goal.returns-in-Some-clause-answer
 returns-in-Some-clause-answer c other =
     turn.twice (map variable_of c.args.variables.now) (known_in c.args.names.now) c.requires.known c.args.decl.now.name.text c.args.decl.now.name.at (type_form c.args.decl.now.ty) (dist_tree c.args.decl.now.dist)
-    c.as_str.result.now _ _ c.as_str.ensures c.in-Some.ensures
+    c.as_str.result.now _ _ c.as_str.ensures c.in-Some.ensures.0
 
 pub returns-in_err-ty-clause-answer : goal.returns-in_err-ty-clause-answer
 returns-in_err-ty-clause-answer c =
@@ -24,7 +23,7 @@ returns-in_err-ty-clause-answer c =
     c.as_str.result.now c.as_str.ensures c.in_default.ensures c.in_err-ty.field-0.0 c.in_err-ty.ensures)
 
 pub grow-requires : goal.grow-requires
-grow-requires c = sized_within (omega arith) c.in_ok-ty.ensures
+grow-requires c = sized (type_form c.args.decl.now.ty) (type_tree c.in_ok-ty.ty) c.in_ok-ty.ensures
 
 pub returns-in_err-stores-clause-answer : goal.returns-in_err-stores-clause-answer
 returns-in_err-stores-clause-answer c =

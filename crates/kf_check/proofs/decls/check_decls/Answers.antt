@@ -1,7 +1,7 @@
 use Rattle.std.proofs.Common.{◌+◌, map, drop, arith}
 use Rattle.kf_value.specs.Views.{kind_tree}
-use Rattle.kf_ast.specs.Sources.{decl_tree}
-use Rattle.kf_core.specs.Dxs.{dx_tree}
+use Rattle.kf_ast.specs.Views.{decl_tree}
+use Rattle.kf_core.specs.Views.{dx_tree}
 use Rattle.kf_check.specs.Views.{known_in}
 use Rattle.kf_check.specs.Variables.{variable_of}
 use Rattle.kf_check.proofs.Left.{left_step, left_end, passed}

@@ -1,12 +1,12 @@
 use Rattle.std.proofs.Common.{Ok, map, get_or, ap, ◌∙◌, refl, subst, arith}
 use Rattle.kf_value.specs.declared.kind.Kind.{Kind}
 use Rattle.kf_value.specs.Views.{kind_tree}
-use Rattle.kf_ast.specs.Exprs.{expr_tree}
-use Rattle.kf_ast.specs.Dists.{case_tree, dist_at, Choose}
-use Rattle.kf_core.specs.Dxs.{dx_at, dx_tree, dx_case_tree}
+use Rattle.kf_ast.specs.Views.{expr_tree, case_tree}
+use Rattle.kf_ast.specs.Dists.{dist_at, Choose}
+use Rattle.kf_core.specs.Dxs.{dx_at}
+use Rattle.kf_core.specs.Views.{dx_tree, dx_case_tree}
 use Rattle.kf_core.specs.Dxs as dx
 use Rattle.kf_check.specs.Kinds.{Judges}
-use Rattle.kf_check.specs.Translation as becomes
 use Rattle.kf_check.specs.Views.{known_in}
 use Rattle.kf_check.proofs.Each.{each_start, each_turn, each_end}
 use Rattle.kf_check.proofs.DistRules.{fails_dist, IsCase, cases_judged, cases_become, cases_broken, choose_judged, choose_broken, case_built, made}
@@ -53,4 +53,4 @@ returns c =
     (ap kind_tree c.new-2.ensures.kind) (ap dx_tree c.new-2.ensures.dx ∙ ap (λ ts. dx_at c.args.at (dx.Choose (map dx_case_tree ts))) c.new.ensures)
     (choose_judged (known_in c.args.known.now) c.args.at c.args.cases.now c.index-cases-0.result _ _ c.requires.some (subst P c.loop-case.invariant.same c.in_ok-kind.ensures.0)
     (cases_judged (known_in c.args.known.now) _ all))
-    (becomes.choose c.args.at (cases_become (known_in c.args.known.now) _ all))
+    (ap (λ ds. dx_at c.args.at (dx.Choose ds)) (cases_become (known_in c.args.known.now) _ all))

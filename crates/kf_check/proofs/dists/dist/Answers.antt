@@ -1,9 +1,9 @@
 use Rattle.std.proofs.Common.{Err, inl, inr, sym, ap, ◌∙◌, subst, arith}
 use Rattle.kf_value.specs.Kinds.{TruthKind}
 use Rattle.kf_value.specs.Views.{kind_tree}
-use Rattle.kf_ast.specs.Dists.{dist_tree}
-use Rattle.kf_core.specs.Exs.{ex_tree}
-use Rattle.kf_core.specs.Dxs.{dx_at, dx_tree}
+use Rattle.kf_ast.specs.Views.{dist_tree}
+use Rattle.kf_core.specs.Views.{ex_tree, dx_tree}
+use Rattle.kf_core.specs.Dxs.{dx_at}
 use Rattle.kf_core.specs.Dxs as dx
 use Rattle.kf_check.specs.declared.errors.TypeError.{TypeError}
 use Rattle.kf_check.specs.Kinds.{JudgesDist}

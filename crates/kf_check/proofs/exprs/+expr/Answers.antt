@@ -1,16 +1,14 @@
-use Rattle.std.proofs.Common.{Err, map, sym, ap, ◌∙◌, subst, arith, rules, FitsSigned}
+use Rattle.std.proofs.Common.{refl, Err, map, sym, ap, ◌∙◌, subst, arith, rules, FitsSigned}
 use Rattle.std.proofs.lemmas.Int.{to_z-of_z}
 use mir.Syntax.{w64}
 use Rattle.kf_value.specs.Views.{kind_tree, kind_trees}
 use Rattle.kf_value.proofs.Trees.{value_tree-Bool, value_tree-Int}
-use Rattle.kf_ast.specs.Names.{name_tree}
+use Rattle.kf_ast.specs.Views.{name_tree, expr_tree, expr_items}
 use Rattle.kf_ast.specs.declared.expr.Expr.{the_lemmas}
-use Rattle.kf_ast.specs.Exprs.{expr_at, Name, Part, exprs, expr_tree, expr_items}
-use Rattle.kf_core.specs.Exs.{ex_tree, ex_items}
+use Rattle.kf_ast.specs.Exprs.{expr_at, Name, Part, exprs}
+use Rattle.kf_core.specs.Views.{ex_tree, ex_items}
 use Rattle.kf_check.specs.declared.errors.TypeError.{TypeError}
 use Rattle.kf_check.specs.Kinds.{Judges, JudgesAll}
-use Rattle.kf_check.specs.Kinds as rule
-use Rattle.kf_check.specs.Translation as becomes
 use Rattle.kf_check.specs.Views.{known_in}
 use Rattle.kf_check.proofs.Judging.{passed_on}
 use Rattle.kf_check.proofs.Each.{each_start, each_turn, each_end}
@@ -26,12 +24,12 @@ expr-returns-in_err-args-in-Apply t c =
 
 pub expr-result_kind-requires : goal.expr-result_kind-requires
 expr-result_kind-requires t c =
-    takes_slice c.in-Apply.row c.as_slice-in-Apply.result.now (apply_takes (known_in c.args.known.now) (expr_tree c.args.x.now) c.args.x.now.at c.in-Apply.row c.as_slice.result.now (expr_items c.in-Apply.args) (expr_tree-Apply c.args.x.now c.in-Apply.row c.in-Apply.args c.in-Apply.is) c.as_slice.ensures (map kind_tree c.as_slice-in-Apply.result.now) c.requires (reread (known_in c.args.known.now) c.in_ok-args-in-Apply.args.kinds c.as_slice-in-Apply.result.now c.as_slice-in-Apply.ensures c.in_ok-args-in-Apply.ensures.judged))
+    takes_slice c.in-Apply.row c.as_slice-in-Apply.result.now (apply_takes (known_in c.args.known.now) (expr_tree c.args.x.now) c.args.x.now.at c.in-Apply.row c.as_slice.result.now (expr_items c.in-Apply.args) (expr_tree-Apply c.args.x.now c.in-Apply.row c.in-Apply.args c.in-Apply.is) c.as_slice.ensures (map kind_tree c.as_slice-in-Apply.result.now) c.requires (reread (known_in c.args.known.now) (exprs (map expr_tree c.as_slice.result.now)) c.in_ok-args-in-Apply.args.kinds c.as_slice-in-Apply.result.now c.as_slice-in-Apply.ensures c.in_ok-args-in-Apply.ensures.judged))
 
 pub expr-returns-in_err-kind-in-Apply : goal.expr-returns-in_err-kind-in-Apply
 expr-returns-in_err-kind-in-Apply t c =
     fails (known_in c.args.known.now) (expr_tree c.args.x.now) c.from_residual-in_err-kind-in-Apply.result c.in_err-kind-in-Apply.field-0.0 c.from_residual-in_err-kind-in-Apply.ensures.1
-    (λ told. let P : TypeError → Type 0 = λ e. Judges (known_in c.args.known.now) (expr_tree c.args.x.now) (Err e) in subst P (sym (c.in_err-kind-in-Apply.ensures.err told).0) (apply_clashes (known_in c.args.known.now) (expr_tree c.args.x.now) c.args.x.now.at c.in-Apply.row c.as_slice.result.now (expr_items c.in-Apply.args) (expr_tree-Apply c.args.x.now c.in-Apply.row c.in-Apply.args c.in-Apply.is) c.as_slice.ensures (map kind_tree c.as_slice-in-Apply.result.now) c.requires (reread (known_in c.args.known.now) c.in_ok-args-in-Apply.args.kinds c.as_slice-in-Apply.result.now c.as_slice-in-Apply.ensures c.in_ok-args-in-Apply.ensures.judged) (c.in_err-kind-in-Apply.ensures.err told).1))
+    (λ told. let P : TypeError → Type 0 = λ e. Judges (known_in c.args.known.now) (expr_tree c.args.x.now) (Err e) in subst P (sym (c.in_err-kind-in-Apply.ensures.err told).0) (apply_clashes (known_in c.args.known.now) (expr_tree c.args.x.now) c.args.x.now.at c.in-Apply.row c.as_slice.result.now (expr_items c.in-Apply.args) (expr_tree-Apply c.args.x.now c.in-Apply.row c.in-Apply.args c.in-Apply.is) c.as_slice.ensures (map kind_tree c.as_slice-in-Apply.result.now) c.requires (reread (known_in c.args.known.now) (exprs (map expr_tree c.as_slice.result.now)) c.in_ok-args-in-Apply.args.kinds c.as_slice-in-Apply.result.now c.as_slice-in-Apply.ensures c.in_ok-args-in-Apply.ensures.judged) (c.in_err-kind-in-Apply.ensures.err told).1))
 
 pub expr-returns-in_err-parts-in-Tuple : goal.expr-returns-in_err-parts-in-Tuple
 expr-returns-in_err-parts-in-Tuple t c =
@@ -45,12 +43,12 @@ expr-returns-in_err-members-in-SetOf t c =
 
 pub expr-common_kind-requires : goal.expr-common_kind-requires
 expr-common_kind-requires t c =
-    some_slice c.as_slice-in-SetOf-2.result.now (set_some (known_in c.args.known.now) (expr_tree c.args.x.now) c.args.x.now.at c.as_slice-in-SetOf.result.now (expr_items c.in-SetOf.members) (expr_tree-SetOf c.args.x.now c.in-SetOf.members c.in-SetOf.is) c.as_slice-in-SetOf.ensures (map kind_tree c.as_slice-in-SetOf-2.result.now) c.requires (reread (known_in c.args.known.now) c.in_ok-members-in-SetOf.members.kinds c.as_slice-in-SetOf-2.result.now c.as_slice-in-SetOf-2.ensures c.in_ok-members-in-SetOf.ensures.judged))
+    some_slice c.as_slice-in-SetOf-2.result.now (set_some (known_in c.args.known.now) (expr_tree c.args.x.now) c.args.x.now.at c.as_slice-in-SetOf.result.now (expr_items c.in-SetOf.members) (expr_tree-SetOf c.args.x.now c.in-SetOf.members c.in-SetOf.is) c.as_slice-in-SetOf.ensures (map kind_tree c.as_slice-in-SetOf-2.result.now) c.requires (reread (known_in c.args.known.now) (exprs (map expr_tree c.as_slice-in-SetOf.result.now)) c.in_ok-members-in-SetOf.members.kinds c.as_slice-in-SetOf-2.result.now c.as_slice-in-SetOf-2.ensures c.in_ok-members-in-SetOf.ensures.judged))
 
 pub expr-returns-in_err-kind-in-SetOf : goal.expr-returns-in_err-kind-in-SetOf
 expr-returns-in_err-kind-in-SetOf t c =
     fails (known_in c.args.known.now) (expr_tree c.args.x.now) c.from_residual-in_err-kind-in-SetOf.result c.in_err-kind-in-SetOf.field-0.0 c.from_residual-in_err-kind-in-SetOf.ensures.1
-    (λ told. let P : TypeError → Type 0 = λ e. Judges (known_in c.args.known.now) (expr_tree c.args.x.now) (Err e) in subst P (sym (c.in_err-kind-in-SetOf.ensures.err told).0) (set_clashes (known_in c.args.known.now) (expr_tree c.args.x.now) c.args.x.now.at c.as_slice-in-SetOf.result.now (expr_items c.in-SetOf.members) (expr_tree-SetOf c.args.x.now c.in-SetOf.members c.in-SetOf.is) c.as_slice-in-SetOf.ensures (map kind_tree c.as_slice-in-SetOf-2.result.now) (set_some (known_in c.args.known.now) (expr_tree c.args.x.now) c.args.x.now.at c.as_slice-in-SetOf.result.now (expr_items c.in-SetOf.members) (expr_tree-SetOf c.args.x.now c.in-SetOf.members c.in-SetOf.is) c.as_slice-in-SetOf.ensures (map kind_tree c.as_slice-in-SetOf-2.result.now) c.requires (reread (known_in c.args.known.now) c.in_ok-members-in-SetOf.members.kinds c.as_slice-in-SetOf-2.result.now c.as_slice-in-SetOf-2.ensures c.in_ok-members-in-SetOf.ensures.judged)) (reread (known_in c.args.known.now) c.in_ok-members-in-SetOf.members.kinds c.as_slice-in-SetOf-2.result.now c.as_slice-in-SetOf-2.ensures c.in_ok-members-in-SetOf.ensures.judged) (c.in_err-kind-in-SetOf.ensures.err told).1))
+    (λ told. let P : TypeError → Type 0 = λ e. Judges (known_in c.args.known.now) (expr_tree c.args.x.now) (Err e) in subst P (sym (c.in_err-kind-in-SetOf.ensures.err told).0) (set_clashes (known_in c.args.known.now) (expr_tree c.args.x.now) c.args.x.now.at c.as_slice-in-SetOf.result.now (expr_items c.in-SetOf.members) (expr_tree-SetOf c.args.x.now c.in-SetOf.members c.in-SetOf.is) c.as_slice-in-SetOf.ensures (map kind_tree c.as_slice-in-SetOf-2.result.now) (set_some (known_in c.args.known.now) (expr_tree c.args.x.now) c.args.x.now.at c.as_slice-in-SetOf.result.now (expr_items c.in-SetOf.members) (expr_tree-SetOf c.args.x.now c.in-SetOf.members c.in-SetOf.is) c.as_slice-in-SetOf.ensures (map kind_tree c.as_slice-in-SetOf-2.result.now) c.requires (reread (known_in c.args.known.now) (exprs (map expr_tree c.as_slice-in-SetOf.result.now)) c.in_ok-members-in-SetOf.members.kinds c.as_slice-in-SetOf-2.result.now c.as_slice-in-SetOf-2.ensures c.in_ok-members-in-SetOf.ensures.judged)) (reread (known_in c.args.known.now) (exprs (map expr_tree c.as_slice-in-SetOf.result.now)) c.in_ok-members-in-SetOf.members.kinds c.as_slice-in-SetOf-2.result.now c.as_slice-in-SetOf-2.ensures c.in_ok-members-in-SetOf.ensures.judged) (c.in_err-kind-in-SetOf.ensures.err told).1))
 
 pub expr-returns-in_err-tuple-in-Part : goal.expr-returns-in_err-tuple-in-Part
 expr-returns-in_err-tuple-in-Part t c =
@@ -65,14 +63,14 @@ expr-returns-in_err-kind-in-Part t c =
 pub expr-returns-in-Number : goal.expr-returns-in-Number
 expr-returns-in-Number t c =
     let within : FitsSigned w64 c.from.result = search rules in (
-      rw (expr_tree-Number c.args.x.now c.in-Number.number c.in-Number.is, kind_tree-Int) (rule.number c.args.x.now.at c.in-Number.number),
-      rw (expr_tree-Number c.args.x.now c.in-Number.number c.in-Number.is, ex_tree-Const, value_tree-Int, to_z-of_z w64 c.from.result within, c.from.ensures) (becomes.number c.args.x.now.at c.in-Number.number),
+      rw (expr_tree-Number c.args.x.now c.in-Number.number c.in-Number.is, kind_tree-Int) refl,
+      rw (expr_tree-Number c.args.x.now c.in-Number.number c.in-Number.is, ex_tree-Const, value_tree-Int, to_z-of_z w64 c.from.result within, c.from.ensures) refl,
     )
 
 pub expr-returns-in-Truth : goal.expr-returns-in-Truth
 expr-returns-in-Truth t c = (
-  rw (expr_tree-Truth c.args.x.now c.in-Truth.truth c.in-Truth.is, kind_tree-Bool) (rule.truth c.args.x.now.at c.in-Truth.truth),
-  rw (expr_tree-Truth c.args.x.now c.in-Truth.truth c.in-Truth.is, ex_tree-Const, value_tree-Bool) (becomes.truth c.args.x.now.at c.in-Truth.truth),
+  rw (expr_tree-Truth c.args.x.now c.in-Truth.truth c.in-Truth.is, kind_tree-Bool) refl,
+  rw (expr_tree-Truth c.args.x.now c.in-Truth.truth c.in-Truth.is, ex_tree-Const, value_tree-Bool) refl,
 )
 
 pub expr-returns-in-Name : goal.expr-returns-in-Name
@@ -81,7 +79,7 @@ expr-returns-in-Name t c =
 
 pub expr-returns-in_ok-kind-in-Apply : goal.expr-returns-in_ok-kind-in-Apply
 expr-returns-in_ok-kind-in-Apply t c = (
-  apply_judged (known_in c.args.known.now) (expr_tree c.args.x.now) c.args.x.now.at c.in-Apply.row c.as_slice.result.now (expr_items c.in-Apply.args) (expr_tree-Apply c.args.x.now c.in-Apply.row c.in-Apply.args c.in-Apply.is) c.as_slice.ensures (map kind_tree c.as_slice-in-Apply.result.now) (kind_tree c.in_ok-kind-in-Apply.kind) (reread (known_in c.args.known.now) c.in_ok-args-in-Apply.args.kinds c.as_slice-in-Apply.result.now c.as_slice-in-Apply.ensures c.in_ok-args-in-Apply.ensures.judged) c.in_ok-kind-in-Apply.ensures.ok,
+  apply_judged (known_in c.args.known.now) (expr_tree c.args.x.now) c.args.x.now.at c.in-Apply.row c.as_slice.result.now (expr_items c.in-Apply.args) (expr_tree-Apply c.args.x.now c.in-Apply.row c.in-Apply.args c.in-Apply.is) c.as_slice.ensures (map kind_tree c.as_slice-in-Apply.result.now) (kind_tree c.in_ok-kind-in-Apply.kind) (reread (known_in c.args.known.now) (exprs (map expr_tree c.as_slice.result.now)) c.in_ok-args-in-Apply.args.kinds c.as_slice-in-Apply.result.now c.as_slice-in-Apply.ensures c.in_ok-args-in-Apply.ensures.judged) c.in_ok-kind-in-Apply.ensures.ok,
   rw (ex_tree-Apply c.in-Apply.row c.in_ok-args-in-Apply.args.exs) (apply_becomes (known_in c.args.known.now) (expr_tree c.args.x.now) c.args.x.now.at c.in-Apply.row c.as_slice.result.now (expr_items c.in-Apply.args) (expr_tree-Apply c.args.x.now c.in-Apply.row c.in-Apply.args c.in-Apply.is) c.as_slice.ensures (ex_items c.in_ok-args-in-Apply.args.exs) c.in_ok-args-in-Apply.ensures.translated),
 )
 
@@ -93,7 +91,7 @@ expr-returns-in_ok-parts-in-Tuple t c = (
 
 pub expr-returns-in_ok-new-in-SetOf : goal.expr-returns-in_ok-new-in-SetOf
 expr-returns-in_ok-new-in-SetOf t c = (
-  rw (kind_tree-Set c.in_ok-new-in-SetOf.field-0, c.in_ok-new-in-SetOf.ensures.ok) (set_judged (known_in c.args.known.now) (expr_tree c.args.x.now) c.args.x.now.at c.as_slice-in-SetOf.result.now (expr_items c.in-SetOf.members) (expr_tree-SetOf c.args.x.now c.in-SetOf.members c.in-SetOf.is) c.as_slice-in-SetOf.ensures (map kind_tree c.as_slice-in-SetOf-2.result.now) (kind_tree c.in_ok-kind-in-SetOf.kind) (reread (known_in c.args.known.now) c.in_ok-members-in-SetOf.members.kinds c.as_slice-in-SetOf-2.result.now c.as_slice-in-SetOf-2.ensures c.in_ok-members-in-SetOf.ensures.judged) c.in_ok-kind-in-SetOf.ensures.ok),
+  rw (kind_tree-Set c.in_ok-new-in-SetOf.field-0, c.in_ok-new-in-SetOf.ensures.ok) (set_judged (known_in c.args.known.now) (expr_tree c.args.x.now) c.args.x.now.at c.as_slice-in-SetOf.result.now (expr_items c.in-SetOf.members) (expr_tree-SetOf c.args.x.now c.in-SetOf.members c.in-SetOf.is) c.as_slice-in-SetOf.ensures (map kind_tree c.as_slice-in-SetOf-2.result.now) (kind_tree c.in_ok-kind-in-SetOf.kind) (reread (known_in c.args.known.now) (exprs (map expr_tree c.as_slice-in-SetOf.result.now)) c.in_ok-members-in-SetOf.members.kinds c.as_slice-in-SetOf-2.result.now c.as_slice-in-SetOf-2.ensures c.in_ok-members-in-SetOf.ensures.judged) c.in_ok-kind-in-SetOf.ensures.ok),
   rw (ex_tree-SetOf c.in_ok-members-in-SetOf.members.exs) (set_becomes (known_in c.args.known.now) (expr_tree c.args.x.now) c.args.x.now.at c.as_slice-in-SetOf.result.now (expr_items c.in-SetOf.members) (expr_tree-SetOf c.args.x.now c.in-SetOf.members c.in-SetOf.is) c.as_slice-in-SetOf.ensures (ex_items c.in_ok-members-in-SetOf.members.exs) c.in_ok-members-in-SetOf.ensures.translated),
 )
 

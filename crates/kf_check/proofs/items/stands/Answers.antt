@@ -1,5 +1,5 @@
 use Rattle.std.proofs.Common.{◌+◌, map, drop, arith}
-use Rattle.kf_ast.specs.Sources.{item_tree}
+use Rattle.kf_ast.specs.Views.{item_tree}
 use Rattle.kf_check.proofs.Left.{left_step, left_end}
 use Rattle.kf_check.proofs.Standing.{stands_here, stands_later, none_stands}
 use Rattle.kf_check.proofs.items.stands.Goals as goal

@@ -1,5 +1,5 @@
 use Rattle.std.proofs.Common.{map, drop}
-use Rattle.kf_ast.specs.Sources.{item_tree}
+use Rattle.kf_ast.specs.Views.{item_tree}
 use Rattle.kf_check.specs.SourceAnswers.{Stands}
 use Rattle.kf_check.proofs.items.stands.Given as goal
 

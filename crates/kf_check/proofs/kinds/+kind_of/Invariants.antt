@@ -1,7 +1,7 @@
 use Rattle.std.proofs.Common.{◌≡◌, map, take}
-use Rattle.kf_value.specs.Types.{type_tree}
+use Rattle.kf_value.specs.TypeViews.{type_tree}
 use Rattle.kf_value.specs.Views.{kind_tree}
-use Rattle.kf_core.specs.Checked.{kind_of}
+use Rattle.kf_value.specs.Kinds.{kind_of}
 use Rattle.kf_check.proofs.kinds.+kind_of.Given as goal
 
 abbrev pub invariant-kinds_of-loop-ty : goal.invariant-kinds_of-loop-ty

@@ -1,6 +1,6 @@
 use Rattle.std.proofs.Common.{◌≡◌, map, take}
 use Rattle.kf_value.specs.Views.{kind_tree}
-use Rattle.kf_core.specs.Checked.{pattern_kind}
+use Rattle.kf_ops.specs.Places.{pattern_kind}
 use Rattle.kf_check.proofs.rows.fits.Given as goal
 
 abbrev pub invariant-loop-i : goal.invariant-loop-i

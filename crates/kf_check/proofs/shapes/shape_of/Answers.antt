@@ -1,5 +1,5 @@
 use Rattle.std.proofs.Common.{◌≡◌, ◌++◌, map, ap, ◌∙◌}
-use Rattle.kf_value.specs.Types.{type_tree}
+use Rattle.kf_value.specs.TypeViews.{type_tree}
 use Rattle.kf_value.specs.Views.{type_trees}
 use Rattle.kf_check.specs.Sources.{types_of}
 use Rattle.kf_check.specs.Variables.{variable_of}

@@ -1,6 +1,6 @@
 use Rattle.std.proofs.Common.{◌+◌, map, drop, get_or, subst}
 use Rattle.std.proofs.lemmas.List.{drop_more}
-use Rattle.kf_value.specs.Types.{type_tree}
+use Rattle.kf_value.specs.TypeViews.{type_tree}
 use Rattle.kf_check.specs.Variables.{variable_of}
 use Rattle.kf_check.proofs.CopyTurns.{CopiedBefore, copied_more}
 use Rattle.kf_check.proofs.shapes.with_copies.Goals as goal

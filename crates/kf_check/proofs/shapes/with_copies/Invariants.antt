@@ -1,5 +1,5 @@
 use Rattle.std.proofs.Common.{map, drop}
-use Rattle.kf_value.specs.Types.{type_tree}
+use Rattle.kf_value.specs.TypeViews.{type_tree}
 use Rattle.kf_check.specs.Variables.{variable_of}
 use Rattle.kf_check.proofs.CopyTurns.{CopiedBefore}
 use Rattle.kf_check.proofs.shapes.with_copies.Given as goal

@@ -1,6 +1,6 @@
 use Rattle.std.proofs.Common.{rules, map, drop, ◌+◌, Ok, Err, arith}
 use Rattle.kf_ast.specs.declared.stmt.Stmt.{the_lemmas}
-use Rattle.kf_ast.specs.Stmts.{stmt_tree, stmt_items}
+use Rattle.kf_ast.specs.Views.{stmt_tree, stmt_items}
 use Rattle.kf_check.specs.Views.{known_in}
 use Rattle.kf_check.proofs.Left.{left_step, left_end, passed}
 use Rattle.kf_check.proofs.StmtTurns as turn
@@ -13,7 +13,7 @@ check_stmt-returns-in_default t c other = turn.unknown (known_in c.args.known.no
 pub check_stmt-returns-in_err-asks_dist-in-Assign : goal.check_stmt-returns-in_err-asks_dist-in-Assign
 check_stmt-returns-in_err-asks_dist-in-Assign t c =
     turn.failing (known_in c.args.known.now) _ c.from_residual.result c.in_err-asks_dist-in-Assign.field-0.0 (passed c.from_residual.result _ c.from_residual.ensures.1)
-    (turn.assign_fails (known_in c.args.known.now) c.args.stmt.now c.in-Assign.name c.in-Assign.dist c.as_str.result.now c.in-Some.slot _ c.in-Assign.is c.as_str.ensures c.in-Some.ensures _ c.in_err-asks_dist-in-Assign.ensures)
+    (turn.assign_fails (known_in c.args.known.now) c.args.stmt.now c.in-Assign.name c.in-Assign.dist c.as_str.result.now c.in-Assign.is c.as_str.ensures c.in-Some.slot _ c.in-Some.ensures _ c.in_err-asks_dist-in-Assign.ensures)
 
 pub check_stmt-returns-in_err-dist-in-Observe : goal.check_stmt-returns-in_err-dist-in-Observe
 check_stmt-returns-in_err-dist-in-Observe t c =
@@ -68,7 +68,7 @@ pub check_stmt-returns : goal.check_stmt-returns
 check_stmt-returns t c =
     elim c.match-stmt.branch [
       | check_stmt-in-Skip w ↦ rw w.result-is (turn.skip (known_in c.args.known.now) c.args.stmt.now w.in-Skip.is)
-      | check_stmt-in-Assign+in-Some+in_ok-asks_dist-in-Assign w ↦ rw w.result-is (turn.assign (known_in c.args.known.now) c.args.stmt.now w.in-Assign.name w.in-Assign.dist w.as_str.result.now w.in-Some.slot _ w.in-Assign.is w.as_str.ensures w.in-Some.ensures w.in_ok-asks_dist-in-Assign.field-0 w.in_ok-asks_dist-in-Assign.ensures)
+      | check_stmt-in-Assign+in-Some+in_ok-asks_dist-in-Assign w ↦ rw w.result-is (turn.assign (known_in c.args.known.now) c.args.stmt.now w.in-Assign.name w.in-Assign.dist w.as_str.result.now w.in-Assign.is w.as_str.ensures w.in-Some.slot _ w.in-Some.ensures w.in_ok-asks_dist-in-Assign.field-0 w.in_ok-asks_dist-in-Assign.ensures)
       | check_stmt-in-Observe+in_ok-dist-in-Observe+in-Tuple-1 w ↦ rw w.result-is (turn.observe (known_in c.args.known.now) c.args.stmt.now w.in-Observe.observed w.in-Observe.is w.in_ok-dist-in-Observe.field-0.dx _ w.in_ok-dist-in-Observe.ensures)
       | check_stmt-in-Observe+in_ok-dist-in-Observe+in-Set-1 w ↦ rw w.result-is (turn.observe (known_in c.args.known.now) c.args.stmt.now w.in-Observe.observed w.in-Observe.is w.in_ok-dist-in-Observe.field-0.dx _ w.in_ok-dist-in-Observe.ensures)
       | check_stmt-in-Observe+in_ok-dist-in-Observe+in-Bool-1 w ↦ rw w.result-is (turn.observe (known_in c.args.known.now) c.args.stmt.now w.in-Observe.observed w.in-Observe.is w.in_ok-dist-in-Observe.field-0.dx _ w.in_ok-dist-in-Observe.ensures)

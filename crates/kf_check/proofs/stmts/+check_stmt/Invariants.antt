@@ -1,6 +1,6 @@
 use Rattle.std.proofs.Common.{map, drop}
-use Rattle.kf_ast.specs.Stmts.{stmt_tree}
-use Rattle.kf_core.specs.Sts.{st_tree}
+use Rattle.kf_ast.specs.Views.{stmt_tree}
+use Rattle.kf_core.specs.Views.{st_tree}
 use Rattle.kf_check.specs.Views.{known_in}
 use Rattle.kf_check.proofs.StmtTurns.{DoneBefore}
 use Rattle.kf_check.proofs.stmts.+check_stmt.Given as goal

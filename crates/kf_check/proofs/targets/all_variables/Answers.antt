@@ -1,6 +1,6 @@
 use Rattle.std.proofs.Common.{◌≡◌, map, length, sym, ap, ◌∙◌, arith}
 use Rattle.std.proofs.lemmas.List.{length-map}
-use Rattle.kf_value.specs.Targets.{item_of}
+use Rattle.kf_value.specs.TypeViews.{item_of}
 use Rattle.kf_check.specs.Variables.{variable_of}
 use Rattle.kf_check.specs.SourceAnswers.{as_items}
 use Rattle.kf_check.proofs.DeclFacts.{facts_of}

@@ -1,5 +1,5 @@
 use Rattle.std.proofs.Common.{◌≡◌, ◌≤◌, map, length, arith}
-use Rattle.kf_ast.specs.Sources.{item_tree}
+use Rattle.kf_ast.specs.Views.{item_tree}
 use Rattle.kf_check.specs.Variables.{variables_in}
 use Rattle.kf_check.proofs.Left.{passed}
 use Rattle.kf_check.proofs.DeclFacts.{facts_of}

@@ -1,6 +1,6 @@
 use Rattle.std.proofs.Common.{map, drop, take}
-use Rattle.kf_value.specs.Targets.{item_of}
-use Rattle.kf_ast.specs.Sources.{item_tree}
+use Rattle.kf_value.specs.TypeViews.{item_of}
+use Rattle.kf_ast.specs.Views.{item_tree}
 use Rattle.kf_check.specs.Variables.{variables_in}
 use Rattle.kf_check.proofs.ItemTurns.{ItemsBefore}
 use Rattle.kf_check.proofs.targets.check_items.Given as goal

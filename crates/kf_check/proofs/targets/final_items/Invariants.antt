@@ -1,5 +1,5 @@
 use Rattle.std.proofs.Common.{◌≡◌, ◌++◌, map, drop}
-use Rattle.kf_value.specs.Targets.{item_of}
+use Rattle.kf_value.specs.TypeViews.{item_of}
 use Rattle.kf_check.specs.Variables.{variable_of}
 use Rattle.kf_check.specs.SourceAnswers.{as_items}
 use Rattle.kf_check.proofs.targets.final_items.Given as goal

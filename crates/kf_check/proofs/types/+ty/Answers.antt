@@ -1,12 +1,13 @@
 use Rattle.std.proofs.Common.{Err, refl, min, ◌-◌, ◌^◌, map, sym, ◌∙◌, ap, arith, rules, FitsSigned}
 use Rattle.std.proofs.lemmas.Int.{to_z-of_z}
 use mir.Syntax.{w64}
-use Rattle.kf_value.specs.Types.{type_tree, count, product}
+use Rattle.kf_value.specs.Types.{count, product}
+use Rattle.kf_value.specs.TypeViews.{type_tree}
 use Rattle.kf_value.specs.Views.{type_trees}
 use Rattle.kf_value.proofs.Trees.{type_tree-Bool, type_tree-Int, type_tree-Tuple, type_tree-Set}
-use Rattle.kf_ast.specs.TypeForms.{type_at, SetOf, types, type_form, ty_items}
+use Rattle.kf_ast.specs.TypeForms.{type_at, SetOf, types}
+use Rattle.kf_ast.specs.Views.{type_form, ty_items}
 use Rattle.kf_check.specs.Types.{JudgesType, JudgesTypes}
-use Rattle.kf_check.specs.Types as rule
 use Rattle.kf_check.proofs.Nodes.{type_form-Bool, type_form-Int, type_form-Tuple, type_form-Set}
 use Rattle.kf_check.proofs.Judging.{passed_on}
 use Rattle.kf_check.proofs.Each.{each_start, each_turn, each_end}
@@ -48,7 +49,7 @@ ty_within-returns-in_err-size-in-Set-clause-err t c =
     (λ told. rw (c.in_err-size-in-Set.ensures.err.0) (set_large c.args.limit (type_form c.args.x.now) c.args.x.now.at (type_form c.deref.result.now) (type_form-Set c.args.x.now c.in-Set.base c.in-Set.is ∙ ap (λ y. type_at c.args.x.now.at (SetOf (type_form y))) (sym c.deref.ensures)) (type_tree c.in_ok-base-in-Set.base.ty) _ c.in_ok-base-in-Set.ensures.judged (shifted c.in_ok-base-in-Set.base.size _ c.in_ok-base-in-Set.ensures.few c.in_ok-base-in-Set.ensures.sized) c.in_err-size-in-Set.ensures.err.1))
 
 pub ty_within-returns-in-Bool-clause-judged : goal.ty_within-returns-in-Bool-clause-judged
-ty_within-returns-in-Bool-clause-judged t c = rw (type_form-Bool c.args.x.now c.in-Bool.is, type_tree-Bool) (rule.boolean c.args.x.now.at)
+ty_within-returns-in-Bool-clause-judged t c = rw (type_form-Bool c.args.x.now c.in-Bool.is, type_tree-Bool) refl
 
 pub ty_within-returns-in_ok-size-in-Int-clause-judged : goal.ty_within-returns-in_ok-size-in-Int-clause-judged
 ty_within-returns-in_ok-size-in-Int-clause-judged t c =

@@ -1,5 +1,6 @@
 use Rattle.std.proofs.Common.{◌≡◌, ◌-◌, ◌^◌, min, map, take}
-use Rattle.kf_value.specs.Types.{type_tree, count, product}
+use Rattle.kf_value.specs.Types.{count, product}
+use Rattle.kf_value.specs.TypeViews.{type_tree}
 use Rattle.kf_check.proofs.Each.{Each}
 use Rattle.kf_check.proofs.TypeRules.{IsType}
 use Rattle.kf_check.proofs.types.+ty.Given as goal

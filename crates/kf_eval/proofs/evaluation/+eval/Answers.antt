@@ -3,27 +3,29 @@ use Rattle.std.proofs.lemmas.List.{length-map}
 use Rattle.std.proofs.lemmas.Result.{err_from_is_err_and}
 use Rattle.kf_value.specs.Views.{value_tree}
 use Rattle.kf_value.proofs.ListLemmas.{left_step, left_end}
-use Rattle.kf_core.specs.Exs.{ex_tree}
+use Rattle.kf_value.specs.Shapes.{shape_types}
+use Rattle.kf_core.specs.Runs.{store_at}
+use Rattle.kf_core.specs.Views.{ex_tree}
 use Rattle.kf_core.specs.Evaluation.{Evaluated}
 use Rattle.kf_ops.specs.declared.row.Op.TheVariants as op
 use Rattle.kf_eval.specs.Answers.{Answers}
-use Rattle.kf_eval.specs.Kinds.{shape_kinds, store_at}
+use Rattle.kf_eval.specs.Kinds.{shape_kinds}
 use Rattle.kf_eval.proofs.Checking.{calls_row, needed, each_kinded, parts_kinded, members_kinded, fits_row, has_part, store_kinds, slot_within, slot_value, or_first, and_first, cond_second, row_value_is, row_fault_is, values_start, values_step, values_fault, values_end}
 use Rattle.kf_eval.proofs.evaluation.+eval.Goals as goal
 
 pub or-returns-then-is_true : goal.or-returns-then-is_true
 or-returns-then-is_true t c =
-    or_first (store_at c.args.shape.now c.args.store) c.args.args.now c.index-args-0.result (value_tree c.in_ok-first.first) c.requires.two c.index-args-0.is
+    or_first (store_at (shape_types c.args.shape.now) c.args.store) c.args.args.now c.index-args-0.result (value_tree c.in_ok-first.first) c.requires.two c.index-args-0.is
     c.in_ok-first.ensures (sym c.is_true.ensures ∙ c.if-is_true.true)
 
 pub and-returns-else-is_true : goal.and-returns-else-is_true
 and-returns-else-is_true t c =
-    and_first (store_at c.args.shape.now c.args.store) c.args.args.now c.index-args-0.result (value_tree c.in_ok-left.left) c.requires.two c.index-args-0.is
+    and_first (store_at (shape_types c.args.shape.now) c.args.store) c.args.args.now c.index-args-0.result (value_tree c.in_ok-left.left) c.requires.two c.index-args-0.is
     c.in_ok-left.ensures (sym c.is_true.ensures ∙ c.if-is_true.false)
 
 pub cond-returns-then-is_true : goal.cond-returns-then-is_true
 cond-returns-then-is_true t c =
-    let same = cond_second (store_at c.args.shape.now c.args.store) c.args.args.now c.index-args-0.result c.index-args-1.result (value_tree c.in_ok-test.test) c.requires.three
+    let same = cond_second (store_at (shape_types c.args.shape.now) c.args.store) c.args.args.now c.index-args-0.result c.index-args-1.result (value_tree c.in_ok-test.test) c.requires.three
     c.index-args-0.is c.index-args-1.is c.in_ok-test.ensures (sym c.is_true.ensures ∙ c.if-is_true.true) in
     subst (λ (e : Evaluated). Answers c.value_of-then-is_true.result e) (sym same) c.value_of-then-is_true.ensures
 
@@ -59,7 +61,7 @@ operation-apply-requires t c =
     let calls = calls_row ks c.args.row (map ex_tree c.args.args.now) c.requires.kinded in
     let are = store_kinds c.evaluation_laws.ensures.stores c.args.shape.now c.args.store c.requires.store in
     rw c.deref.ensures.value
-    (fits_row c.evaluation_laws.ensures.kinds ks (store_at c.args.shape.now c.args.store) are c.args.row (map ex_tree c.args.args.now)
+    (fits_row c.evaluation_laws.ensures.kinds ks (store_at (shape_types c.args.shape.now) c.args.store) are c.args.row (map ex_tree c.args.args.now)
     (map value_tree c.in_ok-values-in_default.values.items) calls c.in_ok-values-in_default.ensures)
 
 pub operation-returns-in_err-apply-in_default : goal.operation-returns-in_err-apply-in_default
@@ -68,7 +70,7 @@ operation-returns-in_err-apply-in_default t c =
     let calls = calls_row ks c.args.row (map ex_tree c.args.args.now) c.requires.kinded in
     let p = err_from_is_err_and c.from_residual-in_err-apply-in_default.result c.from_residual-in_err-apply-in_default.ensures.1 in
     rw (p.1, p.2)
-    (row_fault_is ks (store_at c.args.shape.now c.args.store) c.args.row (map ex_tree c.args.args.now) (map value_tree c.in_ok-values-in_default.values.items) c.code_at.result calls
+    (row_fault_is ks (store_at (shape_types c.args.shape.now) c.args.store) c.args.row (map ex_tree c.args.args.now) (map value_tree c.in_ok-values-in_default.values.items) c.code_at.result calls
     c.code_at.ensures c.in_default.not-Or c.in_default.not-And c.in_default.not-Cond c.in_ok-values-in_default.ensures (map value_tree c.deref.result.now)
     c.in_err-apply-in_default.field-0.0 (ap (map value_tree) c.deref.ensures.value) c.in_err-apply-in_default.ensures.value)
 
@@ -76,12 +78,12 @@ pub operation-returns-in_ok-apply-in_default : goal.operation-returns-in_ok-appl
 operation-returns-in_ok-apply-in_default t c =
     let ks = shape_kinds c.args.shape.now in
     let calls = calls_row ks c.args.row (map ex_tree c.args.args.now) c.requires.kinded in
-    row_value_is ks (store_at c.args.shape.now c.args.store) c.args.row (map ex_tree c.args.args.now) (map value_tree c.in_ok-values-in_default.values.items) c.code_at.result calls
+    row_value_is ks (store_at (shape_types c.args.shape.now) c.args.store) c.args.row (map ex_tree c.args.args.now) (map value_tree c.in_ok-values-in_default.values.items) c.code_at.result calls
     c.code_at.ensures c.in_default.not-Or c.in_default.not-And c.in_default.not-Cond c.in_ok-values-in_default.ensures (map value_tree c.deref.result.now)
     (value_tree c.in_ok-apply-in_default.field-0) (ap (map value_tree) c.deref.ensures.value) c.in_ok-apply-in_default.ensures.value
 
-pub value_of-variable-requires-clause-within : goal.value_of-variable-requires-clause-within
-value_of-variable-requires-clause-within t c =
+pub value_of-value_in-requires-clause-within : goal.value_of-value_in-requires-clause-within
+value_of-value_in-requires-clause-within t c =
     slot_within c.args.shape.now c.args.e.now c.in-Slot.i c.from.result c.in-Slot.is c.from.ensures c.requires.kinded
 
 pub tuple-values_of-requires : goal.tuple-values_of-requires
@@ -93,17 +95,17 @@ set-values_of-requires t c = (search rules, (c.requires.store, members_kinded (s
 pub value_of-part_at-requires : goal.value_of-part_at-requires
 value_of-part_at-requires t c =
     let are = store_kinds c.evaluation_laws.ensures.stores c.args.shape.now c.args.store c.requires.store in
-    has_part c.evaluation_laws.ensures.kinds (shape_kinds c.args.shape.now) (store_at c.args.shape.now c.args.store) are c.args.e.now c.deref.result.now c.in-Part.of c.in-Part.k
+    has_part c.evaluation_laws.ensures.kinds (shape_kinds c.args.shape.now) (store_at (shape_types c.args.shape.now) c.args.store) are c.args.e.now c.deref.result.now c.in-Part.of c.in-Part.k
     (value_tree c.in_ok-whole-in-Part.whole) c.in-Part.is c.deref.ensures c.requires.kinded c.in_ok-whole-in-Part.ensures
 
-pub value_of-returns-in_ok-variable-in-Slot : goal.value_of-returns-in_ok-variable-in-Slot
-value_of-returns-in_ok-variable-in-Slot t c =
-    slot_value (store_at c.args.shape.now c.args.store) c.args.e.now c.in-Slot.i c.from.result (value_tree c.in_ok-variable-in-Slot.field-0) c.in-Slot.is c.from.ensures
-    c.in_ok-variable-in-Slot.ensures
+pub value_of-returns-in_ok-value_in-in-Slot : goal.value_of-returns-in_ok-value_in-in-Slot
+value_of-returns-in_ok-value_in-in-Slot t c =
+    slot_value (store_at (shape_types c.args.shape.now) c.args.store) c.args.e.now c.in-Slot.i c.from.result (value_tree c.in_ok-value_in-in-Slot.field-0) c.in-Slot.is c.from.ensures
+    c.in_ok-value_in-in-Slot.ensures.value
 
 pub values_of-loop-ex-init : goal.values_of-loop-ex-init
 values_of-loop-ex-init t c =
-    values_start (shape_kinds c.args.shape.now) (store_at c.args.shape.now c.args.store) (map ex_tree c.args.exs.now) c.new-values.result.items c.new-values.ensures.items c.requires.kinded
+    values_start (shape_kinds c.args.shape.now) (store_at (shape_types c.args.shape.now) c.args.store) (map ex_tree c.args.exs.now) c.new-values.result.items c.new-values.ensures.items c.requires.kinded
 
 pub values_of-returns-in_err-value_of : goal.values_of-returns-in_err-value_of
 values_of-returns-in_err-value_of t c =
@@ -111,17 +113,17 @@ values_of-returns-in_err-value_of t c =
     let so_far = rw here at c.loop-ex.invariant in
     let p = err_from_is_err_and c.from_residual.result c.from_residual.ensures.1 in
     rw (p.1, p.2)
-    (values_fault (shape_kinds c.args.shape.now) (store_at c.args.shape.now c.args.store) (map ex_tree c.args.exs.now) (ex_tree c.ex-item.result)
+    (values_fault (shape_kinds c.args.shape.now) (store_at (shape_types c.args.shape.now) c.args.store) (map ex_tree c.args.exs.now) (ex_tree c.ex-item.result)
     (map ex_tree (drop (c.loop-ex.ex-index + 1) c.args.exs.now)) c.loop-ex.values.items _ so_far c.in_err-value_of.ensures)
 
 pub values_of-loop-ex-preserved : goal.values_of-loop-ex-preserved
 values_of-loop-ex-preserved t c =
     let here = left_step ex_tree c.args.exs.now c.loop-ex.ex-index c.ex-item.result (omega arith) c.ex-item.is in
     let so_far = rw here at c.loop-ex.invariant in
-    values_step (shape_kinds c.args.shape.now) (store_at c.args.shape.now c.args.store) (map ex_tree c.args.exs.now) (ex_tree c.ex-item.result)
+    values_step (shape_kinds c.args.shape.now) (store_at (shape_types c.args.shape.now) c.args.store) (map ex_tree c.args.exs.now) (ex_tree c.ex-item.result)
     (map ex_tree (drop (c.loop-ex.ex-index + 1) c.args.exs.now)) c.loop-ex.values.items c.push.new.self.items c.in_ok-value_of.field-0 so_far c.in_ok-value_of.ensures c.in_ok-push.ensures.items
 
 pub values_of-returns : goal.values_of-returns
 values_of-returns t c =
     let used = left_end ex_tree c.args.exs.now c.loop-ex.ex-index (omega arith) in
-    values_end (shape_kinds c.args.shape.now) (store_at c.args.shape.now c.args.store) (map ex_tree c.args.exs.now) c.loop-ex.values.items (rw used at c.loop-ex.invariant)
+    values_end (shape_kinds c.args.shape.now) (store_at (shape_types c.args.shape.now) c.args.store) (map ex_tree c.args.exs.now) c.loop-ex.values.items (rw used at c.loop-ex.invariant)

@@ -1,11 +1,12 @@
 use Rattle.std.proofs.Common.{Ok, ◌+◌, ◌∙◌, map, drop, ap, arith}
 use Rattle.std.proofs.lemmas.List.{length-map, nil_from_length}
 use Rattle.kf_value.proofs.ListLemmas.{left_step, left_end}
-use Rattle.kf_core.specs.Dxs.{dx_case_tree}
-use Rattle.kf_core.specs.Exs.{ex_tree}
+use Rattle.kf_value.specs.Shapes.{shape_types}
+use Rattle.kf_core.specs.Runs.{store_at}
+use Rattle.kf_core.specs.Views.{dx_case_tree, ex_tree}
 use Rattle.kf_eval.specs.Choices.{weighted_tree}
 use Rattle.kf_eval.specs.Gathering.{at_most_one}
-use Rattle.kf_eval.specs.Kinds.{shape_kinds, store_at}
+use Rattle.kf_eval.specs.Kinds.{shape_kinds}
 use Rattle.kf_eval.proofs.Placing.{trees}
 use Rattle.kf_eval.proofs.Weighing.{case_parts, cases_start, cases_pass, cases_add, cases_none, cases_weights, some_counted, none_counted}
 use Rattle.kf_eval.proofs.weights.choose.Goals as goal
@@ -13,7 +14,7 @@ use Rattle.kf_eval.proofs.weights.choose.Goals.{in-Some+in_ok-add, in_default}
 
 pub loop-case-init : goal.loop-case-init
 loop-case-init c =
-    cases_start (shape_kinds c.args.shape.now) (store_at c.args.shape.now c.args.store) (map dx_case_tree c.args.cases.now) c.new-items.result.items c.new-items.ensures.items
+    cases_start (shape_kinds c.args.shape.now) (store_at (shape_types c.args.shape.now) c.args.store) (map dx_case_tree c.args.cases.now) c.new-items.result.items c.new-items.ensures.items
     c.requires.kinded
 
 pub weighed-requires-clause-value : goal.weighed-requires-clause-value
@@ -31,7 +32,7 @@ weighed-requires-clause-weight c =
 pub loop-case-preserved : goal.loop-case-preserved
 loop-case-preserved c =
     let ks = shape_kinds c.args.shape.now in
-    let s = store_at c.args.shape.now c.args.store in
+    let s = store_at (shape_types c.args.shape.now) c.args.store in
     let all = map dx_case_tree c.args.cases.now in
     let left = map dx_case_tree (drop (c.loop-case.case-index + 1) c.args.cases.now) in
     let x = ex_tree c.case-item.result.value in
@@ -54,7 +55,7 @@ pub returns-then-is_empty : goal.returns-then-is_empty
 returns-then-is_empty c =
     let used = left_end dx_case_tree c.args.cases.now c.loop-case.case-index (omega arith) in
     let at_end = rw used at c.loop-case.invariant in
-    cases_none (shape_kinds c.args.shape.now) (store_at c.args.shape.now c.args.store) (map dx_case_tree c.args.cases.now) (trees c.loop-case.items.items) c.loop-case.case-index at_end
+    cases_none (shape_kinds c.args.shape.now) (store_at (shape_types c.args.shape.now) c.args.store) (map dx_case_tree c.args.cases.now) (trees c.loop-case.items.items) c.loop-case.case-index at_end
     (nil_from_length (trees c.loop-case.items.items) (omega (
       arith,
       length-map c.loop-case.items.items weighted_tree,
@@ -67,6 +68,6 @@ returns-else-is_empty c =
     let used = left_end dx_case_tree c.args.cases.now c.loop-case.case-index (omega arith) in
     let at_end = rw used at c.loop-case.invariant in
     let long = length-map c.loop-case.items.items weighted_tree in
-    cases_weights (shape_kinds c.args.shape.now) (store_at c.args.shape.now c.args.store) (map dx_case_tree c.args.cases.now) (trees c.loop-case.items.items) c.loop-case.case-index at_end
+    cases_weights (shape_kinds c.args.shape.now) (store_at (shape_types c.args.shape.now) c.args.store) (map dx_case_tree c.args.cases.now) (trees c.loop-case.items.items) c.loop-case.case-index at_end
     c.in_lowest_terms.result.items
     (omega (arith, long, c.loop-case.items.ok.0, some_counted c.loop-case.items.len c.is_empty.result c.is_empty.ensures c.if-is_empty.false)) (omega arith) c.in_lowest_terms.ensures

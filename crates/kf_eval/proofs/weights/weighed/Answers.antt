@@ -2,28 +2,29 @@ use Rattle.std.proofs.Common.{◌∷◌, [], Ok, to_z, of_z, w64, unsigned_abs, 
 use Rattle.std.proofs.lemmas.Int.{to_z-of_z}
 use Rattle.std.proofs.lemmas.Result.{err_from_is_err_and}
 use Rattle.kf_value.specs.Views.{value_tree}
-use Rattle.kf_ops.specs.Values.{whole}
+use Rattle.kf_value.specs.Values.{whole}
+use Rattle.kf_value.specs.Shapes.{shape_types}
+use Rattle.kf_core.specs.Runs.{store_at}
 use Rattle.kf_core.specs.Choices.{Chosen, with_value, weighed}
 use Rattle.kf_core.specs.Evaluation.{Evaluated, ev}
-use Rattle.kf_core.specs.Exs.{ex_tree}
+use Rattle.kf_core.specs.Views.{ex_tree}
 use Rattle.kf_eval.specs.Choices.{choice_error, IsChoiceFaultOf}
-use Rattle.kf_eval.specs.Kinds.{store_at}
-use Rattle.kf_eval.proofs.Holding.{is_store}
+use Rattle.kf_core.proofs.Stores.{store_is}
 use Rattle.kf_eval.proofs.Weighing.{fault_on, reads_negative, reads_positive, weighed_negative, weighed_some, weighed_fault}
 use Rattle.kf_eval.proofs.weights.weighed.Goals as goal
 
 pub returns-in_err-eval-clause-listed : goal.returns-in_err-eval-clause-listed
 returns-in_err-eval-clause-listed c =
-    let s = store_at c.args.shape.now c.args.store in
+    let s = store_at (shape_types c.args.shape.now) c.args.store in
     let p = err_from_is_err_and c.from_residual.result c.from_residual.ensures.1 in
     rw (p.1, p.2)
     (fault_on (λ (e : Evaluated). with_value e (λ w. weighed (ev s (ex_tree c.args.case.now.value)) (whole w))) (λ f. refl) (ev s (ex_tree c.args.case.now.weight))
-    c.in_err-eval.field-0.0 (c.in_err-eval.ensures.value s (is_store c.args.shape.now c.args.store c.requires.store)))
+    c.in_err-eval.field-0.0 (c.in_err-eval.ensures.value s (store_is (shape_types c.args.shape.now) c.args.store c.requires.store)))
 
 pub returns-then-weight-lt0-clause-listed : goal.returns-then-weight-lt0-clause-listed
 returns-then-weight-lt0-clause-listed c =
-    let s = store_at c.args.shape.now c.args.store in
-    let known = c.in_ok-eval.ensures.value s (is_store c.args.shape.now c.args.store c.requires.store) in
+    let s = store_at (shape_types c.args.shape.now) c.args.store in
+    let known = c.in_ok-eval.ensures.value s (store_is (shape_types c.args.shape.now) c.args.store c.requires.store) in
     ap (λ (e : Evaluated). with_value e (λ w. weighed (ev s (ex_tree c.args.case.now.value)) (whole w))) known
     ∙ (ap (weighed (ev s (ex_tree c.args.case.now.value))) (sym c.number_in-weight.ensures)
     ∙ weighed_negative (ev s (ex_tree c.args.case.now.value)) c.number_in-weight.result
@@ -31,16 +32,16 @@ returns-then-weight-lt0-clause-listed c =
 
 pub returns-then-weight-eq0-clause-listed : goal.returns-then-weight-eq0-clause-listed
 returns-then-weight-eq0-clause-listed c =
-    let s = store_at c.args.shape.now c.args.store in
-    let known = c.in_ok-eval.ensures.value s (is_store c.args.shape.now c.args.store c.requires.store) in
+    let s = store_at (shape_types c.args.shape.now) c.args.store in
+    let known = c.in_ok-eval.ensures.value s (store_is (shape_types c.args.shape.now) c.args.store c.requires.store) in
     let none = sym (to_z-of_z w64 c.number_in-weight.result (record { sfits = c.number_in-weight.type_inv })) ∙ ap (to_z w64) c.if-weight-eq0.true in
     ap (λ (e : Evaluated). with_value e (λ w. weighed (ev s (ex_tree c.args.case.now.value)) (whole w))) known
     ∙ ap (weighed (ev s (ex_tree c.args.case.now.value))) (sym c.number_in-weight.ensures ∙ none)
 
 pub returns-in_err-value-clause-listed : goal.returns-in_err-value-clause-listed
 returns-in_err-value-clause-listed c =
-    let s = store_at c.args.shape.now c.args.store in
-    let store = is_store c.args.shape.now c.args.store c.requires.store in
+    let s = store_at (shape_types c.args.shape.now) c.args.store in
+    let store = store_is (shape_types c.args.shape.now) c.args.store c.requires.store in
     let known = c.in_ok-eval.ensures.value s store in
     let p = err_from_is_err_and c.from_residual-in_err-value.result c.from_residual-in_err-value.ensures.1 in
     let here = ap (λ (e : Evaluated). with_value e (λ w. weighed (ev s (ex_tree c.args.case.now.value)) (whole w))) known
@@ -53,8 +54,8 @@ returns-in_err-value-clause-listed c =
 
 pub returns-clause-listed : goal.returns-clause-listed
 returns-clause-listed c =
-    let s = store_at c.args.shape.now c.args.store in
-    let store = is_store c.args.shape.now c.args.store c.requires.store in
+    let s = store_at (shape_types c.args.shape.now) c.args.store in
+    let store = store_is (shape_types c.args.shape.now) c.args.store c.requires.store in
     let known = c.in_ok-eval.ensures.value s store in
     ap (λ (e : Evaluated). with_value e (λ w. weighed (ev s (ex_tree c.args.case.now.value)) (whole w))) known
     ∙ (ap (weighed (ev s (ex_tree c.args.case.now.value))) (sym c.number_in-weight.ensures)

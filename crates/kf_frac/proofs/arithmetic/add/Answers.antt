@@ -1,7 +1,8 @@
 use Rattle.std.proofs.Common.{◌≡◌, ◌≤◌, ℕ, ◌/◌, ℤ, pos, ◌+ℤ◌, ◌*ℤ◌, unsigned_abs, IfOk, IsOk, IsErr, IsSome, Bool, Option, Some, None, Result, Ok, Err, sym, ap, subst, ◌∙◌, refl}
 use Rattle.kf_frac.specs.declared.frac.Frac.{Frac}
 use Rattle.kf_frac.specs.declared.making.Wide.{Wide}
-use Rattle.kf_frac.specs.Fractions.{PartsFit, limit, signed}
+use Rattle.kf_frac.specs.Fractions.{limit}
+use Rattle.kf_frac.specs.Parts.{PartsFit, signed}
 use Rattle.kf_frac.specs.Views.{num_of, den_of}
 use Rattle.kf_frac.specs.Arithmetic.{sum_over}
 use Rattle.kf_frac.proofs.Scaling.{sum_num_reduced, sum_den_reduced, reduced_fit}

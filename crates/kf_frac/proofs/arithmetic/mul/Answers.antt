@@ -4,7 +4,8 @@ use Rattle.std.proofs.lemmas.Int.{to_z-of_z}
 use mir.Syntax.{w128}
 use Rattle.kf_frac.specs.declared.frac.Frac.{Frac}
 use Rattle.kf_frac.specs.declared.making.Wide.{Wide}
-use Rattle.kf_frac.specs.Fractions.{limit, signed, reduced_num, reduced_den}
+use Rattle.kf_frac.specs.Fractions.{limit, reduced_num, reduced_den}
+use Rattle.kf_frac.specs.Parts.{signed}
 use Rattle.kf_frac.specs.Views.{num_of, den_of}
 use Rattle.kf_frac.proofs.CommonDivisors.{gcd_positive}
 use Rattle.kf_frac.proofs.CommonMultiples.{product_positive}

@@ -1,7 +1,7 @@
 use Rattle.std.proofs.Common.{FitsSigned, rules, ◌∙◌}
 use Rattle.std.proofs.lemmas.Int.{to_z-of_z}
 use mir.Syntax.{w128}
-use Rattle.kf_frac.specs.Arithmetic.{value_of}
+use Rattle.kf_frac.specs.Views.{value_of}
 use Rattle.kf_frac.proofs.Scaling.{signed_product}
 use Rattle.kf_frac.proofs.arithmetic.times.Goals as goal
 

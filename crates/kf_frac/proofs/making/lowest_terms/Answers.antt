@@ -1,7 +1,8 @@
 use Rattle.std.proofs.Common.{◌≤◌, ◌/◌, ℕ, arith, sym, ◌∙◌, ap, refl, FitsSigned, rules, to_z, of_z}
 use Rattle.std.proofs.lemmas.Int.{to_z-of_z}
 use mir.Syntax.{w128}
-use Rattle.kf_frac.specs.Fractions.{PartsFit, reduced_num, reduced_den, limit, signed}
+use Rattle.kf_frac.specs.Fractions.{reduced_num, reduced_den, limit}
+use Rattle.kf_frac.specs.Parts.{PartsFit, signed}
 use Rattle.kf_frac.proofs.CommonDivisors.{gcd_positive}
 use Rattle.kf_frac.proofs.LowestTerms.{reduced_num_signed, reduced_den_signed, parts_fit, quotients_fit, quotient_positive, signed_fits, signed_coprime}
 use Rattle.kf_frac.proofs.making.lowest_terms.Goals as goal

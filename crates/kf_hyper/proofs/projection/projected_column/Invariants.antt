@@ -1,7 +1,8 @@
 use Rattle.std.proofs.Common.{◌≡◌, ℕ, take}
 use Rattle.kf_value.specs.Types.{product}
 use Rattle.kf_value.specs.Shapes.{shape_sizes}
-use Rattle.kf_hyper.specs.Columns.{IsBelow, weight_at, total}
+use Rattle.kf_hyper.specs.Columns.{weight_at, total}
+use Rattle.kf_hyper.specs.Shapes.{IsBelow}
 use Rattle.kf_hyper.specs.Projection.{at_places, projected, weight_through}
 use Rattle.kf_hyper.specs.Sums.{summed, ArePositive}
 use Rattle.kf_hyper.proofs.projection.projected_column.Given as goal

@@ -4,7 +4,7 @@ use Rattle.kf_hyper.proofs.Summing.{gains_start, gains_more, gains_all, next_fit
 use Rattle.kf_hyper.proofs.sums.add_all.Goals as goal
 
 pub loop-entry-init : goal.loop-entry-init
-loop-entry-init c = record { gains = gains_start c.args.entries.now c.args.times (summed c.args.sums.now.entries); positive = λ h. h }
+loop-entry-init c = record { gains = gains_start c.args.entries.now c.args.times (summed c.args.sums.now.entries); positive = λ h. h; below = λ size all had. had }
 
 pub add-requires : goal.add-requires
 add-requires c = record {
@@ -17,7 +17,11 @@ loop-entry-preserved c = record {
   gains = gains_more c.args.entries.now c.args.times c.loop-entry.entry-index (record { value = 0; weight = 0 }) (summed c.args.sums.now.entries) (summed c.loop-entry.sums.entries) (summed c.add.new.sums.entries)
       c.loop-entry-test.true c.loop-entry.invariant.gains c.in_ok-add.ensures.gains;
   positive = λ h. c.in_ok-add.ensures.positive (c.loop-entry.invariant.positive h);
+  below = λ size all had. c.in_ok-add.ensures.below size (all c.loop-entry.entry-index (record { value = 0; weight = 0 }) c.loop-entry-test.true) (c.loop-entry.invariant.below size all had);
 }
 
 pub returns-clause-gains : goal.returns-clause-gains
 returns-clause-gains c = gains_all c.args.entries.now c.args.times c.loop-entry.entry-index (summed c.args.sums.now.entries) (summed c.loop-entry.sums.entries) c.loop-entry-test.false c.loop-entry.invariant.gains
+
+pub returns-clause-below : goal.returns-clause-below
+returns-clause-below c = λ size all had. c.loop-entry.invariant.below size all had

@@ -1,4 +1,4 @@
-use Rattle.kf_lex.proofs.Faults.{IsOneReading-holds}
+use Rattle.kf_lex.proofs.EachSource.{IsOneReading-holds}
 use Rattle.kf_lex.proofs.law.one_reading.Goals as goal
 
 pub returns : goal.returns

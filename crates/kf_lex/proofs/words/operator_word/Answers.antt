@@ -1,5 +1,6 @@
 use Rattle.std.proofs.Common.{◌≡◌, ◌∙◌, ℕ, List, Option, sym, subst}
-use Rattle.kf_ops.specs.Rows.{Row, row_of, rows_of, operators}
+use Rattle.kf_ops.specs.Rows.{Row, operators}
+use Rattle.kf_ops.specs.Views.{row_of, rows_of}
 use Rattle.kf_lex.specs.Words.{operator_word}
 use Rattle.kf_lex.specs.declared.token.Word.{Word}
 use Rattle.kf_lex.proofs.Spelling.{differs, found, unchosen}

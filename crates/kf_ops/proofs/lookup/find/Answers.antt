@@ -1,5 +1,5 @@
 use Rattle.std.proofs.Common.{◌∙◌}
-use Rattle.kf_ops.specs.Rows.{rows_of, row_of}
+use Rattle.kf_ops.specs.Views.{rows_of, row_of}
 use Rattle.kf_ops.specs.Table.{has_word}
 use Rattle.kf_ops.proofs.First.{placed}
 use Rattle.kf_ops.proofs.Mapped.{position-map}

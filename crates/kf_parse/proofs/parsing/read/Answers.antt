@@ -1,6 +1,6 @@
 use Rattle.std.proofs.Common.{◌∙◌, ap}
-use Rattle.kf_ast.specs.Sources.{source_tree}
-use Rattle.kf_parse.specs.Built.{trimmed_of}
+use Rattle.kf_ast.specs.Views.{source_tree}
+use Rattle.kf_parse.specs.Views.{trimmed_of}
 use Rattle.kf_parse.specs.Outcomes.{got}
 use Rattle.kf_parse.proofs.Answering.{is_parsed, is_long, is_left_over, is_stuck, is_not_deep}
 use Rattle.kf_parse.proofs.parsing.read.Goals as goal

@@ -1,7 +1,7 @@
 use Rattle.std.proofs.Common.{◌+◌, ◌<◌, ◌≤◌, ◌+ℤ◌, FitsSigned, unsigned_abs, ◌^◌, arith, rules, length}
 use Rattle.std.proofs.lemmas.Int.{to_z-of_z}
 use mir.Syntax.{w128}
-use Rattle.kf_simplex.specs.Cells.{at}
+use Rattle.kf_simplex.specs.Base.{at}
 use Rattle.kf_simplex.proofs.FlatBuild.{add_more, row_sum_fits}
 use Rattle.kf_simplex.proofs.building.add_row.Goals as goal
 

@@ -1,7 +1,7 @@
 use Rattle.std.proofs.Common.{◌≡◌, ◌+◌, ◌<◌, ℕ, pos, FitsSigned, arith, rules, refl, subst, length, to_z, of_z}
 use Rattle.std.proofs.lemmas.Int.{to_z-of_z, ints}
 use mir.Syntax.{w64, w128}
-use Rattle.kf_simplex.specs.Cells.{at}
+use Rattle.kf_simplex.specs.Base.{at}
 use Rattle.kf_simplex.proofs.FlatBuild.{Written, write_more, row_written}
 use Rattle.kf_simplex.proofs.building.write_row.Goals as goal
 

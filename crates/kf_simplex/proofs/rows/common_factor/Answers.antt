@@ -5,7 +5,8 @@ use Rattle.std.specs.Int.{IsGcd}
 use mir.Syntax.{w128}
 use Rattle.kf_simplex.proofs.FlatRows.{gcd_more, gcd_one}
 use Rattle.kf_simplex.proofs.rows.common_factor.Goals as goal
-use Rattle.kf_simplex.specs.Cells.{at, IsCommonGcd}
+use Rattle.kf_simplex.specs.Cells.{IsCommonGcd}
+use Rattle.kf_simplex.specs.Base.{at}
 
 pub loop-x-preserved : goal.loop-x-preserved
 loop-x-preserved c =

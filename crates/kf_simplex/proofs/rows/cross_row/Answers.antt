@@ -3,7 +3,7 @@ use Rattle.std.proofs.lemmas.Int.{to_z-of_z}
 use mir.Syntax.{w128}
 use Rattle.kf_simplex.proofs.FlatRows.{set_more, set_rest, set_each}
 use Rattle.kf_simplex.proofs.rows.cross_row.Goals as goal
-use Rattle.kf_simplex.specs.Cells.{at}
+use Rattle.kf_simplex.specs.Base.{at}
 
 pub loop-k-preserved : goal.loop-k-preserved
 loop-k-preserved c =

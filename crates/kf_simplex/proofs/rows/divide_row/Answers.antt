@@ -5,7 +5,7 @@ use lib.Signed.{quot_z}
 use mir.Syntax.{w128}
 use Rattle.kf_simplex.proofs.FlatRows.{set_more, set_rest, exact_quotient}
 use Rattle.kf_simplex.proofs.rows.divide_row.Goals as goal
-use Rattle.kf_simplex.specs.Cells.{at}
+use Rattle.kf_simplex.specs.Base.{at}
 
 pub loop-k-preserved : goal.loop-k-preserved
 loop-k-preserved c =

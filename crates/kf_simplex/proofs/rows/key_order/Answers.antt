@@ -2,7 +2,7 @@ use Rattle.std.proofs.Common.{FitsSigned, rules, refl, below_more}
 use Rattle.std.proofs.lemmas.Int.{to_z-of_z}
 use mir.Syntax.{w128}
 use Rattle.kf_simplex.proofs.rows.key_order.Goals as goal
-use Rattle.kf_simplex.specs.Cells.{at}
+use Rattle.kf_simplex.specs.Base.{at}
 
 pub returns-in-Less : goal.returns-in-Less
 returns-in-Less c =

@@ -3,7 +3,7 @@ use Rattle.std.proofs.lemmas.Int.{to_z-of_z}
 use mir.Syntax.{w128}
 use Rattle.kf_simplex.proofs.FlatRows.{reduced_along}
 use Rattle.kf_simplex.proofs.rows.reduce_row.Goals as goal
-use Rattle.kf_simplex.specs.Cells.{at}
+use Rattle.kf_simplex.specs.Base.{at}
 
 pub returns : goal.returns
 returns c =

@@ -1,6 +1,6 @@
 use Rattle.std.proofs.Common.{Err, ap, ◌∙◌, arith}
 use Rattle.std.proofs.lemmas.Result.{err_from_is_err_and}
-use Rattle.kf_core.specs.Programs.{program_tree}
+use Rattle.kf_core.specs.Views.{program_tree}
 use Rattle.kf_support.proofs.Deciding as telling
 use Rattle.kf_support.proofs.clearing.clear.Goals as goal
 

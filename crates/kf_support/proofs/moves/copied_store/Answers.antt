@@ -2,8 +2,7 @@ use Rattle.std.proofs.Common.{◌≡◌, ℕ, ◌<◌, ◌≤◌, List, refl, �
 use Rattle.std.proofs.lemmas.List.{length-map}
 use Rattle.kf_value.specs.Shapes.{shape_sizes}
 use Rattle.kf_value.specs.Types.{product}
-use Rattle.kf_core.specs.Dxs.{dx_items, dx_tree}
-use Rattle.kf_core.specs.Programs.{program_tree}
+use Rattle.kf_core.specs.Views.{dx_items, dx_tree, program_tree}
 use Rattle.kf_support.proofs.Copying.{copy_known, copies_end, drop_past}
 use Rattle.kf_support.proofs.moves.copied_store.Goals as goal
 

@@ -1,8 +1,7 @@
 use Rattle.std.proofs.Common.{◌≡◌, ◌+◌, length, drop}
 use Rattle.kf_value.specs.Shapes.{shape_sizes}
 use Rattle.kf_value.specs.Types.{product}
-use Rattle.kf_core.specs.Programs.{program_tree}
-use Rattle.kf_core.specs.Dxs.{dx_items}
+use Rattle.kf_core.specs.Views.{program_tree, dx_items}
 use Rattle.kf_support.proofs.Copying.{Copies}
 use Rattle.kf_support.proofs.moves.copied_store.Given as goal
 

@@ -1,7 +1,7 @@
 use Rattle.std.proofs.Common.{sym}
 use Rattle.kf_value.specs.Shapes.{shape_types}
 use Rattle.kf_value.specs.Views.{value_tree}
-use Rattle.kf_support.proofs.Stores.{replaced_some, replaced_none}
+use Rattle.kf_core.proofs.Stores.{replaced_some, replaced_none}
 use Rattle.kf_support.proofs.moves.moved.Goals as goal
 
 pub returns-in-Ok-clause-moved : goal.returns-in-Ok-clause-moved

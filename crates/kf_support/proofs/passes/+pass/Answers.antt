@@ -4,23 +4,24 @@ use Rattle.kf_value.specs.Shapes.{shape_sizes}
 use Rattle.kf_value.specs.Types.{product}
 use Rattle.kf_value.proofs.ListLemmas.{left_step}
 use Rattle.kf_core.specs.declared.st.St.{the_lemmas}
-use Rattle.kf_core.specs.Sts.{st_tree}
+use Rattle.kf_core.specs.Views.{st_tree}
 use Rattle.kf_eval.specs.Kinds.{shape_kinds}
+use Rattle.kf_core.proofs.SoundParts as sound
 use Rattle.kf_support.proofs.Passing as pass
 use Rattle.kf_support.proofs.passes.+pass.Goals as goal
 
 pub pass-assign-requires-clause-variable : goal.pass-assign-requires-clause-variable
 pass-assign-requires-clause-variable t c =
-    let known = pass.assign_parts (shape_kinds c.args.shape.now) c.args.statement.now c.requires.sound c.in-Assign.slot c.in-Assign.dist c.in-Assign.is in
-    pass.variable_within c.args.shape.now c.in-Assign.slot c.from.result known.0 c.from.ensures known.1.0
+    let known = sound.assign_parts (shape_kinds c.args.shape.now) c.args.statement.now c.requires.sound c.in-Assign.slot c.in-Assign.dist c.in-Assign.is in
+    sound.variable_within c.args.shape.now c.in-Assign.slot c.from.result known.0 c.from.ensures known.1.0
 
 pub pass-pass_while-requires : goal.pass-pass_while-requires
 pass-pass_while-requires t c =
     let ks = shape_kinds c.args.shape.now in (
       search (rules, the_lemmas),
       (
-        pass.while_guard ks c.args.statement.now c.requires.sound c.in-While.test c.in-While.body c.in-While.is,
-        (pass.body_sound ks c.args.statement.now c.requires.sound c.in-While.test c.in-While.body c.in-While.is c.as_slice-in-While.result.now c.as_slice-in-While.ensures, c.requires.ways),
+        sound.while_guard ks c.args.statement.now c.requires.sound c.in-While.test c.in-While.body c.in-While.is,
+        (sound.body_sound ks c.args.statement.now c.requires.sound c.in-While.test c.in-While.body c.in-While.is c.as_slice-in-While.result.now c.as_slice-in-While.ensures, c.requires.ways),
       ),
     )
 
@@ -57,13 +58,13 @@ pass_while-loop-turn-preserved t c =
 
 pub pass-pass_all-requires : goal.pass-pass_all-requires
 pass-pass_all-requires t c =
-    let sound = pass.yes_sound (shape_kinds c.args.shape.now) c.args.statement.now c.requires.sound c.in-If.test c.in-If.yes c.in-If.no c.in-If.is c.as_slice.result.now c.as_slice.ensures in
-    (search (rules, the_lemmas), (sound, c.in_ok-branches-in-If.ensures.ways.0))
+    let parts = sound.yes_sound (shape_kinds c.args.shape.now) c.args.statement.now c.requires.sound c.in-If.test c.in-If.yes c.in-If.no c.in-If.is c.as_slice.result.now c.as_slice.ensures in
+    (search (rules, the_lemmas), (parts, c.in_ok-branches-in-If.ensures.ways.0))
 
 pub pass-pass_all-requires-in-If : goal.pass-pass_all-requires-in-If
 pass-pass_all-requires-in-If t c =
-    let sound = pass.no_sound (shape_kinds c.args.shape.now) c.args.statement.now c.requires.sound c.in-If.test c.in-If.yes c.in-If.no c.in-If.is c.as_slice-in-If.result.now c.as_slice-in-If.ensures in
-    (search (rules, the_lemmas), (sound, c.in_ok-branches-in-If.ensures.ways.1))
+    let parts = sound.no_sound (shape_kinds c.args.shape.now) c.args.statement.now c.requires.sound c.in-If.test c.in-If.yes c.in-If.no c.in-If.is c.as_slice-in-If.result.now c.as_slice-in-If.ensures in
+    (search (rules, the_lemmas), (parts, c.in_ok-branches-in-If.ensures.ways.1))
 
 pub pass-returns-in_ok-add_all-in-If-clause-ways : goal.pass-returns-in_ok-add_all-in-If-clause-ways
 pass-returns-in_ok-add_all-in-If-clause-ways t c =

@@ -1,5 +1,5 @@
 use Rattle.std.proofs.Common.{[], map, drop}
-use Rattle.kf_core.specs.Sts.{st_tree}
+use Rattle.kf_core.specs.Views.{st_tree}
 use Rattle.kf_support.proofs.Passing.{PassSoFar, LoopSoFar, leads, turns_left}
 use Rattle.kf_support.proofs.passes.+pass.Given as goal
 

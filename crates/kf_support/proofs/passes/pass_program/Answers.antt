@@ -1,4 +1,5 @@
 use Rattle.std.proofs.Common.{arith}
+use Rattle.kf_core.proofs.SoundParts as sound
 use Rattle.kf_support.proofs.Declaring as declaring
 use Rattle.kf_support.proofs.passes.pass_program.Goals as goal
 
@@ -8,7 +9,7 @@ loop-i-init c =
 
 pub assign-requires-clause-kinded : goal.assign-requires-clause-kinded
 assign-requires-clause-kinded c =
-    declaring.decl_kinded c.args.program.now c.requires c.as_slice-decls.result.now c.loop-i.i c.index-decls-i.result c.as_slice-decls.ensures (omega arith) c.index-decls-i.is
+    sound.decl_kinded c.args.program.now c.requires c.as_slice-decls.result.now c.loop-i.i c.index-decls-i.result c.as_slice-decls.ensures (omega arith) c.index-decls-i.is
 
 pub pass_all-requires-clause-sound : goal.pass_all-requires-clause-sound
-pass_all-requires-clause-sound c = declaring.whole_sound c.args.program.now c.requires c.as_slice.result.now c.as_slice.ensures
+pass_all-requires-clause-sound c = sound.whole_sound c.args.program.now c.requires c.as_slice.result.now c.as_slice.ensures

@@ -1,4 +1,4 @@
-use Rattle.kf_value.specs.Values.{IsWellFormed}
+use Rattle.kf_value.specs.Forms.{IsWellFormed}
 use Rattle.kf_value.specs.Shapes.{shape_types, shape_sizes}
 use Rattle.kf_value.specs.Types.{product}
 use Rattle.kf_core.specs.Runs.{replaced}

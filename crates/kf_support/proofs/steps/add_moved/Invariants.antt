@@ -2,7 +2,8 @@ use Rattle.std.proofs.Common.{map, drop, Ok}
 use Rattle.kf_value.specs.Shapes.{shape_types, shape_sizes}
 use Rattle.kf_value.specs.Types.{product}
 use Rattle.kf_core.specs.Runs.{replaced}
-use Rattle.kf_core.specs.Support.{each_moved, then_pass}
+use Rattle.kf_core.specs.Results.{then_ok}
+use Rattle.kf_core.specs.Support.{each_moved}
 use Rattle.kf_eval.specs.Choices.{weighted_tree}
 use Rattle.kf_support.specs.Carried.{with_ways}
 use Rattle.kf_support.proofs.Stepping.{MovesOn}
@@ -11,5 +12,5 @@ use Rattle.kf_support.proofs.steps.add_moved.Given as goal
 abbrev pub invariant-loop-choice : goal.invariant-loop-choice
 invariant-loop-choice l =
     MovesOn l.at l.scale (product (shape_sizes l.shape)) (map (λ w. replaced (shape_types l.shape) l.slot w.value l.store) (map weighted_tree (drop l.choice-index l.choices)))
-    (then_pass (each_moved l.at (map (λ w. replaced (shape_types l.shape) l.slot w.value l.store) (map weighted_tree l.choices))) (λ ms. Ok (with_ways l.initial.next.entries ms l.scale)))
+    (then_ok (each_moved l.at (map (λ w. replaced (shape_types l.shape) l.slot w.value l.store) (map weighted_tree l.choices))) (λ ms. Ok (with_ways l.initial.next.entries ms l.scale)))
     l.next.entries

@@ -1,7 +1,7 @@
 use Rattle.std.proofs.Common.{[]}
 use Rattle.kf_value.specs.Shapes.{shape_types, shape_sizes}
 use Rattle.kf_value.specs.Types.{product}
-use Rattle.kf_core.specs.Dxs.{dx_tree}
+use Rattle.kf_core.specs.Views.{dx_tree}
 use Rattle.kf_support.specs.Carried.{carry_step, assign_lead}
 use Rattle.kf_support.proofs.Stepping.{CarriesOn}
 use Rattle.kf_support.proofs.steps.assign.Given as goal

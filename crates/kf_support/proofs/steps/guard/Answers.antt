@@ -1,7 +1,7 @@
 use Rattle.std.proofs.Common.{ℕ, [], true, false}
 use Rattle.kf_value.specs.Shapes.{shape_types, shape_sizes}
 use Rattle.kf_value.specs.Types.{product}
-use Rattle.kf_core.specs.Dxs.{dx_tree}
+use Rattle.kf_core.specs.Views.{dx_tree}
 use Rattle.kf_core.specs.Runs.{tried}
 use Rattle.kf_eval.specs.Choices.{weighted_trees}
 use Rattle.kf_support.specs.Carried.{carry_step, guard_lead}

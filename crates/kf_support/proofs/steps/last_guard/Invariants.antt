@@ -1,6 +1,6 @@
 use Rattle.kf_value.specs.Shapes.{shape_types, shape_sizes}
 use Rattle.kf_value.specs.Types.{product}
-use Rattle.kf_core.specs.Dxs.{dx_tree}
+use Rattle.kf_core.specs.Views.{dx_tree}
 use Rattle.kf_core.specs.Runs.{tried}
 use Rattle.kf_support.specs.Carried.{carry_step, last_lead}
 use Rattle.kf_support.proofs.Stepping.{CarriesOn}

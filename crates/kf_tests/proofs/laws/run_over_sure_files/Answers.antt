@@ -15,5 +15,5 @@ returns-clause-no_fault g c room =
 
 pub returns-clause-answered : goal.returns-clause-answered
 returns-clause-answered g c room had =
-    let read : c.run.result ≡ 3 → ⊥ = λ failed. let rose = (c.run.ensures.causes.read failed).2 in absurd (omega (arith, rose)) in
+    let read : c.run.result ≡ 3 → ⊥ = λ failed. let rose = (c.run.ensures.causes.read failed).rose in absurd (omega (arith, rose)) in
     c.run.ensures.causes.decided _ refl read (returns-clause-no_write_fails g c room) had

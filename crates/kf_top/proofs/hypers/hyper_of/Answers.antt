@@ -1,5 +1,5 @@
 use Rattle.std.proofs.Common.{sym, ◌∙◌, ap}
-use Rattle.kf_value.specs.Targets.{target_size}
+use Rattle.kf_value.specs.Numbers.{target_size}
 use Rattle.kf_value.specs.Views.{items_of}
 use Rattle.kf_hyper.specs.Joint.{Joint}
 use Rattle.kf_hyper.specs.Views.{rows_of}

@@ -33,8 +33,9 @@ returns-in-Ok-work-clause-causes g c =
 
 pub returns-in-Err-Refused-clause-causes : goal.returns-in-Err-Refused-clause-causes
 returns-in-Err-Refused-clause-causes g c =
-    ends_refused _ _ _ _ _ _ (task_of_job c.in-Ok.job) c.in-Ok.ensures.job (refused c.in-Err-Refused.refusal) c.refuse.result (refused_high c.in-Err-Refused.refusal) (refused_other c.in-Err-Refused.refusal)
-    (rw c.in-Err-Refused.field-0-is at c.in-Err-Refused.ensures.causes) refl c.refuse.ensures.status (untouched (g.O.Sink.taken c.args.out.now)) c.refuse.ensures.line
+    let causes = rw c.in-Err-Refused.field-0-is at c.in-Err-Refused.ensures.causes in
+    ends_refused _ _ _ _ _ _ (task_of_job c.in-Ok.job) c.in-Ok.ensures.job (refused c.in-Err-Refused.refusal) c.refuse.result causes.0 (refused_high c.in-Err-Refused.refusal) (refused_other c.in-Err-Refused.refusal)
+    causes.1 refl c.refuse.ensures.status (untouched (g.O.Sink.taken c.args.out.now)) c.refuse.ensures.line
     (rw c.in-Err-Refused.field-0-is at c.in-Err-Refused.ensures.answer)
 
 pub returns-in-Err-Refused-clause-complete : goal.returns-in-Err-Refused-clause-complete

@@ -1,13 +1,14 @@
 use Rattle.std.proofs.Common.{◌≡◌, false, Err, refl, ◌∙◌, ap}
-use Rattle.kf_core.specs.Programs.{program_tree}
 use Rattle.kf_value.specs.Views.{items_of}
+use Rattle.kf_core.specs.Joint.{joint_of}
+use Rattle.kf_core.specs.Views.{program_tree}
 use Rattle.kf_hyper.specs.Views.{rows_of}
 use Rattle.kf_support.specs.Cleared.{program_of, turns_of}
-use Rattle.kf_channel.specs.Views.{all_initial, secrets_of}
+use Rattle.kf_channel.specs.Channels.{all_initial}
+use Rattle.kf_channel.specs.Views.{secrets_of}
 use Rattle.kf_top.specs.Texts.{channel_text}
 use Rattle.kf_top.specs.Answer.{ChannelOf}
-use Rattle.kf_core.specs.Joint.{joint_of}
-use Rattle.kf_top.proofs.Steps.{initial, not_initial}
+use Rattle.kf_top.proofs.Steps.{initial}
 use Rattle.kf_top.proofs.work.channel.Goals as goal
 
 pub returns-clause-answer : goal.returns-clause-answer
@@ -17,20 +18,10 @@ returns-clause-answer c =
     let table = c.in_ok-table.ensures in
     let channel = c.in-Ok.ensures in
     let rows = rows_of c.in_ok-table.table in
-    let is_initial : all_initial (items_of c.in_ok-table.table.target) ≡ false → ⊥ = λ no'. let refused = channel.refused.1 no' in absurd (cc) in (
+    let secrets = secrets_of c.in-Ok.channel in
+    let is_initial : all_initial (items_of c.in_ok-table.table.target) ≡ false → ⊥ = λ no'. let refused = channel.refused.1 no' in absurd (cc) in
+    let text = c.in_ok-bytes.ensures ∙ (λ i. channel_text ((channel.target ∙ table.target) i) (channel.rows i) secrets) in (
       ChannelOf p.target (joint_of turns p),
-      record {
-        rows = rows;
-        are_rows = table.rows;
-        secrets = secrets_of c.in-Ok.channel;
-        are_secrets = channel.secrets;
-        text = c.in_ok-bytes.ensures ∙ (λ i. channel_text ((channel.target ∙ table.target) i) (channel.rows i) (secrets_of c.in-Ok.channel));
-        yes = refl;
-      },
+      record { text = (rows, table.rows, (secrets, channel.secrets, text)); yes = refl },
       initial turns p (items_of c.in_ok-table.table.target) table.target is_initial,
     )
-
-pub returns-in-Err-NotInitial-clause-answer : goal.returns-in-Err-NotInitial-clause-answer
-returns-in-Err-NotInitial-clause-answer c =
-    let p = program_tree (program_of c.args.cleared.now) in
-    not_initial (turns_of c.args.cleared.now) p (items_of c.in_ok-table.table.target) c.in_ok-table.ensures.target (c.in-Err-NotInitial.ensures.refused.0 (ap Err c.in-Err-NotInitial.field-0-is))

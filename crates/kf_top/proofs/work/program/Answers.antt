@@ -1,5 +1,5 @@
 use Rattle.std.proofs.Common.{ap, codes}
-use Rattle.kf_ast.specs.Sources.{source_tree}
+use Rattle.kf_ast.specs.Views.{source_tree}
 use Rattle.kf_top.specs.Outcome.{fault, type_fault}
 use Rattle.kf_top.proofs.Steps.{bad_program}
 use Rattle.kf_top.proofs.work.program.Goals as goal

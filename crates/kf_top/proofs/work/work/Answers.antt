@@ -1,35 +1,80 @@
-use Rattle.std.proofs.Common.{◌≡◌, ℕ, List, Ok, subst}
-use Rattle.kf_core.specs.Programs.{ProgramTree, program_tree}
+use Rattle.std.proofs.Common.{◌≡◌, ℕ, List, refl, subst}
+use Rattle.std.proofs.lemmas.Result.{err_from_is_err_and}
+use Rattle.kf_core.specs.Views.{program_tree}
 use Rattle.kf_support.specs.Cleared.{program_of, turns_of}
-use Rattle.kf_top.specs.Outcome.{Gives, FileOf, hyper_statement, traces_statement}
-use Rattle.kf_top.specs.Stops.{Answers, Causes}
-use Rattle.kf_top.specs.Task.{files_of_task}
-use Rattle.kf_top.specs.Views.{task_of_job, ShowsStatement}
-use Rattle.kf_top.proofs.Steps.{then_answers, made_answers}
+use Rattle.kf_top.specs.Stops.{Causes}
+use Rattle.kf_top.specs.Task.{Hyper, Traces, Channel, Task, on_file}
+use Rattle.kf_top.proofs.Steps.{task_stops, task_answers, named_alone}
 use Rattle.kf_top.proofs.work.work.Goals as goal
+
+pub returns-in_err-cleared-in-Hyper-clause-answer : goal.returns-in_err-cleared-in-Hyper-clause-answer
+returns-in_err-cleared-in-Hyper-clause-answer g c x e =
+    let p = err_from_is_err_and c.from_residual.result c.from_residual.ensures.1 in
+    rw (p.1, p.2, c.in-Hyper.is) (task_stops x Hyper c.in-Hyper.turns c.in-Hyper.name c.as_str.result.now c.as_str.ensures c.in_err-cleared-in-Hyper.field-0.0 (c.in_err-cleared-in-Hyper.ensures.answer Hyper x e))
+
+pub returns-in_err-cleared-in-Hyper-clause-causes : goal.returns-in_err-cleared-in-Hyper-clause-causes
+returns-in_err-cleared-in-Hyper-clause-causes g c =
+    let p = err_from_is_err_and c.from_residual.result c.from_residual.ensures.1 in
+    let task : Task = on_file Hyper c.in-Hyper.name c.in-Hyper.turns in
+    rw (p.1, p.2, c.in-Hyper.is) (c.in_err-cleared-in-Hyper.ensures.causes task (named_alone c.in-Hyper.name c.as_str.result.now c.as_str.ensures))
 
 pub returns-in_ok-cleared-in-Hyper-clause-answer : goal.returns-in_ok-cleared-in-Hyper-clause-answer
 returns-in_ok-cleared-in-Hyper-clause-answer g c x e =
     let cleared = c.in_ok-cleared-in-Hyper.cleared in
-    let q = program_tree (program_of cleared) in
-    let r = c.hyper.result in
-    rw c.in-Hyper.is (then_answers (FileOf x c.in-Hyper.name c.in-Hyper.turns) (λ p. Ok (hyper_statement c.in-Hyper.turns p)) q r
-    (subst (λ (n : List ℕ). (y : ProgramTree) × (q ≡ y) × FileOf x n c.in-Hyper.turns (Ok y)) c.as_str.ensures (c.in_ok-cleared-in-Hyper.ensures.answer x e))
-    (subst (λ (n : ℕ). Answers ShowsStatement r (Gives (Ok (hyper_statement n q)))) c.in_ok-cleared-in-Hyper.ensures.turns
-    (made_answers ShowsStatement r (hyper_statement (turns_of cleared) q) c.hyper.ensures.states c.hyper.ensures.memory)))
+    rw c.in-Hyper.is (task_answers x Hyper c.in-Hyper.turns c.in-Hyper.name c.as_str.result.now c.as_str.ensures (program_tree (program_of cleared)) (turns_of cleared) c.in_ok-cleared-in-Hyper.ensures.turns
+    c.hyper.result (c.in_ok-cleared-in-Hyper.ensures.answer Hyper x e) c.hyper.ensures.answer)
+
+pub returns-in_ok-cleared-in-Hyper-clause-causes : goal.returns-in_ok-cleared-in-Hyper-clause-causes
+returns-in_ok-cleared-in-Hyper-clause-causes g c =
+    let task : Task = on_file Hyper c.in-Hyper.name c.in-Hyper.turns in
+    let now = g.F.Files.faults c.file.new.files in
+    let same = c.in_ok-cleared-in-Hyper.ensures.causes task (named_alone c.in-Hyper.name c.as_str.result.now c.as_str.ensures) in
+    rw c.in-Hyper.is (subst (λ (before : List ℕ → ℕ). Causes task before now c.hyper.result) same (c.hyper.ensures.causes task now))
+
+pub returns-in_err-cleared-in-Traces-clause-answer : goal.returns-in_err-cleared-in-Traces-clause-answer
+returns-in_err-cleared-in-Traces-clause-answer g c x e =
+    let p = err_from_is_err_and c.from_residual-in_err-cleared-in-Traces.result c.from_residual-in_err-cleared-in-Traces.ensures.1 in
+    rw (p.1, p.2, c.in-Traces.is) (task_stops x Traces c.in-Traces.turns c.in-Traces.name c.as_str-in-Traces.result.now c.as_str-in-Traces.ensures c.in_err-cleared-in-Traces.field-0.0 (c.in_err-cleared-in-Traces.ensures.answer Traces x e))
+
+pub returns-in_err-cleared-in-Traces-clause-causes : goal.returns-in_err-cleared-in-Traces-clause-causes
+returns-in_err-cleared-in-Traces-clause-causes g c =
+    let p = err_from_is_err_and c.from_residual-in_err-cleared-in-Traces.result c.from_residual-in_err-cleared-in-Traces.ensures.1 in
+    let task : Task = on_file Traces c.in-Traces.name c.in-Traces.turns in
+    rw (p.1, p.2, c.in-Traces.is) (c.in_err-cleared-in-Traces.ensures.causes task (named_alone c.in-Traces.name c.as_str-in-Traces.result.now c.as_str-in-Traces.ensures))
 
 pub returns-in_ok-cleared-in-Traces-clause-answer : goal.returns-in_ok-cleared-in-Traces-clause-answer
 returns-in_ok-cleared-in-Traces-clause-answer g c x e =
     let cleared = c.in_ok-cleared-in-Traces.cleared in
-    let q = program_tree (program_of cleared) in
-    let r = c.traces.result in
-    rw c.in-Traces.is (then_answers (FileOf x c.in-Traces.name c.in-Traces.turns) (λ p. Ok (traces_statement c.in-Traces.turns p)) q r
-    (subst (λ (n : List ℕ). (y : ProgramTree) × (q ≡ y) × FileOf x n c.in-Traces.turns (Ok y)) c.as_str-in-Traces.ensures (c.in_ok-cleared-in-Traces.ensures.answer x e))
-    (subst (λ (n : ℕ). Answers ShowsStatement r (Gives (Ok (traces_statement n q)))) c.in_ok-cleared-in-Traces.ensures.turns
-    (made_answers ShowsStatement r (traces_statement (turns_of cleared) q) c.traces.ensures.states c.traces.ensures.memory)))
+    rw c.in-Traces.is (task_answers x Traces c.in-Traces.turns c.in-Traces.name c.as_str-in-Traces.result.now c.as_str-in-Traces.ensures (program_tree (program_of cleared)) (turns_of cleared) c.in_ok-cleared-in-Traces.ensures.turns
+    c.traces.result (c.in_ok-cleared-in-Traces.ensures.answer Traces x e) c.traces.ensures.answer)
+
+pub returns-in_ok-cleared-in-Traces-clause-causes : goal.returns-in_ok-cleared-in-Traces-clause-causes
+returns-in_ok-cleared-in-Traces-clause-causes g c =
+    let task : Task = on_file Traces c.in-Traces.name c.in-Traces.turns in
+    let now = g.F.Files.faults c.file-in-Traces.new.files in
+    let same = c.in_ok-cleared-in-Traces.ensures.causes task (named_alone c.in-Traces.name c.as_str-in-Traces.result.now c.as_str-in-Traces.ensures) in
+    rw c.in-Traces.is (subst (λ (before : List ℕ → ℕ). Causes task before now c.traces.result) same (c.traces.ensures.causes task now))
+
+pub returns-in_err-cleared-in-Channel-clause-answer : goal.returns-in_err-cleared-in-Channel-clause-answer
+returns-in_err-cleared-in-Channel-clause-answer g c x e =
+    let p = err_from_is_err_and c.from_residual-in_err-cleared-in-Channel.result c.from_residual-in_err-cleared-in-Channel.ensures.1 in
+    rw (p.1, p.2, c.in-Channel.is) (task_stops x Channel c.in-Channel.turns c.in-Channel.name c.as_str-in-Channel.result.now c.as_str-in-Channel.ensures c.in_err-cleared-in-Channel.field-0.0 (c.in_err-cleared-in-Channel.ensures.answer Channel x e))
+
+pub returns-in_err-cleared-in-Channel-clause-causes : goal.returns-in_err-cleared-in-Channel-clause-causes
+returns-in_err-cleared-in-Channel-clause-causes g c =
+    let p = err_from_is_err_and c.from_residual-in_err-cleared-in-Channel.result c.from_residual-in_err-cleared-in-Channel.ensures.1 in
+    let task : Task = on_file Channel c.in-Channel.name c.in-Channel.turns in
+    rw (p.1, p.2, c.in-Channel.is) (c.in_err-cleared-in-Channel.ensures.causes task (named_alone c.in-Channel.name c.as_str-in-Channel.result.now c.as_str-in-Channel.ensures))
+
+pub returns-in_ok-cleared-in-Channel-clause-answer : goal.returns-in_ok-cleared-in-Channel-clause-answer
+returns-in_ok-cleared-in-Channel-clause-answer g c x e =
+    let cleared = c.in_ok-cleared-in-Channel.cleared in
+    rw c.in-Channel.is (task_answers x Channel c.in-Channel.turns c.in-Channel.name c.as_str-in-Channel.result.now c.as_str-in-Channel.ensures (program_tree (program_of cleared)) (turns_of cleared) c.in_ok-cleared-in-Channel.ensures.turns
+    c.channel.result (c.in_ok-cleared-in-Channel.ensures.answer Channel x e) c.channel.ensures.answer)
 
 pub returns-in_ok-cleared-in-Channel-clause-causes : goal.returns-in_ok-cleared-in-Channel-clause-causes
 returns-in_ok-cleared-in-Channel-clause-causes g c =
-    let names = files_of_task (task_of_job c.args.job.now) in
+    let task : Task = on_file Channel c.in-Channel.name c.in-Channel.turns in
     let now = g.F.Files.faults c.file-in-Channel.new.files in
-    subst (λ (before : List ℕ → ℕ). Causes names before now c.channel.result) c.in_ok-cleared-in-Channel.ensures.causes (c.channel.ensures.causes names now)
+    let same = c.in_ok-cleared-in-Channel.ensures.causes task (named_alone c.in-Channel.name c.as_str-in-Channel.result.now c.as_str-in-Channel.ensures) in
+    rw c.in-Channel.is (subst (λ (before : List ℕ → ℕ). Causes task before now c.channel.result) same (c.channel.ensures.causes task now refl))

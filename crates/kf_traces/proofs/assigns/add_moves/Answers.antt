@@ -1,8 +1,7 @@
 use Rattle.std.proofs.Common.{◌+◌, map, drop}
 use Rattle.std.proofs.lemmas.List.Elements.{recursion_from_All}
-use Rattle.kf_value.specs.Shapes.{shape_types, shape_sizes}
-use Rattle.kf_value.specs.Types.{product}
-use Rattle.kf_value.specs.Values.{IsWellFormed}
+use Rattle.kf_value.specs.Shapes.{shape_size, shape_types}
+use Rattle.kf_value.specs.Forms.{IsWellFormed}
 use Rattle.kf_value.proofs.ListLemmas.{each_at, left_step, mapped_read}
 use Rattle.kf_core.specs.Choices.{Weighted}
 use Rattle.kf_eval.specs.Choices.{weighted_tree}
@@ -20,7 +19,7 @@ moved-requires-clause-formed c =
 pub loop-choice-preserved : goal.loop-choice-preserved
 loop-choice-preserved c =
     let ts = shape_types c.args.shape.now in
-    let size = product (shape_sizes c.args.shape.now) in
+    let size = shape_size c.args.shape.now in
     let cs = c.args.choices.now in
     let i = c.loop-choice.choice-index in
     let rest = map weighted_tree (drop (i + 1) cs) in

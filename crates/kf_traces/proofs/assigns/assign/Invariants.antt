@@ -1,7 +1,6 @@
 use Rattle.std.proofs.Common.{[]}
-use Rattle.kf_value.specs.Shapes.{shape_types, shape_sizes}
-use Rattle.kf_value.specs.Types.{product}
-use Rattle.kf_core.specs.Dxs.{dx_tree}
+use Rattle.kf_value.specs.Shapes.{shape_size, shape_types}
+use Rattle.kf_core.specs.Views.{dx_tree}
 use Rattle.kf_traces.specs.Traced.{assign_all}
 use Rattle.kf_traces.proofs.Assigning.{GoesOn}
 use Rattle.kf_traces.proofs.assigns.assign.Given as goal
@@ -9,4 +8,4 @@ use Rattle.kf_traces.proofs.assigns.assign.Given as goal
 abbrev pub invariant-loop-store : goal.invariant-loop-store
 invariant-loop-store l =
     let go = assign_all (shape_types l.shape) l.slot (dx_tree l.dist) in
-    GoesOn go (product (shape_sizes l.shape)) l.store-iterator (go [] l.stores.entries) l.reached.entries
+    GoesOn go (shape_size l.shape) l.store-iterator (go [] l.stores.entries) l.reached.entries

@@ -1,47 +1,51 @@
-use Rattle.std.proofs.Common.{◌≡◌, ℕ, ◌==◌, ap, sym, subst, ◌∙◌}
-use Rattle.std.specs.Prelude.{filter}
-use Rattle.kf_value.specs.Shapes.{shape_sizes}
-use Rattle.kf_value.specs.Targets.{target_size}
+use Rattle.std.proofs.Common.{ap, sym, subst, ◌∙◌}
+use Rattle.kf_value.specs.Shapes.{shape_size, shape_sizes}
 use Rattle.kf_value.specs.Types.{product}
-use Rattle.kf_value.specs.Views.{items_of}
 use Rattle.kf_core.specs.Joint.{target_number}
-use Rattle.kf_core.specs.Programs.{program_tree}
-use Rattle.kf_hyper.specs.Columns.{IsBelow, weight_at}
-use Rattle.kf_hyper.specs.Sums.{summed}
-use Rattle.kf_traces.specs.Laws.{sum_of}
-use Rattle.kf_traces.proofs.Tabling.{gathers_more, gathered_weights, gathered_below, gathered_positive, gathered_some, if_so}
+use Rattle.kf_core.specs.Views.{program_tree}
+use Rattle.kf_hyper.specs.Projection.{at_places, projected}
+use Rattle.kf_hyper.specs.Shapes.{IsBelow}
+use Rattle.kf_traces.proofs.Numbering.{slots_within, slots_distinct, target_size_is, target_number_is}
+use Rattle.kf_traces.proofs.Tabling.{stores_positive, stores_some, only_pushed, alone_is_joint, alone_below, about_weights, about_below}
 use Rattle.kf_traces.proofs.columns.column.Goals as goal
 
-pub loop-store-preserved : goal.loop-store-preserved
-loop-store-preserved c =
-    let e : ℕ × ℕ = (c.in-Some.store.now, c.in-Some.weight.now) in
-    gathers_more (target_number (program_tree c.args.program.now)) (target_size (items_of c.args.program.now.target)) (product (shape_sizes c.args.program.now.shape)) c.loop-store.store-iterator c.next.new.self
-    c.args.stores.now.entries c.loop-store.sums.entries e c.in-Some.ensures.steps c.loop-store.invariant c.number_in.result c.add_weight.new.stores.entries c.number_in.ensures.number c.number_in.ensures.below
-    c.in_ok-add_weight.ensures
-
 pub column_of-requires-clause-positive : goal.column_of-requires-clause-positive
-column_of-requires-clause-positive c =
-    gathered_positive (target_number (program_tree c.args.program.now)) (target_size (items_of c.args.program.now.target)) (product (shape_sizes c.args.program.now.shape)) c.loop-store.store-iterator
-    c.args.stores.now.entries c.loop-store.sums.entries c.in-None.ensures.steps.0 c.loop-store.invariant
+column_of-requires-clause-positive c = stores_positive c.args.stores.entries c.requires.positive
 
 pub column_of-requires-clause-some : goal.column_of-requires-clause-some
-column_of-requires-clause-some c =
-    gathered_some (target_number (program_tree c.args.program.now)) (target_size (items_of c.args.program.now.target)) (product (shape_sizes c.args.program.now.shape)) c.loop-store.store-iterator
-    c.args.stores.now.entries c.loop-store.sums.entries c.in-None.ensures.steps.0 c.loop-store.invariant c.requires.some c.requires.positive
+column_of-requires-clause-some c = stores_some c.args.stores.entries c.requires.positive c.requires.some
+
+pub new-joint-requires : goal.new-joint-requires
+new-joint-requires c =
+    let column = c.in_ok-column_of.field-0 in
+    let one = only_pushed column c.new-columns.result.items c.push.new.self.items c.new.result c.new-columns.ensures.items c.in_ok-push.ensures.items c.new.ensures in
+    alone_is_joint c.args.scale c.args.stores.entries column c.new.result one c.in_ok-column_of.ensures (stores_some c.args.stores.entries c.requires.positive c.requires.some) c.requires.within
+    c.requires.narrow
+
+pub project-requires-clause-stores : goal.project-requires-clause-stores
+project-requires-clause-stores c =
+    let column = c.in_ok-column_of.field-0 in
+    let one = ap (λ j. j.columns) c.new-joint.ensures ∙ only_pushed column c.new-columns.result.items c.push.new.self.items c.new.result c.new-columns.ensures.items c.in_ok-push.ensures.items c.new.ensures in
+    alone_below (shape_size c.args.program.now.shape) c.args.stores.entries column c.new-joint.result.columns one c.in_ok-column_of.ensures c.requires.fits.below
+
+pub project-requires-clause-places : goal.project-requires-clause-places
+project-requires-clause-places c = slots_within (program_tree c.args.program.now) c.requires.checked
+
+pub project-requires-clause-apart : goal.project-requires-clause-apart
+project-requires-clause-apart c = slots_distinct (program_tree c.args.program.now) c.requires.checked
 
 pub returns-clause-weights : goal.returns-clause-weights
 returns-clause-weights c =
-    let number = target_number (program_tree c.args.program.now) in
-    let known =
-    gathered_weights number (target_size (items_of c.args.program.now.target)) (product (shape_sizes c.args.program.now.shape)) c.loop-store.store-iterator
-    c.args.stores.now.entries c.loop-store.sums.entries c.in-None.ensures.steps.0 c.loop-store.invariant in
-    if_so (λ column. column ≡ summed c.loop-store.sums.entries) (λ column. (x : ℕ) → weight_at column x ≡ sum_of (filter (λ e. number e.0 == x) c.args.stores.now.entries))
-    (λ column same x. ap (λ es. weight_at es x) same ∙ known x) c.column_of.result c.column_of.ensures
+    let p = program_tree c.args.program.now in
+    let column = c.in_ok-column_of.field-0 in
+    let one = ap (λ j. j.columns) c.new-joint.ensures ∙ only_pushed column c.new-columns.result.items c.push.new.self.items c.new.result c.new-columns.ensures.items c.in_ok-push.ensures.items c.new.ensures in
+    about_weights c.args.stores.entries column c.in_ok-column.column c.new-joint.result.columns c.in_ok-about.about.columns one c.in_ok-column_of.ensures c.in_ok-column.ensures.only
+    (projected (shape_sizes c.args.program.now.shape) c.args.program.now.target_slots) (target_number p) (shape_size c.args.program.now.shape)
+    (target_number_is p c.requires.checked c.projection_laws.ensures) c.requires.fits.below c.in_ok-about.ensures.weights
 
 pub returns-clause-below : goal.returns-clause-below
 returns-clause-below c =
-    let size = target_size (items_of c.args.program.now.target) in
-    let known =
-    gathered_below (target_number (program_tree c.args.program.now)) size (product (shape_sizes c.args.program.now.shape)) c.loop-store.store-iterator c.args.stores.now.entries c.loop-store.sums.entries
-    c.in-None.ensures.steps.0 c.loop-store.invariant in
-    if_so (λ column. column ≡ summed c.loop-store.sums.entries) (λ column. IsBelow size column) (λ column same. subst (IsBelow size) (sym same) known) c.column_of.result c.column_of.ensures
+    let p = program_tree c.args.program.now in
+    let room = product (at_places c.args.program.now.target_slots (shape_sizes c.args.program.now.shape)) in
+    subst (λ n. IsBelow n c.in_ok-column.column) (sym (target_size_is p c.requires.checked))
+    (about_below room c.in_ok-column.column c.in_ok-about.about.columns c.in_ok-column.ensures.only c.in_ok-about.ensures.below)

@@ -1,6 +1,6 @@
 use Rattle.std.proofs.Common.{◌≡◌, ◌∙◌, ◌-◌, ◌<◌, sym, subst, map, arith, length}
 use Rattle.kf_value.specs.Views.{value_tree}
-use Rattle.kf_ops.specs.Values.{truth}
+use Rattle.kf_value.specs.Values.{truth}
 use Rattle.kf_traces.specs.Visits.{last_true}
 use Rattle.kf_traces.proofs.Walking.{last_at}
 use Rattle.kf_traces.proofs.states.ends_true.Goals as goal

@@ -1,7 +1,6 @@
 use Rattle.std.proofs.Common.{ℕ, [], ap, map, Ok}
-use Rattle.kf_value.specs.Shapes.{shape_types, shape_sizes}
-use Rattle.kf_value.specs.Types.{product}
-use Rattle.kf_core.specs.Dxs.{dx_tree}
+use Rattle.kf_value.specs.Shapes.{shape_size, shape_types}
+use Rattle.kf_core.specs.Views.{dx_tree}
 use Rattle.kf_core.specs.Runs.{tried}
 use Rattle.kf_eval.specs.Choices.{weighted_trees}
 use Rattle.kf_traces.specs.Traced.{split as split_of}
@@ -16,7 +15,7 @@ loop-store-preserved-in-Some-2 c =
     let chosen = rw c.in-Some-2.is at c.in_ok-choice.ensures.choice in
     let sum = rw c.in-Some-2.is at c.in_ok-choice.ensures.total in
     let made = rw c.as_slice.ensures at c.in_ok-add_shares-in-Some-2.ensures in
-    split_more tries (product (shape_sizes c.args.shape.now)) c.loop-store.store-iterator c.next.new.self e (split_of tries [] c.args.stores.now.entries) (map part_of c.loop-store.parts.items)
+    split_more tries (shape_size c.args.shape.now) c.loop-store.store-iterator c.next.new.self e (split_of tries [] c.args.stores.now.entries) (map part_of c.loop-store.parts.items)
     c.in-Some.ensures.steps c.loop-store.invariant (weighted_trees c.in-Some-2.choice) c.in-Some-2.choice.total chosen sum (map part_of c.add_shares.new.parts.items) made
 
 pub loop-store-preserved : goal.loop-store-preserved
@@ -24,11 +23,11 @@ loop-store-preserved c =
     let tries = tried (shape_types c.args.shape.now) (dx_tree c.args.dist.now) in
     let e : ℕ × ℕ = (c.in-Some.store.now, c.in-Some.weight.now) in
     let fault = c.in_ok-choice.ensures.fault (ap (λ o. Ok o) c.in-None-2.is) in
-    split_past tries (product (shape_sizes c.args.shape.now)) c.loop-store.store-iterator c.next.new.self e (split_of tries [] c.args.stores.now.entries) (map part_of c.loop-store.parts.items)
+    split_past tries (shape_size c.args.shape.now) c.loop-store.store-iterator c.next.new.self e (split_of tries [] c.args.stores.now.entries) (map part_of c.loop-store.parts.items)
     c.in-Some.ensures.steps c.loop-store.invariant fault.0 fault.1
 
 pub returns-clause-below : goal.returns-clause-below
-returns-clause-below c = all_low (product (shape_sizes c.args.shape.now)) (map part_of c.loop-store.parts.items) c.loop-store.invariant.held
+returns-clause-below c = all_low (shape_size c.args.shape.now) (map part_of c.loop-store.parts.items) c.loop-store.invariant.held
 
 pub returns-clause-within : goal.returns-clause-within
 returns-clause-within c = all_small _ (map part_of c.loop-store.parts.items) c.loop-store.invariant.within

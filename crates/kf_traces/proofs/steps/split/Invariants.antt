@@ -1,7 +1,6 @@
 use Rattle.std.proofs.Common.{[], map}
-use Rattle.kf_value.specs.Shapes.{shape_types, shape_sizes}
-use Rattle.kf_value.specs.Types.{product}
-use Rattle.kf_core.specs.Dxs.{dx_tree}
+use Rattle.kf_value.specs.Shapes.{shape_size, shape_types}
+use Rattle.kf_core.specs.Views.{dx_tree}
 use Rattle.kf_core.specs.Runs.{tried}
 use Rattle.kf_traces.specs.Traced.{split as split_of}
 use Rattle.kf_traces.specs.Views.{part_of}
@@ -11,4 +10,4 @@ use Rattle.kf_traces.proofs.steps.split.Given as goal
 abbrev pub invariant-loop-store : goal.invariant-loop-store
 invariant-loop-store l =
     let tries = tried (shape_types l.shape) (dx_tree l.dist) in
-    SplitsOn tries (product (shape_sizes l.shape)) l.store-iterator (split_of tries [] l.stores.entries) (map part_of l.parts.items)
+    SplitsOn tries (shape_size l.shape) l.store-iterator (split_of tries [] l.stores.entries) (map part_of l.parts.items)

@@ -2,15 +2,13 @@ use Rattle.std.proofs.Common.{rules, ◌≡◌, ◌+◌, ◌-◌, [], ◌∷◌,
 use Rattle.std.proofs.lemmas.List.Elements.{All-cons, All-map, All-nil, All-same}
 use Rattle.std.specs.Prelude.{flat_map}
 use Rattle.std.specs.Vec.Iter.{into_iter_items}
-use Rattle.kf_value.specs.Shapes.{shape_types, shape_sizes}
-use Rattle.kf_value.specs.Types.{product}
+use Rattle.kf_value.specs.Shapes.{shape_size, shape_types}
 use Rattle.kf_value.proofs.ListLemmas.{left_step, left_end, map-reverse}
 use Rattle.kf_core.specs.declared.st.St.{the_lemmas}
-use Rattle.kf_core.specs.Dxs.{dx_tree}
+use Rattle.kf_core.specs.Views.{dx_tree, st_tree}
 use Rattle.kf_core.specs.Runs.{tried}
-use Rattle.kf_core.specs.Sts.{st_tree}
 use Rattle.kf_eval.specs.Kinds.{shape_kinds}
-use Rattle.kf_support.proofs.Passing as pass
+use Rattle.kf_core.proofs.SoundParts as pass
 use Rattle.kf_traces.specs.declared.walks.Visit.TheVariants as code
 use Rattle.kf_traces.specs.Traced.{Traced, loop_traced, traced}
 use Rattle.kf_traces.specs.Views.{traced_of}
@@ -23,7 +21,7 @@ use Rattle.kf_traces.proofs.walks.+walk.Goals.{walk-then-ends_true+in_ok-walked-
 
 pub ask_again-returns-clause-fits : goal.ask_again-returns-clause-fits
 ask_again-returns-clause-fits t c =
-    let size = product (shape_sizes c.args.shape.now) in
+    let size = shape_size c.args.shape.now in
     let fits = λ (v : VisitTree). walking.InSize size (visitor v) in
     let asks = λ (s : Traced). Asks s (c.args.rest - 1) in
     All-same fits (map visit_of c.in_ok-asking.asking.items) (map asks (map traced_of c.in_ok-walked.walked.items)) c.in_ok-asking.ensures
@@ -31,7 +29,7 @@ ask_again-returns-clause-fits t c =
 
 pub turn-ask_again-requires : goal.turn-ask_again-requires
 turn-ask_again-requires t c =
-    let size = product (shape_sizes c.args.shape.now) in
+    let size = shape_size c.args.shape.now in
     let next = visits_next (walking.ends_of c.args.shape.now c.args.turns (map st_tree c.args.body.now)) c.args.rest in (
       search (rules, the_lemmas),
       (
@@ -43,7 +41,7 @@ turn-ask_again-requires t c =
 
 pub turn-loop-state-preserved-then-ends_true : goal.turn-loop-state-preserved-then-ends_true
 turn-loop-state-preserved-then-ends_true t c =
-    let size = product (shape_sizes c.args.shape.now) in
+    let size = shape_size c.args.shape.now in
     let body = walking.ends_of c.args.shape.now c.args.turns (map st_tree c.args.body.now) in
     walking.goes_step (visits_next body c.args.rest) (walking.InSize size) (λ v. walking.InSize size (visitor v)) (flat_map (visits_next body c.args.rest) (map traced_of c.args.states.items)) (map visit_of c.loop-state.visits.items) (map traced_of (into_iter_items c.loop-state.state-iterator)) (traced_of c.in-Some.state)
     (map traced_of (into_iter_items c.next.new.self)) (ap (map traced_of) c.in-Some.ensures.steps.0) c.loop-state.invariant
@@ -53,7 +51,7 @@ turn-loop-state-preserved-then-ends_true t c =
 
 pub turn-loop-state-preserved : goal.turn-loop-state-preserved
 turn-loop-state-preserved t c =
-    let size = product (shape_sizes c.args.shape.now) in
+    let size = shape_size c.args.shape.now in
     let body = walking.ends_of c.args.shape.now c.args.turns (map st_tree c.args.body.now) in
     let s = traced_of c.in-Some.state in
     let kept = λ (v : VisitTree). walking.InSize size (visitor v) in
@@ -82,7 +80,7 @@ walk-walk_while-requires t c =
 
 pub walk-loop-state-preserved : goal.walk-loop-state-preserved
 walk-loop-state-preserved t c =
-    let size = product (shape_sizes c.args.shape.now) in
+    let size = shape_size c.args.shape.now in
     let ts = shape_types c.args.shape.now in
     let next = form.branch_of ts c.args.turns c.in-If.yes c.in-If.no in
     let s = traced_of c.in-Some.state in
@@ -106,7 +104,7 @@ walk-loop-state-preserved t c =
 
 pub walk-walk_all-requires : goal.walk-walk_all-requires
 walk-walk_all-requires t c =
-    let size = product (shape_sizes c.args.shape.now) in
+    let size = shape_size c.args.shape.now in
     let ts = shape_types c.args.shape.now in
     let next = form.branch_of ts c.args.turns c.in-If.yes c.in-If.no in
     let s = traced_of c.in-Some.state in
@@ -116,7 +114,7 @@ walk-walk_all-requires t c =
 
 pub walk-walk_all-requires-else-ends_true : goal.walk-walk_all-requires-else-ends_true
 walk-walk_all-requires-else-ends_true t c =
-    let size = product (shape_sizes c.args.shape.now) in
+    let size = shape_size c.args.shape.now in
     let ts = shape_types c.args.shape.now in
     let next = form.branch_of ts c.args.turns c.in-If.yes c.in-If.no in
     let s = traced_of c.in-Some.state in
@@ -142,7 +140,7 @@ walk_all-returns-clause-walked t c =
 
 pub walk_each-walk-requires : goal.walk_each-walk-requires
 walk_each-walk-requires t c =
-    let size = product (shape_sizes c.args.shape.now) in
+    let size = shape_size c.args.shape.now in
     let next = traced (shape_types c.args.shape.now) c.args.turns (st_tree c.args.statement.now) in (
       search (rules, the_lemmas),
       (
@@ -154,7 +152,7 @@ walk_each-walk-requires t c =
 
 pub walk_each-loop-state-preserved : goal.walk_each-loop-state-preserved
 walk_each-loop-state-preserved t c =
-    let size = product (shape_sizes c.args.shape.now) in
+    let size = shape_size c.args.shape.now in
     let next = traced (shape_types c.args.shape.now) c.args.turns (st_tree c.args.statement.now) in
     walking.goes_step next (walking.InSize size) (walking.InSize size) (flat_map next (map traced_of c.args.states.items)) (map traced_of c.loop-state.next.items) (map traced_of (into_iter_items c.loop-state.state-iterator)) (traced_of c.in-Some.state) (map traced_of (into_iter_items c.next.new.self))
     (ap (map traced_of) c.in-Some.ensures.steps.0) c.loop-state.invariant
@@ -163,7 +161,7 @@ walk_each-loop-state-preserved t c =
 
 pub walk_while-leak-requires-clause-fits : goal.walk_while-leak-requires-clause-fits
 walk_while-leak-requires-clause-fits t c =
-    let size = product (shape_sizes c.args.shape.now) in
+    let size = shape_size c.args.shape.now in
     let guard = tried (shape_types c.args.shape.now) (dx_tree c.args.test.now) in
     let body = walking.ends_of c.args.shape.now c.args.turns (map st_tree c.args.body.now) in
     let whole = loop_traced c.args.turns guard body (traced_of c.args.from) in
@@ -177,7 +175,7 @@ walk_while-leak-requires-clause-fits t c =
 
 pub walk_while-loop-visit-preserved : goal.walk_while-loop-visit-preserved
 walk_while-loop-visit-preserved t c =
-    let size = product (shape_sizes c.args.shape.now) in
+    let size = shape_size c.args.shape.now in
     let guard = tried (shape_types c.args.shape.now) (dx_tree c.args.test.now) in
     let body = walking.ends_of c.args.shape.now c.args.turns (map st_tree c.args.body.now) in
     let whole = loop_traced c.args.turns guard body (traced_of c.args.from) in
@@ -197,7 +195,7 @@ walk_while-loop-visit-preserved t c =
 
 pub walk_while-loop-visit-smaller : goal.walk_while-loop-visit-smaller
 walk_while-loop-visit-smaller t c =
-    let size = product (shape_sizes c.args.shape.now) in
+    let size = shape_size c.args.shape.now in
     let guard = tried (shape_types c.args.shape.now) (dx_tree c.args.test.now) in
     let body = walking.ends_of c.args.shape.now c.args.turns (map st_tree c.args.body.now) in
     let whole = loop_traced c.args.turns guard body (traced_of c.args.from) in
@@ -217,7 +215,7 @@ walk_while-loop-visit-smaller t c =
 
 pub walk-returns-in-None-clause-walked : goal.walk-returns-in-None-clause-walked
 walk-returns-in-None-clause-walked t c =
-    let size = product (shape_sizes c.args.shape.now) in
+    let size = shape_size c.args.shape.now in
     let ts = shape_types c.args.shape.now in
     let next = form.branch_of ts c.args.turns c.in-If.yes c.in-If.no in
     let states = map traced_of (into_iter_items c.into_iter-state-iterator.result) in
@@ -228,7 +226,7 @@ walk-returns-in-None-clause-walked t c =
 
 pub walk_while-loop-visit-preserved-in-Continue-branch-2 : goal.walk_while-loop-visit-preserved-in-Continue-branch-2
 walk_while-loop-visit-preserved-in-Continue-branch-2 t c =
-    let size = product (shape_sizes c.args.shape.now) in
+    let size = shape_size c.args.shape.now in
     let guard = tried (shape_types c.args.shape.now) (dx_tree c.args.test.now) in
     let body = walking.ends_of c.args.shape.now c.args.turns (map st_tree c.args.body.now) in
     let whole = loop_traced c.args.turns guard body (traced_of c.args.from) in
@@ -242,7 +240,7 @@ walk_while-loop-visit-preserved-in-Continue-branch-2 t c =
 
 pub walk_while-loop-visit-smaller-in-Continue-branch-2 : goal.walk_while-loop-visit-smaller-in-Continue-branch-2
 walk_while-loop-visit-smaller-in-Continue-branch-2 t c =
-    let size = product (shape_sizes c.args.shape.now) in
+    let size = shape_size c.args.shape.now in
     let guard = tried (shape_types c.args.shape.now) (dx_tree c.args.test.now) in
     let body = walking.ends_of c.args.shape.now c.args.turns (map st_tree c.args.body.now) in
     let whole = loop_traced c.args.turns guard body (traced_of c.args.from) in

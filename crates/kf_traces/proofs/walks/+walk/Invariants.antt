@@ -1,11 +1,9 @@
 use Rattle.std.proofs.Common.{map, drop}
 use Rattle.std.specs.Prelude.{flat_map}
 use Rattle.std.specs.Vec.Iter.{into_iter_items}
-use Rattle.kf_value.specs.Shapes.{shape_types, shape_sizes}
-use Rattle.kf_value.specs.Types.{product}
-use Rattle.kf_core.specs.Dxs.{dx_tree}
+use Rattle.kf_value.specs.Shapes.{shape_size, shape_types}
+use Rattle.kf_core.specs.Views.{dx_tree, st_tree}
 use Rattle.kf_core.specs.Runs.{tried}
-use Rattle.kf_core.specs.Sts.{st_tree}
 use Rattle.kf_traces.specs.Traced.{loop_traced, traced}
 use Rattle.kf_traces.specs.Views.{traced_of}
 use Rattle.kf_traces.specs.Visits.{visit_of, visitor, visits_next}
@@ -16,13 +14,13 @@ use Rattle.kf_traces.proofs.walks.+walk.Given as goal
 
 abbrev pub invariant-walk-loop-state : goal.invariant-walk-loop-state
 invariant-walk-loop-state l =
-    let size = product (shape_sizes l.shape) in
+    let size = shape_size l.shape in
     let next = branch_of (shape_types l.shape) l.turns l.yes l.no in
     GoesOn next (InSize size) (InSize size) (flat_map next (map traced_of (into_iter_items l.initial.state-iterator))) (map traced_of l.next.items) (map traced_of (into_iter_items l.state-iterator))
 
 abbrev pub invariant-walk_each-loop-state : goal.invariant-walk_each-loop-state
 invariant-walk_each-loop-state l =
-    let size = product (shape_sizes l.shape) in
+    let size = shape_size l.shape in
     let next = traced (shape_types l.shape) l.turns (st_tree l.statement) in
     GoesOn next (InSize size) (InSize size) (flat_map next (map traced_of l.fn.states.items)) (map traced_of l.next.items) (map traced_of (into_iter_items l.state-iterator))
 
@@ -32,7 +30,7 @@ invariant-walk_all-loop-statement l =
 
 abbrev pub invariant-turn-loop-state : goal.invariant-turn-loop-state
 invariant-turn-loop-state l =
-    let size = product (shape_sizes l.shape) in
+    let size = shape_size l.shape in
     let next = visits_next (ends_of l.shape l.turns (map st_tree l.body)) l.rest in
     GoesOn next (InSize size) (λ v. InSize size (visitor v)) (flat_map next (map traced_of l.fn.states.items)) (map visit_of l.visits.items) (map traced_of (into_iter_items l.state-iterator))
 
@@ -40,7 +38,7 @@ abbrev pub invariant-walk_while-loop-visit : goal.invariant-walk_while-loop-visi
 invariant-walk_while-loop-visit l =
     let guard = tried (shape_types l.shape) (dx_tree l.test) in
     let body = ends_of l.shape l.turns (map st_tree l.body) in
-    StackOn guard body (product (shape_sizes l.shape)) (loop_traced l.turns guard body (traced_of l.fn.from)) (map traced_of l.ended.items) (map visit_of l.visits.items)
+    StackOn guard body (shape_size l.shape) (loop_traced l.turns guard body (traced_of l.fn.from)) (map traced_of l.ended.items) (map visit_of l.visits.items)
 
 abbrev pub decreases-walk_while-loop-visit : goal.decreases-walk_while-loop-visit
 decreases-walk_while-loop-visit l =

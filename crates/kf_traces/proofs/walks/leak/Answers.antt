@@ -1,7 +1,6 @@
 use Rattle.std.proofs.Common.{map}
 use Rattle.std.proofs.lemmas.List.Elements.{All-same}
-use Rattle.kf_value.specs.Shapes.{shape_sizes}
-use Rattle.kf_value.specs.Types.{product}
+use Rattle.kf_value.specs.Shapes.{shape_size}
 use Rattle.kf_value.specs.Views.{value_tree}
 use Rattle.kf_traces.specs.Traced.{behind}
 use Rattle.kf_traces.specs.Views.{part_of, traced_of}
@@ -10,7 +9,7 @@ use Rattle.kf_traces.proofs.walks.leak.Goals as goal
 
 pub returns-clause-fits : goal.returns-clause-fits
 returns-clause-fits c =
-    let size = product (shape_sizes c.args.shape.now) in
+    let size = shape_size c.args.shape.now in
     let t = map value_tree c.args.from.trace.items in
     let parts = map part_of c.in_ok-parts.parts.items in
     All-same (InSize size) (map traced_of c.in_ok-states.states.items) (map (behind t) parts) c.in_ok-states.ensures (leaked_fit size t parts c.in_ok-parts.ensures.below c.in_ok-parts.ensures.within)

@@ -1,7 +1,7 @@
 use Rattle.std.proofs.Common.{◌≡◌, List, ap, subst, map, arith}
 use Rattle.std.specs.Prelude.{IfOk}
-use Rattle.kf_core.specs.Programs.{program_tree}
-use Rattle.kf_support.proofs.Declaring.{decl_kinded, whole_sound}
+use Rattle.kf_core.specs.Views.{program_tree}
+use Rattle.kf_core.proofs.SoundParts.{decl_kinded, whole_sound}
 use Rattle.kf_traces.specs.Traced.{Traced, program_traced}
 use Rattle.kf_traces.specs.Views.{traced_of}
 use Rattle.kf_traces.proofs.WalkingPrograms as programs

@@ -1,4 +1,4 @@
-use Rattle.kf_core.specs.Programs.{program_tree}
+use Rattle.kf_core.specs.Views.{program_tree}
 use Rattle.kf_traces.specs.Traced.{program_traced}
 use Rattle.kf_traces.specs.Views.{traced_of}
 use Rattle.kf_traces.proofs.WalkingPrograms.{DeclsOn}

@@ -1,6 +1,6 @@
 use Rattle.std.proofs.Common.{sym, subst}
 use Rattle.kf_core.specs.Checked.{IsChecked}
-use Rattle.kf_core.specs.Programs.{program_tree}
+use Rattle.kf_core.specs.Views.{program_tree}
 use Rattle.kf_core.proofs.Unsquashed.{checked_again}
 use Rattle.kf_support.specs.Cleared.{program_of}
 use Rattle.kf_traces.proofs.walks.walk_program.Goals as goal

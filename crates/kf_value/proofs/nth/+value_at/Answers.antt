@@ -1,5 +1,7 @@
 use Rattle.std.proofs.Common.{◌≡◌, ◌+◌, ◌/◌, ◌<◌, Some, pos, ◌+ℤ◌, to_z, of_z, w64, map, drop, slice_get, sym, ap, ◌∙◌, subst, arith}
-use Rattle.kf_value.specs.Types.{type_tree, type_parts, Range, TupleOf, SetOf, values, count, HasSize, HasNumber}
+use Rattle.kf_value.specs.Types.{type_parts, Range, TupleOf, SetOf, values, count}
+use Rattle.kf_value.specs.Sizes.{HasSize, HasNumber}
+use Rattle.kf_value.specs.TypeViews.{type_tree}
 use Rattle.kf_value.specs.Values.{Whole, Tuple, Set, parts}
 use Rattle.kf_value.specs.Views.{value_tree}
 use Rattle.kf_value.proofs.Trees.{type_tree-Bool, type_tree-Int, value_tree-Bool, value_tree-Int}

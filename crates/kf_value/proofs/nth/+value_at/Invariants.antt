@@ -1,5 +1,5 @@
 use Rattle.std.proofs.Common.{◌%◌, map, drop}
-use Rattle.kf_value.specs.Types.{type_tree}
+use Rattle.kf_value.specs.TypeViews.{type_tree}
 use Rattle.kf_value.proofs.Finding.{PartsFound, ElementsFound}
 use Rattle.kf_value.proofs.nth.+value_at.Given as goal
 

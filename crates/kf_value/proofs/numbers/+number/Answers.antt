@@ -1,6 +1,7 @@
 use Rattle.std.proofs.Common.{◌≡◌, ◌*◌, ◌<◌, Some, map, slice_get, sym, ap, ◌∙◌, arith}
 use Rattle.std.proofs.lemmas.Nat.{one_shl}
-use Rattle.kf_value.specs.Types.{Boolean, TupleOf, SetOf, type_tree, type_parts, values, count}
+use Rattle.kf_value.specs.Types.{Boolean, TupleOf, SetOf, type_parts, values, count}
+use Rattle.kf_value.specs.TypeViews.{type_tree}
 use Rattle.kf_value.specs.Values.{Tuple, Set, parts}
 use Rattle.kf_value.specs.Views.{value_tree, type_trees}
 use Rattle.kf_value.proofs.ByForm.{place_below, truth_place, no_boolean, no_range, no_tuple, no_set_value}

@@ -1,5 +1,5 @@
 use Rattle.std.proofs.Common.{drop}
-use Rattle.kf_value.specs.Types.{type_tree}
+use Rattle.kf_value.specs.TypeViews.{type_tree}
 use Rattle.kf_value.proofs.Numbering.{ElementsLeft, PartsLeft}
 use Rattle.kf_value.proofs.numbers.+number.Given as goal
 

@@ -1,5 +1,7 @@
 use Rattle.std.proofs.Common.{◌≡◌, ◌<◌, ◌^◌, ◌-◌, ◌++◌, map, min, Some, sym, ap, ◌∙◌, subst, arith, rules}
-use Rattle.kf_value.specs.Targets.{item_of, target_size, target_value_text}
+use Rattle.kf_value.specs.Targets.{target_value_text}
+use Rattle.kf_value.specs.Numbers.{target_size}
+use Rattle.kf_value.specs.TypeViews.{item_of}
 use Rattle.kf_value.specs.Views.{items_of}
 use Rattle.kf_value.proofs.Apart.{items_apart}
 use Rattle.kf_value.proofs.Items.{all_of_items}

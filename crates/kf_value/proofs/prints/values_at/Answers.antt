@@ -1,5 +1,6 @@
 use Rattle.std.proofs.Common.{◌≡◌, ◌+◌, ◌/◌, Some, map, drop, slice_get, sym, ap, ◌∙◌, arith}
-use Rattle.kf_value.specs.Targets.{item_of, target_size}
+use Rattle.kf_value.specs.Numbers.{target_size}
+use Rattle.kf_value.specs.TypeViews.{item_of}
 use Rattle.kf_value.specs.Views.{value_tree}
 use Rattle.kf_value.proofs.Finding.{find_parts_start, find_weight, find_parts_step, find_parts_end}
 use Rattle.kf_value.proofs.Items.{item_type, items_sized, no_first_fault, size_of_items, values_of_items}

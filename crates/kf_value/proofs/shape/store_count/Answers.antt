@@ -1,6 +1,7 @@
 use Rattle.std.proofs.Common.{◌≡◌, ◌+◌, None, map, drop, arith}
 use Rattle.std.proofs.lemmas.List.Elements.{All-head}
-use Rattle.kf_value.specs.Types.{type_tree, fault_of}
+use Rattle.kf_value.specs.Sizes.{fault_of}
+use Rattle.kf_value.specs.TypeViews.{type_tree}
 use Rattle.kf_value.proofs.ListLemmas.{left_step, left_end}
 use Rattle.kf_value.proofs.Widening.{count_start, count_step, count_end}
 use Rattle.kf_value.proofs.shape.store_count.Goals as goal

@@ -1,5 +1,5 @@
 use Rattle.std.proofs.Common.{map, drop}
-use Rattle.kf_value.specs.Types.{type_tree}
+use Rattle.kf_value.specs.TypeViews.{type_tree}
 use Rattle.kf_value.proofs.Widening.{CountedSoFar}
 use Rattle.kf_value.proofs.shape.store_count.Given as goal
 

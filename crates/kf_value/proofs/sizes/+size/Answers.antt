@@ -1,6 +1,7 @@
 use Rattle.std.proofs.Common.{◌≡◌, ◌+◌, Ok, sym, ap, ◌∙◌, map, drop, arith}
 use Rattle.kf_value.proofs.ListLemmas.{left_step, left_end}
-use Rattle.kf_value.specs.Types.{type_tree, capped_product}
+use Rattle.kf_value.specs.Sizes.{capped_product}
+use Rattle.kf_value.specs.TypeViews.{type_tree}
 use Rattle.kf_value.specs.Views.{type_trees}
 use Rattle.kf_value.proofs.Sizing.{capped_after, capped_start, capped_end, capped_step, judged_tuple}
 use Rattle.kf_value.proofs.Trees.{type_tree-Tuple}

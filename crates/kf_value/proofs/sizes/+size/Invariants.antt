@@ -1,5 +1,6 @@
 use Rattle.std.proofs.Common.{◌≡◌, ◌<◌, ◌^◌, map, drop}
-use Rattle.kf_value.specs.Types.{type_tree, capped_product}
+use Rattle.kf_value.specs.Sizes.{capped_product}
+use Rattle.kf_value.specs.TypeViews.{type_tree}
 use Rattle.kf_value.proofs.Sizing.{capped_after}
 use Rattle.kf_value.proofs.sizes.+size.Given as goal
 

@@ -1,5 +1,5 @@
 use Rattle.std.proofs.Common.{◌≡◌, map, take}
-use Rattle.kf_value.specs.Types.{type_tree}
+use Rattle.kf_value.specs.TypeViews.{type_tree}
 use Rattle.kf_value.proofs.ty.+copy_ty.Given as goal
 
 abbrev pub invariant-TyList::copy-loop-ty : goal.invariant-TyList::copy-loop-ty

@@ -6,9 +6,12 @@ use Rattle.kf_hyper.specs.declared.entry.Entry.{Entry}
 use Rattle.kf_hyper.specs.declared.class.Class.{Class}
 use Rattle.kf_hyper.specs.Columns.{weight_at, total}
 use Rattle.kf_hyper.specs.Hypers.{Inner}
-use Rattle.kf_hyper.specs.Shapes.{inner_of}
-use Rattle.kf_hyper.specs.Sums.{summed, ArePositive, average_weight, joint_weight}
-use Rattle.kf_hyper.proofs.Reading.{whole_some, times_some, times_whole}
+use Rattle.kf_value.specs.Numbers.{target_size}
+use Rattle.kf_hyper.specs.Shapes.{IsBelow, inner_of}
+use Rattle.kf_hyper.specs.Views.{target_of}
+use Rattle.kf_hyper.specs.Sums.{summed, ArePositive}
+use Rattle.kf_hyper.specs.Averages.{average_weight, joint_weight}
+use Rattle.kf_hyper.proofs.Reading.{whole_some, times_some, times_whole, values_within}
 use Rattle.kf_hyper.proofs.Averaging.{one_more, one_more_le, all_seen}
 use Rattle.kf_hyper.proofs.hyper.Hyper.average.Goals as goal
 
@@ -46,6 +49,7 @@ loop-class-init c = record {
   weights = λ x. rw c.new-sums.ensures.empty refl;
   totals = rw c.new-sums.ensures.empty refl;
   positive = rw c.new-sums.ensures.empty (λ k d within. absurd (omega arith));
+  below = rw c.new-sums.ensures.empty (λ k d within. absurd (omega arith));
 }
 
 pub loop-class-preserved : goal.loop-class-preserved
@@ -72,6 +76,10 @@ loop-class-preserved c =
         one_more inner_of (λ (j : Inner). j.total) c.args.self.now.classes.items c.loop-class.class-index c.class-item.result inside is,
       );
       positive = c.in_ok-add_all.ensures.positive c.loop-class.invariant.positive;
+      below = c.in_ok-add_all.ensures.below (target_size (target_of c.args.self.now))
+          (subst (IsBelow (target_size (target_of c.args.self.now))) (sym column)
+          (values_within c.args.self.now.classes.items c.loop-class.class-index c.class-item.result _ _ c.args.self.now.shape (rw length-map inside) is))
+          c.loop-class.invariant.below;
     }
 
 pub column_of-requires : goal.column_of-requires
@@ -88,9 +96,21 @@ column_of-requires c =
       );
     }
 
-pub returns : goal.returns
-returns c =
+pub returns-clause-weights : goal.returns-clause-weights
+returns-clause-weights c =
     let past = rw c.deref-class-items.ensures.value at c.loop-class-test.false in
     IfOk-weaker c.column_of.result (λ column. column ≡ summed c.loop-class.sums.entries) (λ column. (x : ℕ) → weight_at column x ≡ average_weight (map inner_of c.args.self.now.classes.items) x)
     (λ column is x. ap (λ (es : List Entry). weight_at es x) is ∙ c.loop-class.invariant.weights x ∙ all_seen inner_of (joint_weight x) c.args.self.now.classes.items c.loop-class.class-index past)
     c.column_of.ensures
+
+pub returns-clause-total : goal.returns-clause-total
+returns-clause-total c =
+    let past = rw c.deref-class-items.ensures.value at c.loop-class-test.false in
+    IfOk-weaker c.column_of.result (λ column. column ≡ summed c.loop-class.sums.entries) (λ column. total column ≡ c.args.self.now.scale)
+    (λ column is. ap total is ∙ c.loop-class.invariant.totals ∙ all_seen inner_of (λ (j : Inner). j.total) c.args.self.now.classes.items c.loop-class.class-index past ∙ c.args.self.now.shape.whole)
+    c.column_of.ensures
+
+pub returns-clause-below : goal.returns-clause-below
+returns-clause-below c =
+    let Below : List Entry → Type 0 = IsBelow (target_size (target_of c.args.self.now)) in
+    IfOk-weaker c.column_of.result (λ column. column ≡ summed c.loop-class.sums.entries) Below (λ column is. subst Below (sym is) c.loop-class.invariant.below) c.column_of.ensures

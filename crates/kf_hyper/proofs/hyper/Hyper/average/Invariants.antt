@@ -1,7 +1,10 @@
 use Rattle.std.proofs.Common.{◌≡◌, ℕ, map, sum_by, take}
 use Rattle.kf_hyper.specs.Columns.{weight_at, total}
-use Rattle.kf_hyper.specs.Shapes.{inner_of}
-use Rattle.kf_hyper.specs.Sums.{summed, ArePositive, average_weight}
+use Rattle.kf_value.specs.Numbers.{target_size}
+use Rattle.kf_hyper.specs.Shapes.{IsBelow, inner_of}
+use Rattle.kf_hyper.specs.Views.{target_of}
+use Rattle.kf_hyper.specs.Sums.{summed, ArePositive}
+use Rattle.kf_hyper.specs.Averages.{average_weight}
 use Rattle.kf_hyper.proofs.hyper.Hyper.average.Given as goal
 
 abbrev pub invariant-loop-class : goal.invariant-loop-class
@@ -9,4 +12,5 @@ invariant-loop-class l = record {
   weights : (x : ℕ) → weight_at (summed l.sums.entries) x ≡ average_weight (map inner_of (take l.class-index l.self.classes.items)) x;
   totals : total (summed l.sums.entries) ≡ sum_by (λ i. i.total) (map inner_of (take l.class-index l.self.classes.items));
   positive : ArePositive (summed l.sums.entries);
+  below : IsBelow (target_size (target_of l.self)) (summed l.sums.entries);
 }

@@ -1,5 +1,6 @@
 use Rattle.std.proofs.Common.{◌^◌, ◌∙◌, map, arith}
-use Rattle.kf_value.specs.Targets.{target_size, item_of}
+use Rattle.kf_value.specs.Numbers.{target_size}
+use Rattle.kf_value.specs.TypeViews.{item_of}
 use Rattle.kf_hyper.proofs.Abstraction.{hyper_made, shape_made, inners_fit}
 use Rattle.kf_hyper.proofs.hyper.abstraction.abstract_columns.Goals as goal
 

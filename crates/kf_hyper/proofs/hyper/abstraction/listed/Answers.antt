@@ -16,8 +16,8 @@ pub new-inner-requires : goal.new-inner-requires
 new-inner-requires c =
     rw c.new.ensures (taken c.loop-entries.entries-iterator (c.in-Some.entries, c.in-Some.total) c.next.new.self c.in-Some.ensures.steps (λ (p : Pair). IsColumn p.0) c.loop-entries.invariant.columns)
 
-pub total_of-whole-requires : goal.total_of-whole-requires
-total_of-whole-requires c =
+pub total-whole-requires : goal.total-whole-requires
+total-whole-requires c =
     rw (c.new-inner.ensures, c.new.ensures)
     (taken c.loop-entries.entries-iterator (c.in-Some.entries, c.in-Some.total) c.next.new.self c.in-Some.ensures.steps (λ (p : Pair). total p.0 < 2 ^ 128) c.loop-entries.invariant.fit)
 

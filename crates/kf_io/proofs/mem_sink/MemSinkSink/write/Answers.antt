@@ -2,7 +2,7 @@ use Rattle.std.proofs.Common.{◌≡◌, ℕ, arith, ap, rules, length, take, �
 use Rattle.std.specs.List.{Contains}
 use Rattle.std.proofs.lemmas.Grind.{common_steps}
 use Rattle.std.proofs.lemmas.Bool.Decides.{nat_tests}
-use Rattle.kf_io.specs.Writes.{SinkState, room_left}
+use Rattle.kf_io.specs.Sinks.{SinkState, room_left}
 use Rattle.kf_io.proofs.Rooms.{certain_none, certain_most, certain_after}
 use Rattle.kf_io.proofs.mem_sink.MemSinkSink.write.Goals as goal
 use Rattle.kf_io.proofs.mem_sink.MemSinkSink.write.Goals.{then-contains-via-then-contains, then-contains-via-else-contains+then-not-is_empty, then-left-eq0, else-left-eq0}

@@ -1,5 +1,5 @@
 use Rattle.std.proofs.Common.{◌≡◌, ◌-◌, ◌+◌, ◌*◌, length}
-use Rattle.kf_parse.specs.Built.{cut_of, cuts_of}
+use Rattle.kf_parse.specs.Views.{cut_of, cuts_of}
 use Rattle.kf_parse.specs.Reading as r
 use Rattle.kf_parse.specs.Trimmed.{trimmed}
 use Rattle.kf_parse.proofs.cursor.Cursor.+exprs.Given as goal

@@ -3,7 +3,8 @@ use Rattle.std.proofs.lemmas.Grind.{common_steps}
 use Rattle.std.proofs.lemmas.List.{map-append}
 use Rattle.kf_lex.specs.declared.token.Tok.TheVariants as tok
 use Rattle.kf_lex.specs.declared.token.Sign.TheVariants as s
-use Rattle.kf_ast.specs.TypeForms.{TypeForm, type_form}
+use Rattle.kf_ast.specs.TypeForms.{TypeForm}
+use Rattle.kf_ast.specs.Views.{type_form}
 use Rattle.kf_parse.specs.Outcomes.{Parser, ◌>>=◌, pure}
 use Rattle.kf_parse.proofs.Shrinks.{type_shrinks, other_types_steps}
 use Rattle.kf_parse.specs.Reading as r

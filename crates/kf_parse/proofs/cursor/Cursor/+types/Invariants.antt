@@ -1,5 +1,5 @@
 use Rattle.std.proofs.Common.{◌≡◌, ◌+◌, ◌*◌, length, map}
-use Rattle.kf_ast.specs.TypeForms.{type_form}
+use Rattle.kf_ast.specs.Views.{type_form}
 use Rattle.kf_parse.specs.Reading as r
 use Rattle.kf_parse.proofs.cursor.Cursor.+types.Given as goal
 

@@ -1,4 +1,5 @@
-use Rattle.kf_ast.specs.Names.{NameTree, name_tree, name_place}
+use Rattle.kf_ast.specs.Names.{NameTree}
+use Rattle.kf_ast.specs.Views.{name_tree, name_place}
 use Rattle.kf_lex.specs.declared.token.Tok.TheVariants as tok
 use Rattle.kf_lex.specs.declared.token.Sign.TheVariants as sign
 use Rattle.kf_parse.specs.Grammar.{named}

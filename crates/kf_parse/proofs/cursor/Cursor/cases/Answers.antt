@@ -1,10 +1,10 @@
 use Rattle.std.proofs.Common.{rules, arith, ℕ, List, sym, ◌∙◌}
 use Rattle.std.proofs.lemmas.Grind.{common_steps}
-use Rattle.kf_ast.specs.Dists.{CaseTree, case_tree}
+use Rattle.kf_ast.specs.Dists.{CaseTree}
+use Rattle.kf_ast.specs.Views.{case_tree}
 use Rattle.kf_lex.specs.declared.token.Tok.TheVariants as tok
 use Rattle.kf_lex.specs.declared.token.Sign.TheVariants as sign
-use Rattle.kf_parse.specs.Built.{trimmed_of}
-use Rattle.kf_parse.specs.Composed.{all_of}
+use Rattle.kf_parse.specs.Views.{trimmed_of, all_of}
 use Rattle.kf_parse.specs.Outcomes.{Parser}
 use Rattle.kf_parse.specs.Reading as r
 use Rattle.kf_parse.specs.Trimmed.{Trimmed, trimmed}

@@ -1,7 +1,6 @@
 use Rattle.std.proofs.Common.{◌≡◌, length}
-use Rattle.kf_ast.specs.Dists.{case_tree}
-use Rattle.kf_parse.specs.Built.{trimmed_of}
-use Rattle.kf_parse.specs.Composed.{all_of}
+use Rattle.kf_ast.specs.Views.{case_tree}
+use Rattle.kf_parse.specs.Views.{trimmed_of, all_of}
 use Rattle.kf_parse.specs.Reading as r
 use Rattle.kf_parse.specs.Trimmed.{trimmed}
 use Rattle.kf_parse.proofs.cursor.Cursor.cases.Given as goal

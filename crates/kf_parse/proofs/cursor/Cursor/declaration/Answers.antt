@@ -1,9 +1,8 @@
-use Rattle.kf_ast.specs.Names.{NameTree, name_tree}
-use Rattle.kf_ast.specs.Sources.{decl_tree}
+use Rattle.kf_ast.specs.Names.{NameTree}
+use Rattle.kf_ast.specs.Views.{name_tree, decl_tree}
 use Rattle.kf_lex.specs.declared.token.Tok.TheVariants as tok
 use Rattle.kf_lex.specs.declared.token.Sign.TheVariants as sign
-use Rattle.kf_parse.specs.Built.{trimmed_of}
-use Rattle.kf_parse.specs.Composed.{all_of}
+use Rattle.kf_parse.specs.Views.{trimmed_of, all_of}
 use Rattle.kf_parse.specs.Grammar.{named}
 use Rattle.kf_parse.specs.Outcomes.{◌>>=◌, pure, expect}
 use Rattle.kf_parse.specs.Reading as r

@@ -1,9 +1,8 @@
 use Rattle.std.proofs.Common.{◌≡◌, length}
-use Rattle.kf_ast.specs.Sources.{decl_tree}
+use Rattle.kf_ast.specs.Views.{decl_tree}
 use Rattle.kf_lex.specs.declared.token.Tok.TheVariants as tok
 use Rattle.kf_lex.specs.declared.token.Word.TheVariants as word
-use Rattle.kf_parse.specs.Built.{trimmed_of}
-use Rattle.kf_parse.specs.Composed.{all_of}
+use Rattle.kf_parse.specs.Views.{trimmed_of, all_of}
 use Rattle.kf_parse.specs.Outcomes.{repeat}
 use Rattle.kf_parse.specs.Reading as r
 use Rattle.kf_parse.specs.Trimmed.{trimmed}

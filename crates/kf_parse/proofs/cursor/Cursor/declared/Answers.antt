@@ -1,14 +1,12 @@
 use Rattle.std.proofs.Common.{◌≡◌, ℕ, List, ap, ◌∙◌}
 use Rattle.std.proofs.lemmas.Result.{err_from_is_err_and}
-use Rattle.kf_ast.specs.Dists.{dist_tree}
-use Rattle.kf_ast.specs.Names.{NameTree, name_tree}
-use Rattle.kf_ast.specs.Sources.{decl_tree}
-use Rattle.kf_ast.specs.TypeForms.{TypeForm, type_form}
+use Rattle.kf_ast.specs.Views.{dist_tree, name_tree, type_form, decl_tree}
+use Rattle.kf_ast.specs.Names.{NameTree}
+use Rattle.kf_ast.specs.TypeForms.{TypeForm}
 use Rattle.kf_lex.specs.declared.token.Token.{Token}
 use Rattle.kf_lex.specs.declared.token.Tok.TheVariants as tok
 use Rattle.kf_lex.specs.declared.token.Sign.TheVariants as sign
-use Rattle.kf_parse.specs.Built.{trimmed_of}
-use Rattle.kf_parse.specs.Composed.{all_of}
+use Rattle.kf_parse.specs.Views.{trimmed_of, all_of}
 use Rattle.kf_parse.specs.Outcomes.{got, Parser, and_then, pure, expect}
 use Rattle.kf_parse.specs.Reading as r
 use Rattle.kf_parse.specs.Tokens.{is}

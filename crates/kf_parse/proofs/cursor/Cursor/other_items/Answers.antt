@@ -1,7 +1,8 @@
 use Rattle.std.proofs.Common.{rules, arith, ℕ, List, [], ◌∷◌, ◌++◌, map, sym, ◌∙◌}
 use Rattle.std.proofs.lemmas.Grind.{common_steps}
 use Rattle.std.proofs.lemmas.List.{map-append}
-use Rattle.kf_ast.specs.Sources.{ItemTree, item_tree}
+use Rattle.kf_ast.specs.Sources.{ItemTree}
+use Rattle.kf_ast.specs.Views.{item_tree}
 use Rattle.kf_lex.specs.declared.token.Tok.TheVariants as tok
 use Rattle.kf_lex.specs.declared.token.Sign.TheVariants as sign
 use Rattle.kf_parse.specs.Outcomes.{Parser, ◌>>=◌, pure}

@@ -1,5 +1,5 @@
 use Rattle.std.proofs.Common.{◌≡◌, length, map}
-use Rattle.kf_ast.specs.Sources.{item_tree}
+use Rattle.kf_ast.specs.Views.{item_tree}
 use Rattle.kf_parse.specs.Reading as r
 use Rattle.kf_parse.specs.Trimmed.{trimmed}
 use Rattle.kf_parse.proofs.cursor.Cursor.other_items.Given as goal

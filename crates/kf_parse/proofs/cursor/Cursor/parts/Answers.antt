@@ -1,6 +1,6 @@
 use Rattle.std.proofs.Common.{rules, ◌∙◌, sym, ap}
 use Rattle.std.proofs.lemmas.Result.{err_from_is_err_and}
-use Rattle.kf_parse.specs.Built.{cut_of}
+use Rattle.kf_parse.specs.Views.{cut_of}
 use Rattle.kf_parse.specs.Reading as r
 use Rattle.kf_parse.specs.Trimmed.{trimmed}
 use Rattle.kf_parse.proofs.Failing.{got_value}

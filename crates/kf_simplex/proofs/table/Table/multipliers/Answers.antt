@@ -2,7 +2,7 @@ use Rattle.std.proofs.Common.{◌≡◌, ℕ, ◌+◌, ◌*◌, ◌≤◌, ◌^�
 use Rattle.std.proofs.Math.IntN.{ℤ}
 use Rattle.std.proofs.lemmas.Int.{to_z-of_z, ints}
 use mir.Syntax.{w64, w128}
-use Rattle.kf_simplex.specs.Cells.{at}
+use Rattle.kf_simplex.specs.Base.{at}
 use Rattle.kf_simplex.specs.Answers.{AreMultipliersOf}
 use Rattle.kf_simplex.specs.Flat.{tableau_of}
 use Rattle.kf_simplex.specs.Turns.{sizes}

@@ -1,5 +1,5 @@
 use Rattle.std.proofs.Common.{◌≡◌, ℕ, ◌+◌, ◌*◌, ◌<◌, length}
-use Rattle.kf_simplex.specs.Cells.{at}
+use Rattle.kf_simplex.specs.Base.{at}
 use Rattle.kf_simplex.proofs.table.Table.multipliers.Given as goal
 
 abbrev pub invariant-loop-k : goal.invariant-loop-k

@@ -1,7 +1,7 @@
 use Rattle.std.proofs.Common.{rules}
 use Rattle.kf_core.specs.declared.st.St.{the_lemmas}
 use Rattle.kf_eval.specs.Kinds.{shape_kinds}
-use Rattle.kf_support.proofs.Passing as pass
+use Rattle.kf_core.proofs.SoundParts as pass
 use Rattle.kf_tests.proofs.Ways.{read_sound}
 use Rattle.kf_tests.proofs.tests.plain.+follow.Goals as goal
 

@@ -1,4 +1,4 @@
-use Rattle.kf_support.proofs.Declaring.{decl_kinded}
+use Rattle.kf_core.proofs.SoundParts.{decl_kinded}
 use Rattle.kf_tests.proofs.tests.plain.declared.Goals as goal
 
 pub assigned-requires : goal.assigned-requires

@@ -1,4 +1,4 @@
-use Rattle.kf_support.proofs.Declaring.{whole_sound}
+use Rattle.kf_core.proofs.SoundParts.{whole_sound}
 use Rattle.kf_tests.proofs.tests.plain.ways_of.Goals as goal
 
 pub follow_all-requires : goal.follow_all-requires

@@ -1,6 +1,7 @@
 use Rattle.std.proofs.Common.{◌≡◌, ◌++◌, map, drop}
 use Rattle.std.specs.List.{flat_map}
-use Rattle.kf_value.specs.Targets.{item_of, target_text}
+use Rattle.kf_value.specs.Targets.{target_text}
+use Rattle.kf_value.specs.TypeViews.{item_of}
 use Rattle.kf_top.proofs.Printing.{further_text}
 use Rattle.kf_top.proofs.texts.items.print_items.Given as goal
 

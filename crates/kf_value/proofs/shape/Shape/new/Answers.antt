@@ -1,7 +1,9 @@
 use Rattle.std.proofs.Common.{◌≡◌, ◌+◌, ◌-◌, ◌^◌, min, None, map, drop, sym, ap, ◌∙◌, subst, arith}
 use Rattle.std.proofs.lemmas.List.Elements.{All-head}
-use Rattle.kf_value.specs.Types.{type_tree, fault_of, count, product}
-use Rattle.kf_value.specs.Stores.{weights}
+use Rattle.kf_value.specs.Types.{count, product}
+use Rattle.kf_value.specs.Sizes.{fault_of}
+use Rattle.kf_value.specs.TypeViews.{type_tree}
+use Rattle.kf_value.specs.Numbers.{weights}
 use Rattle.kf_value.specs.Views.{type_trees}
 use Rattle.kf_value.proofs.ListLemmas.{left_step, left_end}
 use Rattle.kf_value.proofs.Widening.{AllSized, counted_exact, list_start, list_step, list_end}

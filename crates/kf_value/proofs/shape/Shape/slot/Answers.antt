@@ -1,7 +1,7 @@
 use Rattle.std.proofs.Common.{◌≡◌, ◌/◌, ◌%◌, length, sym, ap, ◌∙◌, get_or, subst, arith}
 use Rattle.std.proofs.lemmas.List.{length-map}
 use Rattle.kf_value.specs.Types.{count}
-use Rattle.kf_value.specs.Stores.{weights, digits, HasDigit}
+use Rattle.kf_value.specs.Numbers.{weights, digits, HasDigit}
 use Rattle.kf_value.specs.Shapes.{shape_types, shape_sizes}
 use Rattle.kf_value.proofs.Digits.{positive_sizes, positive_weight, length-weights, entry, size_small, digit_read, digit_below, digit_value}
 use Rattle.kf_value.proofs.shape.Shape.slot.Goals as goal

@@ -1,7 +1,9 @@
 use Rattle.std.proofs.Common.{◌≡◌, ◌<◌, length, sym, ap, ◌∙◌, subst, arith}
 use Rattle.std.proofs.lemmas.List.{length-map}
-use Rattle.kf_value.specs.Types.{type_tree, count, HasNumber}
-use Rattle.kf_value.specs.Stores.{weights}
+use Rattle.kf_value.specs.Types.{count}
+use Rattle.kf_value.specs.Sizes.{HasNumber}
+use Rattle.kf_value.specs.TypeViews.{type_tree}
+use Rattle.kf_value.specs.Numbers.{weights}
 use Rattle.kf_value.specs.Shapes.{shape_types, shape_sizes}
 use Rattle.kf_value.specs.Views.{type_items, value_tree}
 use Rattle.kf_value.proofs.Digits.{length-weights, entry, sized_at}

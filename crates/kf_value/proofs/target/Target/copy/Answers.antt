@@ -1,6 +1,7 @@
 use Rattle.std.proofs.Common.{◌≡◌, ◌≤◌, ◌^◌, None, sym, subst, arith}
-use Rattle.kf_value.specs.Types.{fault_of, well_formed}
-use Rattle.kf_value.specs.Targets.{Item, target_size}
+use Rattle.kf_value.specs.Sizes.{fault_of, well_formed}
+use Rattle.kf_value.specs.Targets.{Item}
+use Rattle.kf_value.specs.Numbers.{target_size}
 use Rattle.kf_value.proofs.Items.{all_items, test_items, as_many_items}
 use Rattle.kf_value.proofs.target.Target.copy.Goals as goal
 

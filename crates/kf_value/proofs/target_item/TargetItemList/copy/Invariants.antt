@@ -1,5 +1,5 @@
 use Rattle.std.proofs.Common.{◌≡◌, map, take}
-use Rattle.kf_value.specs.Targets.{item_of}
+use Rattle.kf_value.specs.TypeViews.{item_of}
 use Rattle.kf_value.proofs.target_item.TargetItemList.copy.Given as goal
 
 abbrev pub invariant-loop-item : goal.invariant-loop-item

@@ -1,0 +1,60 @@
+-- For bodies: laws of systems and of runs.
+use Rattle.std.specs.Prelude.{◌≡◌, ◌≢◌, ℕ, zero, suc, ◌+◌, ◌<◌, ◌≤◌, ℤ, List, [], ◌∷◌, length, Result, Err}
+use Rattle.kf_simplex.specs.declared.outcome.Outcome.{Outcome}
+use Rattle.kf_simplex.specs.declared.outcome.SimplexError.{SimplexError}
+use Rattle.kf_simplex.specs.declared.outcome.SimplexError.TheVariants as error
+use Rattle.kf_simplex.specs.Systems.{LinearSystem, IsSystem, right_column}
+use Rattle.kf_simplex.specs.Tableaus.{Tableau}
+use Rattle.kf_simplex.specs.Runs.{Cause, EndsAt, IsRun}
+use Rattle.kf_simplex.specs.Solutions.{Refutes, HasNoSolution}
+use Rattle.kf_simplex.specs.Answers.{IsAnswer}
+
+-- every column of the one basis stands in the other
+abbrev pub SameColumns : ℕ → (ℕ → ℕ) → (ℕ → ℕ) → Type 0
+SameColumns n a b = ((i : ℕ) → i < n → (k : ℕ) × (k < n) × (b k ≡ a i))
+
+-- no member of the list has the columns of t
+abbrev pub NoneHas : LinearSystem → Tableau → List Tableau → Type 0
+NoneHas s t [] = Unit {0}
+NoneHas s t (u ∷ us) = (SameColumns s.equations u.basis t.basis → ⊥) × NoneHas s t us
+
+abbrev pub NoBasisTwice : LinearSystem → List Tableau → Type 0
+NoBasisTwice s [] = Unit {0}
+NoBasisTwice s (t ∷ ts) = NoneHas s t ts × NoBasisTwice s ts
+
+-- no run comes back to a basis
+abbrev pub NoRunReturns : Type 0
+NoRunReturns = (s : LinearSystem) (limit : ℕ) (ts : List Tableau) → IsSystem s → IsRun s limit ts → NoBasisTwice s ts
+
+-- binomial coefficients, by Pascal's rule
+abbrev pub ways : ℕ → ℕ → ℕ
+ways n zero = 1
+ways zero (suc k) = 0
+ways (suc n) (suc k) = ways n k + ways n (suc k)
+
+-- no run has more tableaus than there are ways to choose a basis
+abbrev pub NoRunIsLong : Type 0
+NoRunIsLong = (s : LinearSystem) (limit : ℕ) (ts : List Tableau) → IsSystem s → IsRun s limit ts → length ts ≤ ways (s.unknowns + s.equations) s.equations
+
+-- equality of tableaus, number by number
+pub record SameTableau (s : LinearSystem) (t u : Tableau) : Type 0 where
+  pub basis : (k : ℕ) → k < s.equations → t.basis k ≡ u.basis k
+  pub rows : (i c : ℕ) → i < s.equations → c ≤ right_column s → t.rows i c ≡ u.rows i c
+  pub objective : (c : ℕ) → c ≤ right_column s → t.objective c ≡ u.objective c
+
+-- a run ends once: after one number of pivots, at one tableau and for one cause
+abbrev pub OneAnswer : Type 0
+OneAnswer = (s : LinearSystem) (limit p q : ℕ) (t u : Tableau) (c d : Cause) → IsSystem s → EndsAt s limit p t c → EndsAt s limit q u d → (p ≡ q) × SameTableau s t u × (c ≡ d)
+
+-- and each does end
+abbrev pub EveryRunEnds : Type 0
+EveryRunEnds = (s : LinearSystem) (limit : ℕ) → IsSystem s → (p : ℕ) × (t : Tableau) × (c : Cause) × EndsAt s limit p t c
+
+-- its answer is never missing
+abbrev pub SomeAnswer : Type 0
+SomeAnswer = (s : LinearSystem) (limit : ℕ) → IsSystem s
+    → (r : Result Outcome SimplexError) × (r ≢ Err error.Mem) × IsAnswer s limit r
+
+-- where such multipliers exist, no solution does
+abbrev pub WeakDuality : Type 0
+WeakDuality = (s : LinearSystem) (y : ℕ → ℤ) → Refutes s y → HasNoSolution s

@@ -1,0 +1,14 @@
+use Rattle.kf_top.proofs.OneAnswer.{one_answer}
+use Rattle.kf_top.proofs.SomeAnswer.{some_answer}
+use Rattle.kf_top.proofs.law.exactly_one_answer.Goals as goal
+
+pub returns : goal.returns
+returns c words contents =
+    let read = c.one_reading.ensures in
+    let program = c.grammar.ensures in
+    let refused = c.refusals.ensures in
+    let typed = c.type_laws.ensures in
+    let joint = c.joint_laws.ensures in
+    let one = one_answer read program.one refused.both refused.refusal typed.one typed.typed joint.one_rows joint.one_hyper words contents in
+    let some = some_answer joint.rows joint.hyper c.some_secrets.ensures read.read refused.either program.built typed.either typed.told words contents in
+    (some.0, some.1, λ other is. one other some.0 is some.1)

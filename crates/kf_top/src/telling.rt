@@ -1,0 +1,68 @@
+//! The lines on standard error.
+
+ghost use Rattle.std.specs.Prelude.{◌≡◌};
+ghost use Rattle.std.specs.List.{flat_map};
+ghost use Rattle.kf_top.specs.Answer.{placed, said, line_of, status_of};
+ghost use Rattle.kf_top.specs.Stops.{refused};
+ghost use Rattle.kf_top.specs.Ends.{sunk, TookLine};
+
+use crate::stops::Refusal;
+use itoa::Buffer;
+use kf_io::{Sink, write_pieces};
+
+// Tells pieces of a line one after the other. A fault of err changes nothing else.
+fn tell_pieces<E: Sink>(err: &mut E, pieces: &[&str])
+    ensures { TookLine (sunk E.taken E.faults E.room err.old err.new) (flat_map (λ piece. piece.now) pieces.now) }
+{
+    let _ = write_pieces(err, pieces);
+}
+
+/// Tells a line.
+pub fn tell<E: Sink>(err: &mut E, name: &str, what: &str)
+    ensures { TookLine (sunk E.taken E.faults E.room err.old err.new) (said name.now what.now) }
+{
+    tell_pieces(err, &["kuifje: ", name, what, "\n"]);
+}
+
+// Tells what is wrong with a file's text or program, and where.
+fn tell_place<E: Sink>(err: &mut E, name: &str, line: u32, column: u32, word: &str)
+    ensures { TookLine (sunk E.taken E.faults E.room err.old err.new) (placed name.now line column word.now) }
+{
+    let mut line_digits = Buffer::new();
+    let mut column_digits = Buffer::new();
+    let line = line_digits.format(line);
+    let column = column_digits.format(column);
+    tell_pieces(
+        err,
+        &["kuifje: ", name, ":", line, ":", column, ": ", word, "\n"],
+    );
+}
+
+/// Tells the refusal, and gives its status.
+pub fn refuse<E: Sink>(err: &mut E, refusal: &Refusal<'_>) -> u8
+    ensures line { TookLine (sunk E.taken E.faults E.room err.old err.new) (line_of (refused refusal.now)) }
+    ensures status { result ≡ status_of (refused refusal.now) }
+{
+    match refusal {
+        Refusal::TooLong(name) => {
+            tell(err, name, ": longer than 1048576 bytes");
+            11
+        }
+        Refusal::BadText(name, line, column, word) => {
+            tell_place(err, name, *line, *column, word);
+            5
+        }
+        Refusal::BadRun(name, line, column, word) => {
+            tell_place(err, name, *line, *column, word);
+            6
+        }
+        Refusal::WideScale(name) => {
+            tell(err, name, ": scale passes 2^127 - 1");
+            7
+        }
+        Refusal::NotInitial => {
+            tell(err, "", "target is not initial");
+            10
+        }
+    }
+}

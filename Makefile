@@ -1,14 +1,30 @@
-# `make` proves and builds the program, runs it on the first example and leaves it as bin/kuifje.
-.PHONY: first try test
+# `make` shows the first example's answer, proves and builds the program, and leaves it as bin/kuifje. README.md says what each
+# command does and how long it takes.
+.PHONY: first try install test audit
+
+PREFIX ?= /usr/local
+FILE ?= examples/first.kf
+COMMAND ?= hyper
 
 first:
-	cd crates/kuifje && rt run -- hyper data/first.kf
-	mkdir -p bin && cp crates/kuifje/out/kuifje bin/kuifje
+	@.ci/build
 
-# Runs the first example at once, before anything is proved.
+# Runs an example, or any other file, before anything is proved.
 try:
-	cd crates/kuifje && rt try -- hyper data/first.kf
+	@cd crates/kuifje && rt try --data "$(notdir $(FILE))=$(abspath $(FILE))" -- $(COMMAND) "$(notdir $(FILE))"
 
-# Proves every crate, tries the wrong bodies that must be refused, and runs every test and the program.
+# The program alone, into $(DESTDIR)$(PREFIX)/bin. It is built only where bin/kuifje isn't there.
+install: bin/kuifje
+	install -d "$(DESTDIR)$(PREFIX)/bin"
+	install -m 755 bin/kuifje "$(DESTDIR)$(PREFIX)/bin/kuifje"
+
+bin/kuifje:
+	@.ci/build
+
+# The gate: proves and tries what changed since it last passed on this machine, and runs every test and the program.
 test:
 	.ci/run
+
+# The same with nothing kept: all is proved anew, and each wrong body tried anew.
+audit:
+	rt ci --anew

@@ -1,3 +1,4 @@
+mod Agreeing
 pub mod Choices
 pub mod Counting
 mod Deciding
@@ -15,6 +16,7 @@ pub mod FlatSteps
 pub mod FlatTurns
 pub mod Forms
 pub mod Objective
+mod OneResult
 pub mod Outcomes
 pub mod Pivots
 pub mod Primitive

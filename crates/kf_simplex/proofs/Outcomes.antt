@@ -79,7 +79,7 @@ common (suc n) num den p =
           (cases_eq j n);
     }
 
-den_positive : (xs : List Frac) (j : ℕ) → 0 < den_at xs j
+pub den_positive : (xs : List Frac) (j : ℕ) → 0 < den_at xs j
 den_positive [] j = omega arith
 den_positive (x ∷ xs) zero = x.positive
 den_positive (x ∷ xs) (suc j) = den_positive xs j

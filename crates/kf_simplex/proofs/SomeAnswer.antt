@@ -56,7 +56,7 @@ den_at-filled f (suc n) (suc j) l = den_at-filled (λ k. f (suc k)) n j (omega a
 -- ---- the solution of a tableau
 
 -- the row of a basic column, or none
-basic_row : (b : ℕ → ℕ) (n j : ℕ) → ((i : ℕ) × (i < n) × (b i ≡ j)) ⊎ ((i : ℕ) → i < n → b i ≡ j → ⊥)
+pub basic_row : (b : ℕ → ℕ) (n j : ℕ) → ((i : ℕ) × (i < n) × (b i ≡ j)) ⊎ ((i : ℕ) → i < n → b i ≡ j → ⊥)
 basic_row b zero j = inr (λ i l. absurd (omega arith))
 basic_row b (suc n) j =
     ⊎_elim

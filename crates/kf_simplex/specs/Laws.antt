@@ -3,11 +3,11 @@ use Rattle.std.specs.Prelude.{◌≡◌, ◌≢◌, ℕ, zero, suc, ◌+◌, ◌
 use Rattle.kf_simplex.specs.declared.outcome.Outcome.{Outcome}
 use Rattle.kf_simplex.specs.declared.outcome.SimplexError.{SimplexError}
 use Rattle.kf_simplex.specs.declared.outcome.SimplexError.TheVariants as error
-use Rattle.kf_simplex.specs.Systems.{LinearSystem, IsSystem, right_column}
+use Rattle.kf_simplex.specs.Systems.{LinearSystem, IsSystem, SameNumbers, right_column}
 use Rattle.kf_simplex.specs.Tableaus.{Tableau}
 use Rattle.kf_simplex.specs.Runs.{Cause, EndsAt, IsRun}
-use Rattle.kf_simplex.specs.Solutions.{Refutes, HasNoSolution}
-use Rattle.kf_simplex.specs.Answers.{IsAnswer}
+use Rattle.kf_simplex.specs.Solutions.{Solves, Refutes, HasNoSolution}
+use Rattle.kf_simplex.specs.Answers.{IsAnswer, IsRight}
 
 -- every column of the one basis stands in the other
 abbrev pub SameColumns : ℕ → (ℕ → ℕ) → (ℕ → ℕ) → Type 0
@@ -44,7 +44,8 @@ pub record SameTableau (s : LinearSystem) (t u : Tableau) : Type 0 where
 
 -- a run ends once: after one number of pivots, at one tableau and for one cause
 abbrev pub OneAnswer : Type 0
-OneAnswer = (s : LinearSystem) (limit p q : ℕ) (t u : Tableau) (c d : Cause) → IsSystem s → EndsAt s limit p t c → EndsAt s limit q u d → (p ≡ q) × SameTableau s t u × (c ≡ d)
+OneAnswer = (s : LinearSystem) (limit p q : ℕ) (t u : Tableau) (c d : Cause) → IsSystem s
+    → EndsAt s limit p t c → EndsAt s limit q u d → (p ≡ q) × SameTableau s t u × (c ≡ d)
 
 -- and each does end
 abbrev pub EveryRunEnds : Type 0
@@ -58,3 +59,45 @@ SomeAnswer = (s : LinearSystem) (limit : ℕ) → IsSystem s
 -- where such multipliers exist, no solution does
 abbrev pub WeakDuality : Type 0
 WeakDuality = (s : LinearSystem) (y : ℕ → ℤ) → Refutes s y → HasNoSolution s
+
+-- agreement goes both ways
+abbrev pub AgreesBothWays : Type 0
+AgreesBothWays = (s u : LinearSystem) → SameNumbers s u → SameNumbers u s
+
+-- what agrees with a system at each equation and column is a system
+abbrev pub AgreesAsSystem : Type 0
+AgreesAsSystem = (s u : LinearSystem) → SameNumbers s u → IsSystem s → IsSystem u
+
+-- a run of the one is a run of the other
+abbrev pub AgreesInRuns : Type 0
+AgreesInRuns = (s u : LinearSystem) (limit : ℕ) (ts : List Tableau) → SameNumbers s u → IsRun s limit ts → IsRun u limit ts
+
+-- it ends there as here
+abbrev pub AgreesInEnds : Type 0
+AgreesInEnds = (s u : LinearSystem) (limit p : ℕ) (t : Tableau) (c : Cause) → SameNumbers s u → EndsAt s limit p t c → EndsAt u limit p t c
+
+-- what solves the one solves the other
+abbrev pub AgreesInSolutions : Type 0
+AgreesInSolutions = (s u : LinearSystem) (x : ℕ → ℤ) (d : ℤ) → SameNumbers s u → Solves s x d → Solves u x d
+
+-- what refutes the one refutes the other
+abbrev pub AgreesInMultipliers : Type 0
+AgreesInMultipliers = (s u : LinearSystem) (y : ℕ → ℤ) → SameNumbers s u → Refutes s y → Refutes u y
+
+-- an outcome that is right for the one is right for the other
+abbrev pub AgreesInOutcomes : Type 0
+AgreesInOutcomes = (s u : LinearSystem) (o : Outcome) → SameNumbers s u → IsRight s o → IsRight u o
+
+-- an answer to the one is an answer to the other
+abbrev pub AgreesInAnswers : Type 0
+AgreesInAnswers = (s u : LinearSystem) (limit : ℕ) (r : Result Outcome SimplexError) → SameNumbers s u → IsAnswer s limit r → IsAnswer u limit r
+
+-- two systems that agree have one end: one number of pivots, one tableau, one cause
+abbrev pub OneEnd : Type 0
+OneEnd = (s u : LinearSystem) (limit p q : ℕ) (t w : Tableau) (c d : Cause) → SameNumbers s u → IsSystem s
+    → EndsAt s limit p t c → EndsAt u limit q w d → (p ≡ q) × SameTableau s t w × (c ≡ d)
+
+-- and one result, besides want of memory
+abbrev pub OneResult : Type 0
+OneResult = (s u : LinearSystem) (limit : ℕ) (a b : Result Outcome SimplexError) → SameNumbers s u → IsSystem s
+    → a ≢ Err error.Mem → b ≢ Err error.Mem → IsAnswer s limit a → IsAnswer u limit b → a ≡ b

@@ -1,5 +1,7 @@
 //! Laws of the definitions, each a clause of a function that does nothing.
-ghost use Rattle.kf_simplex.specs.Laws.{EveryRunEnds, SomeAnswer, NoRunIsLong, NoRunReturns, OneAnswer, WeakDuality};
+ghost use Rattle.kf_simplex.specs.Laws.{AgreesAsSystem, AgreesBothWays, AgreesInAnswers, AgreesInEnds};
+ghost use Rattle.kf_simplex.specs.Laws.{AgreesInMultipliers, AgreesInOutcomes, AgreesInRuns, AgreesInSolutions};
+ghost use Rattle.kf_simplex.specs.Laws.{EveryRunEnds, NoRunIsLong, NoRunReturns, OneAnswer, OneEnd, OneResult, SomeAnswer, WeakDuality};
 
 /// Where multipliers exist, no solution without negative entries does.
 pub fn weak_duality()
@@ -25,4 +27,22 @@ pub fn one_answer()
 pub fn every_run_ends()
     ensures run { EveryRunEnds }
     ensures answer { SomeAnswer }
+{}
+
+/// Two systems that agree at each equation and column have the same runs, solutions, multipliers and answers.
+pub fn systems_agree()
+    ensures both_ways { AgreesBothWays }
+    ensures system { AgreesAsSystem }
+    ensures runs { AgreesInRuns }
+    ensures ends { AgreesInEnds }
+    ensures solutions { AgreesInSolutions }
+    ensures multipliers { AgreesInMultipliers }
+    ensures outcomes { AgreesInOutcomes }
+    ensures answers { AgreesInAnswers }
+{}
+
+/// Two systems that agree have one end of their runs, and one result besides want of memory.
+pub fn one_result()
+    ensures ends { OneEnd }
+    ensures answer { OneResult }
 {}

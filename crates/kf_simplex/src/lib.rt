@@ -11,7 +11,10 @@ mod solving;
 mod system;
 mod table;
 
-pub use laws::{every_run_ends, no_run_is_long, no_run_returns, one_answer, weak_duality};
+pub use laws::{
+    every_run_ends, no_run_is_long, no_run_returns, one_answer, one_result, systems_agree,
+    weak_duality,
+};
 pub use lists::{FracList, NumberList};
 pub use outcome::{Outcome, SimplexError};
 pub use solving::solve;

@@ -35,7 +35,7 @@ each_small_parts : (vs : List ValueTree) → Each IsSmall vs → EachSmall (part
 each_small_parts [] h = tt
 each_small_parts (v ∷ vs) h = (h.0, each_small_parts vs h.1)
 
-small_mag : (z : ℤ) → negsuc 999999 ≤ℤ z → z ≤ℤ pos 1000000 → mag z < 2 ^ 63
+pub small_mag : (z : ℤ) → negsuc 999999 ≤ℤ z → z ≤ℤ pos 1000000 → mag z < 2 ^ 63
 small_mag (pos n) low high = omega (arith, ints)
 small_mag (negsuc n) low high = omega (arith, ints)
 
@@ -52,7 +52,7 @@ wholes_small lo hi a (suc n) bounds within =
 mutual
   unfolding values each_values
 
-  values_small : (t : TypeTree) → HasSize t → Each IsSmall (values t)
+  pub values_small : (t : TypeTree) → HasSize t → Each IsSmall (values t)
   values_small Boolean h = (tt, (tt, tt))
   values_small (Range lo hi) h = wholes_small lo hi 0 (counted (hi -ℤ lo)) (range_sized lo hi h) (omega arith)
   values_small (TupleOf ts) h =

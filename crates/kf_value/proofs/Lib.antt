@@ -14,6 +14,10 @@ mod Parts
 pub mod Places
 mod Printing
 pub mod Ranges
+mod ReadingElements
+mod ReadingNumbers
+mod ReadingRows
+mod ReadingTargets
 mod Replacing
 mod Sets
 mod Sizing

@@ -39,7 +39,7 @@ still_fits n c k p most below fits =
     let same = mul_assoc (n + 1) c p in
     omega arith
 
-regrouped : (n c k p l m : ℕ) → l ≡ p → n * (c * p) + (k * l + m) ≡ (n * c + k) * p + m
+pub regrouped : (n c k p l m : ℕ) → l ≡ p → n * (c * p) + (k * l + m) ≡ (n * c + k) * p + m
 regrouped n c k p l m h =
     let same = mul_assoc n c p in
     let spread : (n * c + k) * p ≡ n * c * p + k * p = omega arith in

@@ -125,7 +125,7 @@ sum_end base all n so_far =
 
 -- ---- a set with an element that is not in the base
 
-each_from_at : {X : Type 0} (P : X → Type 0) (xs : List X) → ((i : ℕ) (x : X) → slice_get xs i ≡ Some x → P x) → Each P xs
+pub each_from_at : {X : Type 0} (P : X → Type 0) (xs : List X) → ((i : ℕ) (x : X) → slice_get xs i ≡ Some x → P x) → Each P xs
 each_from_at P [] h = tt
 each_from_at P (x ∷ xs) h = (h 0 x refl, each_from_at P xs (λ i y at. h (suc i) y at))
 

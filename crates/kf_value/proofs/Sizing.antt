@@ -183,3 +183,10 @@ known_product_fits ts n sized_ts h =
     let few = (tuple_sized ts sized_ts).1 in
     let same = known.1 in
     omega arith
+
+pub two_fit : (s t : TypeTree) → HasSize s → HasSize t → count s * (count t * 1) ≤ 2 ^ 63
+two_fit s t sized_s sized_t =
+    let few_s : count s ≤ 65536 = few_values 65536 s sized_s in
+    let few_t : count t * 1 ≤ 65536 = let few = few_values 65536 t sized_t in omega arith in
+    let first : count s * (count t * 1) ≤ 65536 * (count t * 1) = mul-le-mul_right (count t * 1) few_s in
+    omega arith

@@ -104,7 +104,7 @@ some_form (Tuple vs) h = (cc)
 some_form (Set vs) h = (cc)
 
 -- a text does not begin with what begins none
-not_begun : (w : ValueTree) (c : ℕ) (r s : List ℕ) → IsSmall w → form_of c ≡ 0 → c ∷ r ≡ text w ++ s → ⊥
+pub not_begun : (w : ValueTree) (c : ℕ) (r s : List ℕ) → IsSmall w → form_of c ≡ 0 → c ∷ r ≡ text w ++ s → ⊥
 not_begun w c r s hw none h =
     let b = begins w hw in
     let right : text w ++ s ≡ b.first ∷ (b.rest ++ s) = ap (λ t. t ++ s) b.whole in

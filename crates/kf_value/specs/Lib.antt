@@ -9,6 +9,7 @@ pub mod Values
 pub mod Forms
 pub mod Laws
 pub mod Numbers
+pub mod Readings
 pub mod Shapes
 pub mod Sizes
 pub mod TypeViews

@@ -9,6 +9,7 @@ mod nth;
 mod numbers;
 mod order;
 mod prints;
+mod readings;
 mod shape;
 mod sizes;
 mod slot_list;

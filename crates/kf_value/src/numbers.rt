@@ -30,7 +30,8 @@ pub fn number(ty: &Ty, v: &Value) -> Option<u32>
     }
 }
 
-fn number_in_range(lo: i64, hi: i64, whole: i64) -> Option<u32>
+/// The place in the range.
+pub(crate) fn number_in_range(lo: i64, hi: i64, whole: i64) -> Option<u32>
     requires { IsTrue (in_bounds lo hi) }
     ensures place { IsPlaceIn (values (Range lo hi)) (Whole whole) result }
     ensures below { IfSome result (λ n. n < count (Range lo hi)) }

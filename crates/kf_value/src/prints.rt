@@ -9,6 +9,7 @@ ghost use Rattle.kf_value.specs.TypeViews.{item_of};
 ghost use Rattle.kf_value.specs.Views.{value_tree, value_trees, items_of};
 
 use crate::nth::value_at;
+use crate::readings::candidate;
 use crate::sizes::known_size;
 use crate::{Mem, Target, TargetItem, Value, ValueList};
 use std::alloc::Global;
@@ -126,16 +127,23 @@ fn value_count(items: &[TargetItem]) -> u64
 
 /// The number of the target's value that prints as the text, or `None` where no value does.
 ///
-/// It tries the numbers in turn, so the time is that of printing all values before it.
+/// It reads the text once along the target's types, an element of a set at most once for each value of the set's base,
+/// and prints the value that it found.
 pub fn number_of(alloc: Global, target: &Target, text: &str) -> Result<Option<u64>, Mem>
     ensures { IfOk result (λ found. IsNumberOf (items_of target.now) text.now found) }
 {
-    for n in 0..value_count(target.items.as_slice()) {
-        let mut printed = Vec::new(alloc);
-        print_target(alloc, target, n, &mut printed)?;
-        if printed.as_slice() == text.as_bytes() {
-            return Ok(Some(n));
-        }
+    let items = target.items.as_slice();
+    let Some(n) = candidate(items, text.as_bytes()) else {
+        return Ok(None);
+    };
+    if n >= value_count(items) {
+        return Ok(None);
     }
-    Ok(None)
+    let mut printed = Vec::new(alloc);
+    print_target(alloc, target, n, &mut printed)?;
+    if printed.as_slice() == text.as_bytes() {
+        Ok(Some(n))
+    } else {
+        Ok(None)
+    }
 }

@@ -8,4 +8,5 @@ pub mod Placing
 pub mod Printing
 pub mod Steps
 mod Rows
-mod Turns
+mod Reading
+mod Numerals

@@ -7,7 +7,7 @@ use Rattle.kf_lex.specs.Readings.{IsTokens, IsFault}
 use Rattle.kf_ast.specs.Sources.{SourceTree}
 use Rattle.kf_parse.specs.declared.errors.ParseError.{ParseError}
 use Rattle.kf_parse.specs.declared.errors.ParseError.TheVariants as parsing
-use Rattle.kf_parse.specs.Answers.{IsParsed, IsRefused}
+use Rattle.kf_parse.specs.Answers.{IsRefused}
 use Rattle.kf_parse.specs.Laws.{OnlyBuilt, ParsedOrRefused}
 use Rattle.kf_check.specs.declared.errors.TypeError.{TypeError}
 use Rattle.kf_check.specs.declared.errors.TypeError.TheVariants as typing
@@ -16,7 +16,7 @@ use Rattle.kf_check.specs.Sources.{IsBroken}
 use Rattle.kf_core.specs.JointLaws.{RowsExist, HypersExist}
 use Rattle.kf_channel.specs.Laws.{SomeSecrets}
 use Rattle.kf_core.specs.Programs.{ProgramTree}
-use Rattle.kf_top.specs.Answer.{Statement, HyperOf, TracesOf, ChannelOf, IsText, Shown, States, Refused, Usage}
+use Rattle.kf_top.specs.Answer.{Statement, HyperOf, TracesOf, ChannelOf, IsText, Shown, Refused, Usage}
 use Rattle.kf_top.specs.Ends.{Answer, Settled, IsAnswer, showing, refusing}
 use Rattle.kf_top.specs.Outcome.{Step, After, Gives, Each, Text, Fault, fault, bad_text, token_fault, syntax_fault, type_fault, IsBad, TokensOf, SourceOf, ProgramOf, TypedOf, TextOf, cleared, ClearedOf, statement_of, TaskOutcome, SomeOutcome, source_of}
 use Rattle.kf_top.specs.Task.{Task, task_of}

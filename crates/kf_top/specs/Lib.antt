@@ -1,6 +1,7 @@
 -- Believed
 pub mod Ends
 pub mod Task
+pub mod Said
 pub mod Outcome
 pub mod Answer
 pub mod Texts
@@ -9,3 +10,4 @@ pub mod Place
 pub mod Laws
 pub mod Stops
 pub mod Views
+pub mod WordViews

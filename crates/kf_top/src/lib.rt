@@ -1,9 +1,11 @@
 //! The top call: from words and files to bytes and a status.
 #![tactic(auto)]
 
+mod commands;
 mod hypers;
 mod law;
 mod places;
+mod said;
 mod stops;
 mod telling;
 #[cfg(test)]
@@ -12,6 +14,8 @@ mod texts;
 mod top;
 #[cfg(test)]
 mod trace_tests;
+#[cfg(test)]
+mod word_tests;
 mod words;
 mod work;
 

@@ -1,9 +1,12 @@
-ghost use Rattle.std.specs.Prelude.{◌≡◌, ◌≤◌, IfOk, IfSome, IsErrOf, None, Some, map, string_bytes};
+ghost use Rattle.std.specs.Prelude.{◌≡◌, ◌≤◌, IfOk, IfSome, IsErrOf, None, Some, map, option_map, string_bytes, ◌∷◌, []};
 ghost use Rattle.std.specs.Char.{is_ascii_digit};
 ghost use Rattle.std.specs.List.{list_all};
-ghost use Rattle.kf_top.specs.Task.{task_of, is_file, is_numeral as is_numeral_word, turns_said as turns_of, turns_after as turns_behind};
+ghost use Rattle.kf_top.specs.Task.{is_numeral as is_numeral_word, number_said as number_in, on_files, task_of, task_said, turns_of};
+ghost use Rattle.kf_top.specs.WordViews.{command_shown, said_shown};
 ghost use Rattle.kf_top.specs.Views.{task_of_job, HasTurns};
 
+use crate::commands::{Kind, options_fit, row_of};
+use crate::said::{Said, matches_of, said_of};
 use kf_value::Name;
 use std::alloc::{AllocError, Global};
 
@@ -41,13 +44,6 @@ impl From<AllocError> for WordsError {
 /// How often a loop may turn where no word says it.
 const DEFAULT_TURNS: u32 = 1024;
 
-// Whether a word may name a file.
-fn is_file_word(word: &str) -> bool
-    ensures { result ≡ is_file word.now }
-{
-    !word.starts_with("-")
-}
-
 // Whether all bytes are decimal digits.
 fn are_digits(word: &[u8]) -> bool
     ensures { result ≡ list_all is_ascii_digit word.now }
@@ -67,18 +63,18 @@ fn is_numeral(word: &str) -> bool
     1 <= word.len() && word.len() <= 5 && are_digits(word.as_bytes())
 }
 
-// How often a loop may turn, as the word says it.
-fn turns_said(word: &str) -> Option<u32>
-    ensures said { result ≡ turns_of word.now }
-    ensures few { IfSome result (λ turns. (1 ≤ turns) × (turns ≤ 65535)) }
+// The number from 1 to 65,535 that the word says.
+fn number_said(word: &str) -> Option<u32>
+    ensures said { result ≡ number_in word.now }
+    ensures few { IfSome result (λ number. (1 ≤ number) × (number ≤ 65535)) }
 {
     if !is_numeral(word) {
         return None;
     }
     match word.parse::<u16>() {
-        Ok(turns) => {
-            if turns >= 1 {
-                Some(u32::from(turns))
+        Ok(number) => {
+            if number >= 1 {
+                Some(u32::from(number))
             } else {
                 None
             }
@@ -87,15 +83,51 @@ fn turns_said(word: &str) -> Option<u32>
     }
 }
 
-// How often a loop may turn, as the words behind a file say it.
-fn turns_after(words: &[String]) -> Option<u32>
-    ensures said { result ≡ turns_behind (map string_bytes words.now) }
+// How often a loop may turn, as `--turns` says it where it stands.
+fn turns_or_default(word: Option<&str>) -> Option<u32>
+    ensures said { result ≡ turns_of (option_map (λ w. w.now) word.entry) }
     ensures few { IfSome result (λ turns. (1 ≤ turns) × (turns ≤ 65535)) }
 {
-    match words {
-        [] => Some(DEFAULT_TURNS),
-        [option, word] if option.as_str() == "--turns" => turns_said(word.as_str()),
-        _ => None,
+    match word {
+        None => Some(DEFAULT_TURNS),
+        Some(word) => number_said(word),
+    }
+}
+
+// A command on one file.
+fn on_file(alloc: Global, command: Kind, file: &str, turns: u32) -> Result<Job, AllocError>
+    ensures { IfOk result (λ job. task_of_job job ≡ on_files (command_shown command) (file.now ∷ []) turns) }
+{
+    let file = Name::new(file.to_string(alloc)?);
+    Ok(match command {
+        Kind::Hyper => Job::Hyper { file, turns },
+        Kind::Traces => Job::Traces { file, turns },
+        Kind::Channel => Job::Channel { file, turns },
+    })
+}
+
+// What is asked for by what was read.
+fn job_of(alloc: Global, said: Said<'_, '_>) -> Result<Job, WordsError>
+    ensures job { IfOk result (λ job. task_said (said_shown said.entry) ≡ Some (task_of_job job)) }
+    ensures usage { IsErrOf result WordsError.Usage → task_said (said_shown said.entry) ≡ None }
+    ensures turns { IfOk result (λ job. HasTurns (task_of_job job)) }
+{
+    let [word, files @ ..] = said.values else {
+        return Err(WordsError::Usage);
+    };
+    let Some(row) = row_of(word) else {
+        return Err(WordsError::Usage);
+    };
+    if files.len() != row.files || !options_fit(row, &said) {
+        return Err(WordsError::Usage);
+    }
+    let Some(turns) = turns_or_default(said.turns) else {
+        return Err(WordsError::Usage);
+    };
+    // No row has another number of files.
+    match files {
+        [file] => Ok(on_file(alloc, row.command, file, turns)?),
+        _ => Err(WordsError::Usage),
     }
 }
 
@@ -105,20 +137,6 @@ pub fn read_words(alloc: Global, words: &[String]) -> Result<Job, WordsError>
     ensures usage { IsErrOf result WordsError.Usage → task_of (map string_bytes words.now) ≡ None }
     ensures turns { IfOk result (λ job. HasTurns (task_of_job job)) }
 {
-    let [_, word, file, others @ ..] = words else {
-        return Err(WordsError::Usage);
-    };
-    if !is_file_word(file.as_str()) {
-        return Err(WordsError::Usage);
-    }
-    let Some(turns) = turns_after(others) else {
-        return Err(WordsError::Usage);
-    };
-    let file = Name::new(file.clone()?);
-    match word.as_str() {
-        "hyper" => Ok(Job::Hyper { file, turns }),
-        "traces" => Ok(Job::Traces { file, turns }),
-        "channel" => Ok(Job::Channel { file, turns }),
-        _ => Err(WordsError::Usage),
-    }
+    let matches = matches_of(alloc, words)?;
+    job_of(alloc, said_of(&matches))
 }

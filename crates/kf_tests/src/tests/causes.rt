@@ -112,12 +112,36 @@ fn words_that_ask_for_nothing(rt: HostRuntime) -> Result<(), Fail> {
         "kuifje hyper p.kf --turns +5",
         "kuifje hyper p.kf --turns 5x",
         "kuifje hyper p.kf --turn 5",
-        "kuifje hyper p.kf --turns 5 --turns 5",
-        "kuifje hyper --turns 5 p.kf",
+        "kuifje hyper p.kf --turns 5 --turns 6",
+        "kuifje hyper p.kf --json",
+        "kuifje hyper p.kf --gain bayes",
+        "kuifje hyper p.kf --colour red",
+        "kuifje hyper --version",
+        "kuifje --help",
+        "kuifje -h",
+        "kuifje help",
         "hyper p.kf",
     ] {
         let mut files = text_files(rt.alloc(), PARITY_TEXT, 65536, &[])?;
         ends(&rt, line, &mut files, USAGE)?;
+    }
+    Ok(())
+}
+
+// Options stand anywhere before `--`, and what stands behind it is no option.
+#[test]
+fn words_in_any_order(rt: HostRuntime) -> Result<(), Fail> {
+    let even_and_odd =
+        "target x\nscale 4\ninners 2\ninner 0 outer 1/2\n  0 1/2\n  2 1/2\ninner 1 outer 1/2\n  1 1/2\n  3 1/2\n";
+    for line in [
+        "kuifje hyper --turns 5 p.kf",
+        "kuifje --turns=00005 hyper p.kf",
+        "kuifje hyper -- p.kf",
+        "kuifje --turns 5 -- hyper p.kf",
+        "--json hyper p.kf",
+    ] {
+        let mut files = text_files(rt.alloc(), PARITY_TEXT, 65536, &[])?;
+        ends(&rt, line, &mut files, End::answer(even_and_odd))?;
     }
     Ok(())
 }

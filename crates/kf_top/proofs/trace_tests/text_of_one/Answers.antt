@@ -1,6 +1,5 @@
 use Rattle.std.proofs.Common.{◌≡◌, ℕ, List, [], ◌∷◌, map, sym, ◌∙◌, ap, subst}
 use Rattle.kf_value.specs.Views.{value_trees}
-use Rattle.kf_hyper.specs.declared.entry.Entry.{Entry}
 use Rattle.kf_hyper.specs.declared.traces.TraceRow.{TraceRow}
 use Rattle.kf_hyper.specs.Traces.{Row}
 use Rattle.kf_hyper.specs.Tables.{IsTable, table_row}

@@ -1,4 +1,4 @@
-use Rattle.std.proofs.Common.{◌≡◌, false, Err, refl, ◌∙◌, ap}
+use Rattle.std.proofs.Common.{◌≡◌, false, refl, ◌∙◌}
 use Rattle.kf_value.specs.Views.{items_of}
 use Rattle.kf_core.specs.Joint.{joint_of}
 use Rattle.kf_core.specs.Views.{program_tree}

@@ -5,7 +5,7 @@ use Rattle.kf_core.specs.Scale.{scale_of}
 use Rattle.kf_core.specs.Support.{program_pass}
 use Rattle.kf_core.specs.Views.{program_tree}
 use Rattle.kf_support.specs.Answers.{halted}
-use Rattle.kf_support.specs.Cleared.{program_of, turns_of}
+use Rattle.kf_support.specs.Cleared.{turns_of}
 use Rattle.kf_top.specs.Views.{text_of}
 use Rattle.kf_top.proofs.Steps.{halts, fits, too_wide}
 use Rattle.kf_top.proofs.work.cleared.Goals as goal

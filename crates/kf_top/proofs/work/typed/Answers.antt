@@ -1,9 +1,8 @@
-use Rattle.std.proofs.Common.{subst}
 use Rattle.std.proofs.lemmas.Result.{err_from_is_err_and}
 use Rattle.kf_ast.specs.Views.{source_tree}
 use Rattle.kf_top.specs.Outcome.{After, TokensOf, SourceOf, ProgramOf, TypedOf}
-use Rattle.kf_top.specs.Stops.{is_program, is_tokens, is_source}
-use Rattle.kf_top.proofs.Steps.{first_stops, next_stops, next_answers}
+use Rattle.kf_top.specs.Stops.{is_program}
+use Rattle.kf_top.proofs.Steps.{next_answers}
 use Rattle.kf_top.proofs.work.typed.Goals as goal
 
 pub returns-clause-answer : goal.returns-clause-answer

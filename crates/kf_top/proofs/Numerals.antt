@@ -1,4 +1,4 @@
--- A numeral that doesn't fit 16 bits says no number of turns.
+-- A numeral that does not fit 16 bits says no number from 1 to 65,535.
 use Rattle.std.proofs.Common.{◌≡◌, ◌≢◌, ℕ, ◌<◌, ◌≤◌, List, [], ◌∷◌, length, get_or, Bool, true, false, ◌&&◌, nat_le, None, Some, refl, sym, ◌∙◌, ap, subst, arith, true≢false, leb-true, if◌then◌else◌}
 use Rattle.std.specs.Char.{is_ascii_digit, digit_value}
 use Rattle.std.specs.List.{list_all}
@@ -6,7 +6,7 @@ use Rattle.std.specs.Str.Parse.{AllDigits, IsNumeral, digits_value, without_lead
 use Rattle.std.proofs.lemmas.Str.{digit_value_digit}
 use Rattle.std.proofs.lemmas.Str.Parse.{without_leading_plus_none}
 use Rattle.std.proofs.lemmas.Bool.{lt-leb}
-use Rattle.kf_top.specs.Task.{is_numeral, some_turns, turns_said}
+use Rattle.kf_top.specs.Task.{is_numeral, some_number, number_said}
 
 both : (a b : Bool) → (a && b) ≡ true → (a ≡ true) × (b ≡ true)
 both true true h = (refl, refl)
@@ -34,7 +34,7 @@ and_false false = refl
 or_else : (v : ℕ) → (v < 65536 → ⊥) → 65535 < v
 or_else v not_few = omega (arith, not_few)
 
-past : (v : ℕ) → 65535 < v → some_turns v ≡ None
+past : (v : ℕ) → 65535 < v → some_number v ≡ None
 past v far = ap (λ b. if nat_le 1 v && b then Some v else None) (lt-leb v 65535 far) ∙ ap (λ b. if b then Some v else None) (and_false (nat_le 1 v))
 
 -- a numeral is read with no sign
@@ -48,11 +48,11 @@ module _ (word : List ℕ) (numeral : is_numeral word ≡ true) where
   plain : without_leading_plus word ≡ word
   plain = without_leading_plus_none word (no_plus word digits)
 
-  is : turns_said word ≡ some_turns (digits_value 10 word)
-  is = ap (λ b. if b then some_turns (digits_value 10 word) else None) numeral
+  is : number_said word ≡ some_number (digits_value 10 word)
+  is = ap (λ b. if b then some_number (digits_value 10 word) else None) numeral
 
   many : ¬ (IsNumeral 10 (without_leading_plus word) × (digits_value 10 (without_leading_plus word) < 65536)) → 65535 < digits_value 10 word
   many none = or_else (digits_value 10 word) (λ few. none (subst (λ w. IsNumeral 10 w × (digits_value 10 w < 65536)) (sym plain) ((long, all_digits word digits), few)))
 
-  pub unread : ¬ (IsNumeral 10 (without_leading_plus word) × (digits_value 10 (without_leading_plus word) < 65536)) → turns_said word ≡ None
+  pub unread : ¬ (IsNumeral 10 (without_leading_plus word) × (digits_value 10 (without_leading_plus word) < 65536)) → number_said word ≡ None
   unread none = is ∙ past (digits_value 10 word) (many none)

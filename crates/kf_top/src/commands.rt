@@ -1,0 +1,56 @@
+ghost use Rattle.std.specs.Prelude.{◌≡◌, false, option_map};
+ghost use Rattle.kf_top.specs.Task.{options_fit as fit, row_of as row_of_word};
+ghost use Rattle.kf_top.specs.WordViews.{row_shown, said_shown};
+
+use crate::said::Said;
+
+/// A command, by its word.
+#[derive(Clone, Copy)]
+pub(crate) enum Kind {
+    Hyper,
+    Traces,
+    Channel,
+}
+
+/// What stands behind a command's word.
+#[derive(Clone, Copy)]
+pub(crate) struct Row {
+    pub(crate) command: Kind,
+    /// How many files.
+    pub(crate) files: usize,
+    /// Whether `--gain` must stand; elsewhere it may not.
+    pub(crate) needs_gain: bool,
+    /// Whether `--json` may stand.
+    pub(crate) takes_json: bool,
+}
+
+// A row with neither `--gain` nor `--json`.
+fn plain(command: Kind, files: usize) -> Row
+    ensures { result ≡ record { command = command; files = files; needs_gain = false; takes_json = false } }
+{
+    Row {
+        command,
+        files,
+        needs_gain: false,
+        takes_json: false,
+    }
+}
+
+/// The row of a command's word in the table of commands.
+pub(crate) fn row_of(word: &str) -> Option<Row>
+    ensures { option_map row_shown result ≡ row_of_word word.now }
+{
+    match word {
+        "hyper" => Some(plain(Kind::Hyper, 1)),
+        "traces" => Some(plain(Kind::Traces, 1)),
+        "channel" => Some(plain(Kind::Channel, 1)),
+        _ => None,
+    }
+}
+
+/// Whether `--gain` stands exactly where it is needed, and `--json` only where it is taken.
+pub(crate) fn options_fit(row: Row, said: &Said<'_, '_>) -> bool
+    ensures { result ≡ fit (row_shown row) (said_shown said.now) }
+{
+    row.needs_gain == said.gain.is_some() && (row.takes_json || !said.json)
+}

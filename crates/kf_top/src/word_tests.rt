@@ -1,0 +1,117 @@
+use crate::{Job, WordsError, read_words};
+use std::alloc::{AllocError, Global};
+use std::process::Abort;
+use std::test::Fail;
+
+// The words of a line, between single spaces; the empty line has none.
+fn words_of(alloc: Global, line: &str) -> Result<Vec<String>, AllocError> {
+    let mut words = Vec::new(alloc);
+    if line.is_empty() {
+        return Ok(words);
+    }
+    for word in line.split(' ') {
+        words.push(String::from_str(alloc, word)?)?;
+    }
+    Ok(words)
+}
+
+// A job's command, file and turns.
+fn parts(job: &Job) -> (&'static str, &str, u32) {
+    match job {
+        Job::Hyper { file, turns } => ("hyper", file.as_str(), *turns),
+        Job::Traces { file, turns } => ("traces", file.as_str(), *turns),
+        Job::Channel { file, turns } => ("channel", file.as_str(), *turns),
+    }
+}
+
+// The words of the line ask for this.
+fn asks_for(
+    rt: &(impl Abort + AllocGlobal),
+    line: &str,
+    want: (&'static str, &'static str, u32),
+) -> Result<(), Fail> {
+    let words = words_of(rt.alloc(), line)?;
+    match read_words(rt.alloc(), &words) {
+        Ok(job) => {
+            let (command, file, turns) = parts(&job);
+            assert!(rt;
+                command == want.0 && file == want.1 && turns == want.2,
+                "{line}"
+            );
+            Ok(())
+        }
+        Err(_) => Err(Fail::new("refused")),
+    }
+}
+
+// The words of the line ask for nothing.
+fn is_usage(rt: &(impl Abort + AllocGlobal), line: &str) -> Result<(), Fail> {
+    let words = words_of(rt.alloc(), line)?;
+    match read_words(rt.alloc(), &words) {
+        Err(WordsError::Usage) => Ok(()),
+        _ => Err(Fail::new("not refused")),
+    }
+}
+
+#[test]
+fn words_that_are_taken(rt: HostRuntime) -> Result<(), Fail> {
+    for (line, want) in [
+        ("kuifje hyper p.kf", ("hyper", "p.kf", 1024)),
+        ("kuifje traces p.kf", ("traces", "p.kf", 1024)),
+        ("kuifje channel p.kf", ("channel", "p.kf", 1024)),
+        ("--help hyper p.kf", ("hyper", "p.kf", 1024)),
+        ("kuifje hyper --turns 5 p.kf", ("hyper", "p.kf", 5)),
+        ("kuifje hyper p.kf --turns=5", ("hyper", "p.kf", 5)),
+        ("kuifje --turns 5 hyper p.kf", ("hyper", "p.kf", 5)),
+        ("kuifje hyper p.kf --turns 00005", ("hyper", "p.kf", 5)),
+        ("kuifje hyper p.kf --turns 65535", ("hyper", "p.kf", 65535)),
+        ("kuifje hyper -- p.kf", ("hyper", "p.kf", 1024)),
+        ("kuifje hyper -- -p.kf", ("hyper", "-p.kf", 1024)),
+        ("kuifje -- hyper --json", ("hyper", "--json", 1024)),
+        ("kuifje hyper -", ("hyper", "-", 1024)),
+        ("kuifje hyper ", ("hyper", "", 1024)),
+        ("kuifje hyper hyper", ("hyper", "hyper", 1024)),
+    ] {
+        asks_for(&rt, line, want)?;
+    }
+    Ok(())
+}
+
+#[test]
+fn words_that_are_refused(rt: HostRuntime) -> Result<(), Fail> {
+    for line in [
+        "",
+        "kuifje",
+        "hyper p.kf",
+        "kuifje ",
+        "kuifje hyper",
+        "kuifje p.kf hyper",
+        "kuifje hyper p.kf q.kf",
+        "kuifje hyper -p.kf",
+        "kuifje hyper p.kf --turns 0",
+        "kuifje hyper p.kf --turns 65536",
+        "kuifje hyper p.kf --turns 000001",
+        "kuifje hyper p.kf --turns",
+        "kuifje hyper p.kf --turns=",
+        "kuifje hyper p.kf --turns -5",
+        "kuifje hyper p.kf --turns 5 6",
+        "kuifje hyper p.kf --turn 5",
+        "kuifje hyper p.kf --turns 5 --turns 6",
+        "kuifje hyper p.kf --json",
+        "kuifje hyper p.kf --json --json",
+        "kuifje hyper p.kf --json=true",
+        "kuifje hyper p.kf --gain bayes",
+        "kuifje hyperr p.kf",
+        "kuifje --help",
+        "kuifje -h",
+        "kuifje help",
+        "kuifje help p.kf",
+        "kuifje hyper p.kf --help",
+        "kuifje hyper --version",
+        "kuifje -V",
+        "kuifje hyper p.kf --colour red",
+    ] {
+        is_usage(&rt, line)?;
+    }
+    Ok(())
+}

@@ -1,4 +1,4 @@
--- For bodies: the joint weights of a hyper, and what all its inners together give to a value.
+-- Believed: the joint weights of a hyper, and what all its inners together give to a value.
 use Rattle.std.specs.Prelude.{ℕ, ◌*◌, ◌/◌, List, map, sum_by}
 use Rattle.kf_hyper.specs.declared.entry.Entry.{Entry}
 use Rattle.kf_hyper.specs.Columns.{weight_at, total}

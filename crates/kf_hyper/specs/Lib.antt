@@ -1,9 +1,9 @@
 -- Believed
+pub mod Averages
 pub mod Columns
 pub mod Hypers
 pub mod Traces
 -- For bodies
-pub mod Averages
 pub mod Classes
 pub mod Joint
 pub mod Laws

@@ -1,0 +1,13 @@
+-- Believed
+pub mod Gains
+pub mod Worth
+pub mod Vulnerabilities
+pub mod Json
+pub mod Tables
+-- For bodies
+pub mod Falling
+pub mod Laws
+pub mod Reading
+pub mod Shapes
+pub mod TableLaws
+pub mod Views

@@ -1,0 +1,28 @@
+-- For bodies: what the steps of reading a gain table give.
+use Rattle.std.specs.Prelude.{◌≡◌, ◌↔◌, List, map, Contains, true, Option, Some, unwrap_or, option_map}
+use Rattle.std.specs.List.Sorted.{IsStrictlyIncreasing}
+use denote.Ref.{Bor}
+use Rattle.serde_json.specs.Data.{Data, null}
+use Rattle.serde_json.specs.View.{view}
+use Rattle.serde_json.specs.declared.value.Value.{Value}
+use Rattle.kf_value.specs.Targets.{Item}
+use Rattle.kf_value.specs.Numbers.{IsNumberOf}
+use Rattle.kf_gain.specs.declared.table.GainEntry.{GainEntry}
+use Rattle.kf_gain.specs.declared.table.Action.{Action}
+use Rattle.kf_gain.specs.Tables.{name_at, value_texts, are_distinct, Names}
+use Rattle.kf_gain.specs.Json.{at_place, text_of, whole_of}
+
+-- what was found; `null` where nothing was
+abbrev pub seen : Option (Bor Value) → Data
+seen found = unwrap_or (option_map (λ v. view v.now) found) null
+
+-- the entry of a gain: the number of its value, and the gain
+pub record IsEntry (items : List Item) (g : Data) (e : GainEntry) : Type 0 where
+  pub value : IsNumberOf items (text_of (at_place 0 g)) (Some e.value)
+  pub gain : e.gain ≡ whole_of (at_place 1 g)
+
+-- an action as it is read: its entries have exactly the gains that it names, and they ascend where it names no value twice
+pub record IsRead (items : List Item) (action : Data) (a : Action) : Type 0 where
+  pub name : a.name ≡ text_of (name_at action)
+  pub gains : (e : GainEntry) → Contains a.gains e ↔ Names items action e
+  pub ascending : are_distinct (value_texts action) ≡ true → IsStrictlyIncreasing (map (λ e. e.value) a.gains)

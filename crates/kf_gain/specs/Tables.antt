@@ -1,0 +1,164 @@
+-- Believed: gain tables as JSON files: which bytes are one, what it says, and the first rule that other bytes break.
+use Rattle.std.specs.Prelude.{◌≡◌, ℕ, ◌<◌, ◌↔◌, ◌&&◌, ◌||◌, ◌==◌, nat_le, ℤ, pos, int_le, unsigned_abs, List, [], ◌∷◌, map, flat_map, length, Contains, Bool, true, false, not, Option, None, Some, Result, Ok, Err, codes, bytes_eq, if◌then◌else◌, is_some}
+use Rattle.std.specs.List.{AllZip, list_all, list_any}
+use Rattle.std.specs.List.Sorted.{IsStrictlyIncreasing}
+use Rattle.serde_json.specs.Data.{Data}
+use Rattle.kf_value.specs.Targets.{Item, target_values, target_value_text, shown}
+use Rattle.kf_gain.specs.declared.table.Action.{Action}
+use Rattle.kf_gain.specs.declared.table.GainEntry.{GainEntry}
+use Rattle.kf_gain.specs.declared.error.TableError.{TableError}
+use Rattle.kf_gain.specs.declared.error.TableError.TheVariants as broken
+use Rattle.kf_gain.specs.Gains.{TableTree}
+use Rattle.kf_gain.specs.Json.{json_of, has_keys, at_key, is_list, members, at_place, is_text, text_of, is_the_text, as_whole, is_whole, whole_of}
+
+-- ---- what stands where in a table
+
+abbrev pub over_at : Data → Data
+over_at d = at_key (codes "over") d
+
+abbrev pub rest_at : Data → Data
+rest_at d = at_key (codes "rest") d
+
+abbrev pub actions_at : Data → Data
+actions_at d = at_key (codes "actions") d
+
+abbrev pub name_at : Data → Data
+name_at action = at_key (codes "name") action
+
+abbrev pub gains_at : Data → Data
+gains_at action = at_key (codes "gains") action
+
+-- an action's gains, each with the text of its value
+abbrev pub named : Data → List (List ℕ × ℤ)
+named action = map (λ g. (text_of (at_place 0 g), whole_of (at_place 1 g))) (members (gains_at action))
+
+-- the texts of the values that an action names, and the names of all actions
+abbrev pub value_texts : Data → List (List ℕ)
+value_texts action = map (λ g. text_of (at_place 0 g)) (members (gains_at action))
+
+abbrev pub action_names : Data → List (List ℕ)
+action_names d = map (λ a. text_of (name_at a)) (members (actions_at d))
+
+-- ---- the rules, each over the whole value; a later one presupposes those before it
+
+-- Form 1: an object with exactly these keys
+abbrev pub form_1 : Data → Bool
+form_1 d = has_keys (codes "actions" ∷ codes "format" ∷ codes "over" ∷ codes "rest" ∷ []) d
+
+-- Form 2: the format is this one
+abbrev pub form_2 : Data → Bool
+form_2 d = is_the_text (codes "kuifje-gain-1") (at_key (codes "format") d)
+
+-- Form 3: `over` and `rest` are whole numbers, and `over` is at least 1
+abbrev pub form_3 : Data → Bool
+form_3 d = is_whole (over_at d) && is_whole (rest_at d) && int_le (pos 1) (whole_of (over_at d))
+
+-- an object with exactly these keys
+abbrev pub is_action : Data → Bool
+is_action a = has_keys (codes "gains" ∷ codes "name" ∷ []) a
+
+-- Form 4: the actions are a list of such
+abbrev pub form_4 : Data → Bool
+form_4 d = is_list (actions_at d) && list_all is_action (members (actions_at d))
+
+-- ASCII letters and digits, `_` and `-`
+abbrev pub is_name_byte : ℕ → Bool
+is_name_byte b = (nat_le 48 b && nat_le b 57) || (nat_le 65 b && nat_le b 90) || (nat_le 97 b && nat_le b 122) || (b == 95) || (b == 45)
+
+-- a text of 1 to 64 of these
+abbrev pub is_name : Data → Bool
+is_name d = is_text d && nat_le 1 (length (text_of d)) && nat_le (length (text_of d)) 64 && list_all is_name_byte (text_of d)
+
+-- Form 5: each action's name is a name
+abbrev pub form_5 : Data → Bool
+form_5 d = list_all (λ a. is_name (name_at a)) (members (actions_at d))
+
+-- a list of a text and a whole number
+abbrev pub is_gain : Data → Bool
+is_gain g = is_list g && (length (members g) == 2) && is_text (at_place 0 g) && is_whole (at_place 1 g)
+
+-- a list of such
+abbrev pub are_gains : Data → Bool
+are_gains gs = is_list gs && list_all is_gain (members gs)
+
+-- Form 6: each action's gains are gains
+abbrev pub form_6 : Data → Bool
+form_6 d = list_all (λ a. are_gains (gains_at a)) (members (actions_at d))
+
+-- at most 1,000,000,000 in absolute value
+abbrev pub is_narrow : ℤ → Bool
+is_narrow z = nat_le (unsigned_abs z) 1000000000
+
+-- Wide is broken where some number is wider
+abbrev pub narrow : Data → Bool
+narrow d = is_narrow (whole_of (over_at d)) && is_narrow (whole_of (rest_at d))
+    && list_all (λ a. list_all (λ g. is_narrow (whole_of (at_place 1 g))) (members (gains_at a))) (members (actions_at d))
+
+-- Empty is broken where there is no action
+abbrev pub some_action : Data → Bool
+some_action d = not (length (members (actions_at d)) == 0)
+
+-- some value of the target prints as this text
+abbrev pub is_value_text : List Item → List ℕ → Bool
+is_value_text items bytes = list_any (λ vs. bytes_eq (shown vs) bytes) (target_values items)
+
+-- Unknown is broken where some text is none of these
+abbrev pub all_known : List Item → Data → Bool
+all_known items d = list_all (λ a. list_all (is_value_text items) (value_texts a)) (members (actions_at d))
+
+-- no two of the texts are equal
+abbrev pub are_distinct : List (List ℕ) → Bool
+are_distinct [] = true
+are_distinct (t ∷ ts) = not (list_any (bytes_eq t) ts) && are_distinct ts
+
+-- Twice is broken where an action names a value twice, or two actions have one name; a value has one text
+abbrev pub all_once : Data → Bool
+all_once d = list_all (λ a. are_distinct (value_texts a)) (members (actions_at d)) && are_distinct (action_names d)
+
+-- ---- the rules in their order, each with the answer where it is broken
+
+-- those on the file alone
+abbrev pub form_rules : Data → List (Bool × TableError)
+form_rules d =
+    (form_1 d, broken.Form 1) ∷ (form_2 d, broken.Form 2) ∷ (form_3 d, broken.Form 3) ∷ (form_4 d, broken.Form 4)
+    ∷ (form_5 d, broken.Form 5) ∷ (form_6 d, broken.Form 6) ∷ (narrow d, broken.Wide) ∷ (some_action d, broken.Empty) ∷ []
+
+-- those on the values that it names
+abbrev pub value_rules : List Item → Data → List (Bool × TableError)
+value_rules items d = (all_known items d, broken.Unknown) ∷ (all_once d, broken.Twice) ∷ []
+
+-- the first that is broken; none where all hold, and then what comes next
+abbrev pub first_broken : List (Bool × TableError) → Option TableError → Option TableError
+first_broken [] next = next
+first_broken (rule ∷ rules) next = if rule.0 then first_broken rules next else Some rule.1
+
+abbrev pub fault_in : List Item → Data → Option TableError
+fault_in items d = first_broken (form_rules d) (first_broken (value_rules items d) None)
+
+-- ---- what a table says
+
+-- the action names this value, with this gain
+abbrev pub Names : List Item → Data → GainEntry → Type 0
+Names items action e = (e.value < length (target_values items)) × Contains (named action) (target_value_text items e.value, e.gain)
+
+-- an action: its name, and exactly the gains that it names, in the order of their values
+pub record IsAction (items : List Item) (action : Data) (a : Action) : Type 0 where
+  pub name : a.name ≡ text_of (name_at action)
+  pub ascending : IsStrictlyIncreasing (map (λ e. e.value) a.gains)
+  pub gains : (e : GainEntry) → Contains a.gains e ↔ Names items action e
+
+-- a table: its numbers, and all actions in the file's order
+pub record IsTableOf (items : List Item) (d : Data) (t : TableTree) : Type 0 where
+  pub over : pos t.over ≡ whole_of (over_at d)
+  pub rest : t.rest ≡ whole_of (rest_at d)
+  pub actions : AllZip (IsAction items) (members (actions_at d)) t.actions
+
+-- the answer for a JSON value: the first rule that it breaks, or its table
+abbrev pub IsAnswerFor : List Item → Data → Option TableError → Result TableTree TableError → Type 0
+IsAnswerFor items d (Some e) r = r ≡ Err e
+IsAnswerFor items d None (Ok t) = IsTableOf items d t
+IsAnswerFor items d None (Err e) = ⊥
+
+-- the answer for a file's bytes, read for a target of these items
+abbrev pub IsTable : List Item → List ℕ → Result TableTree TableError → Type 0
+IsTable items bytes r = elim (json_of bytes) [ None ↦ r ≡ Err broken.Json | Some d ↦ IsAnswerFor items d (fault_in items d) r ]

@@ -1,0 +1,26 @@
+//! Gain functions: exact prior and posterior vulnerabilities of hypers, and the reading of gain tables.
+#![tactic(auto)]
+
+mod actions;
+mod error;
+mod gain;
+mod guesses;
+mod law;
+mod reading;
+mod table;
+mod table_law;
+mod vulnerability;
+mod widths;
+
+pub use error::TableError;
+pub use gain::{Gain, GainFault};
+pub use law::{average_laws, gain_laws, vulnerability_laws};
+pub use reading::read_table;
+pub use table::{Action, ActionList, GainEntry, GainEntryList, GainTable};
+pub use table_law::table_laws;
+pub use vulnerability::{posterior, prior};
+
+#[cfg(test)]
+mod table_tests;
+#[cfg(test)]
+mod tests;

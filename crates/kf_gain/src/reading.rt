@@ -1,0 +1,71 @@
+//! The reading of gain tables.
+
+ghost use Rattle.std.specs.Prelude.{◌≡◌, ◌≢◌, Ok, Err, Some, None, IfOk, IfErr};
+ghost use Rattle.serde_json.specs.View.{view};
+ghost use Rattle.kf_value.specs.Views.{items_of};
+ghost use Rattle.kf_gain.specs.declared.error.TableError.TheVariants as broken;
+ghost use Rattle.kf_gain.specs.Json.{json_of};
+ghost use Rattle.kf_gain.specs.Tables.{IsTable};
+ghost use Rattle.kf_gain.specs.Shapes.{IsTableShape};
+ghost use Rattle.kf_gain.specs.Views.{table_tree};
+
+mod json;
+mod making;
+mod rules;
+
+use crate::{Action, ActionList, GainTable, TableError};
+use json::whole_or_zero;
+use kf_value::Target;
+use making::{actions, is_once};
+use rules::broken_form;
+use serde_json::{Category, Value};
+use std::alloc::Global;
+
+/// The JSON value of the bytes.
+fn parsed(alloc: Global, bytes: &[u8]) -> Result<Value, TableError>
+    ensures ok { IfOk result (λ v. json_of bytes.now ≡ Some (view v)) }
+    ensures err { IfErr result (λ e. e ≢ broken.Mem → (e ≡ broken.Json) × (json_of bytes.now ≡ None)) }
+{
+    match Value::from_slice(alloc, bytes) {
+        Ok(value) => Ok(value),
+        Err(e) => match e.classify() {
+            Category::Memory => Err(TableError::Mem),
+            _ => Err(TableError::Json),
+        },
+    }
+}
+
+/// The table with these numbers and actions.
+fn table(over: u128, rest: i128, actions: Vec<Action>) -> GainTable
+    requires shape { IsTableShape (record { over = over; rest = rest; actions = actions.items }) }
+    ensures { table_tree result ≡ record { over = over; rest = rest; actions = actions.items } }
+{
+    GainTable {
+        over,
+        rest,
+        actions: ActionList::new(actions),
+    }
+}
+
+/// The gain table that the bytes say for a target: JSON with the keys `actions`, `format`, `over` and `rest`.
+///
+/// An entry names a value of the target by the text that it prints as. Its gain is over the table's `over`, and so is
+/// `rest`, the gain at each value that an action doesn't name. The error is that of the first broken rule, each rule being
+/// tested over the whole value before the next: `Json`, `Form` from 1 to 6, `Wide`, `Empty`, `Unknown`, `Twice`; or `Mem`,
+/// want of memory.
+pub fn read_table(alloc: Global, bytes: &[u8], target: &Target) -> Result<GainTable, TableError>
+    ensures is { IfOk result (λ t. IsTable (items_of target.now) bytes.now (Ok (table_tree t))) }
+    ensures err { IfErr result (λ e. e ≢ broken.Mem → IsTable (items_of target.now) bytes.now (Err e)) }
+{
+    let value = parsed(alloc, bytes)?;
+    if let Some(fault) = broken_form(&value) {
+        return Err(fault);
+    }
+    let actions = actions(alloc, target, &value)?;
+    if !is_once(alloc, &value)? {
+        return Err(TableError::Twice);
+    }
+    let over = whole_or_zero(value.get("over")).unsigned_abs();
+    let rest = whole_or_zero(value.get("rest"));
+    Ok(table(over, rest, actions))
+}

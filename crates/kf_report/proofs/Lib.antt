@@ -1,0 +1,6 @@
+mod Crossing
+mod Leaks
+mod Lowest
+mod Ratios
+mod Sums
+mod Uniqueness

@@ -1,0 +1,5 @@
+-- Believed
+pub mod Reports
+-- For bodies
+pub mod Laws
+pub mod Views

@@ -9,9 +9,12 @@ mod choices;
 mod commands;
 mod examples;
 mod faults;
+mod leaks;
 mod plain;
+mod plain_gains;
 mod plain_traces;
 mod refusals;
+mod reports;
 mod slow;
 mod types;
 mod values;
@@ -74,15 +77,25 @@ fn program_of(alloc: Global, text: &str) -> Result<Program, Fail>
     Ok(check(alloc, &source)?)
 }
 
+// A file of this name.
+fn file(alloc: Global, name: &str, bytes: Vec<u8>) -> Result<FileEntry, AllocError> {
+    Ok(FileEntry {
+        name: FileName::new(String::from_str(alloc, name)?),
+        bytes: ByteList::new(bytes),
+    })
+}
+
 // The one file `p.kf`.
 fn one_file(alloc: Global, bytes: Vec<u8>) -> Result<FileList, AllocError> {
-    let name = FileName::new(String::from_str(alloc, "p.kf")?);
-    Ok(FileList::new(vec![in alloc;
-        FileEntry {
-            name,
-            bytes: ByteList::new(bytes)
-        },
-    ]?))
+    let program = file(alloc, "p.kf", bytes)?;
+    Ok(FileList::new(vec![in alloc; program]?))
+}
+
+// The files `p.kf` and `g.json`.
+fn two_files(alloc: Global, program: &str, table: Vec<u8>) -> Result<FileList, AllocError> {
+    let table = file(alloc, "g.json", table)?;
+    let program = file(alloc, "p.kf", program.as_bytes().to_vec(alloc)?)?;
+    Ok(FileList::new(vec![in alloc; program, table]?))
 }
 
 // The file `p.kf` with this text, read in pieces; these reads fail.
@@ -145,5 +158,17 @@ fn ends_over_text(
 ) -> Result<(), Fail> {
     let bytes = text.as_bytes().to_vec(rt.alloc())?;
     let mut files = SureFiles::new(one_file(rt.alloc(), bytes)?, 65536);
+    ends(rt, words, &mut files, want)
+}
+
+// A run of these words over the file `p.kf` with this text and the file `g.json` with these bytes ends so.
+fn ends_over_both(
+    rt: &(impl Abort + AllocGlobal),
+    words: &str,
+    text: &str,
+    table: Vec<u8>,
+    want: End<'_>,
+) -> Result<(), Fail> {
+    let mut files = SureFiles::new(two_files(rt.alloc(), text, table)?, 65536);
     ends(rt, words, &mut files, want)
 }

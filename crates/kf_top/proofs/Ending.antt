@@ -4,7 +4,7 @@ use Rattle.std.proofs.lemmas.Bool.{cases_lt}
 use Rattle.std.specs.Option.{ForSome}
 use Rattle.std.specs.Io.KnownBytes.{Appends, Keeps}
 use Rattle.kf_io.specs.Faults.{Rose}
-use Rattle.kf_top.specs.Task.{Task, task_of, files_of_some}
+use Rattle.kf_top.specs.Task.{Task, task_of, files_of_some, named as names}
 use Rattle.kf_top.specs.Answer.{Statement, Shown, States, Refused, Usage, said, line_of, status_of}
 use Rattle.kf_top.specs.Outcome.{Outcome, SomeOutcome, TaskOutcome}
 use Rattle.kf_top.specs.Stops.{refused}
@@ -33,6 +33,8 @@ refused_high (refusal.BadText name line column word) = omega arith
 refused_high (refusal.BadRun name line column word) = omega arith
 refused_high (refusal.WideScale name) = omega arith
 refused_high refusal.NotInitial = omega arith
+refused_high (refusal.BadTable name error) = omega arith
+refused_high refusal.WideGain = omega arith
 
 pub refused_other : (r : Refusal) → status_of (refused r) ≢ 12
 refused_other (refusal.TooLong name) = λ e. omega arith
@@ -40,6 +42,8 @@ refused_other (refusal.BadText name line column word) = λ e. omega arith
 refused_other (refusal.BadRun name line column word) = λ e. omega arith
 refused_other (refusal.WideScale name) = λ e. omega arith
 refused_other refusal.NotInitial = λ e. omega arith
+refused_other (refusal.BadTable name error) = λ e. omega arith
+refused_other refusal.WideGain = λ e. omega arith
 
 answered_refused : (words : List (List ℕ)) (contents : List ℕ → List ℕ) (r : Refused) (out err : Sunk) (status : ℕ) → Outcome words contents (Err r) → status ≡ status_of r → TookNothing out → TookLine err (line_of r)
     → Answered words contents out err status
@@ -109,7 +113,7 @@ module _ (words : List (List ℕ)) (told : Option (List ℕ → List ℕ)) (befo
       memory = λ is12. absurd (other (sym is ∙ is12));
     }
 
-    pub ends_unread : (name : List ℕ) → Contains task.files name → Rose (before name) (now name) → out.faults ≡ out.faults_before → TookNothing out → TookLine err (said name (codes ": read failed")) → HasCauses words told before now out err 3
+    pub ends_unread : (name : List ℕ) → Contains (names task) name → Rose (before name) (now name) → out.faults ≡ out.faults_before → TookNothing out → TookLine err (said name (codes ": read failed")) → HasCauses words told before now out err 3
     ends_unread name named rose unfailed quiet line = record {
       decided = λ contents e no3 no4 no12. absurd (no3 refl);
       usage = λ is2. absurd (omega arith);

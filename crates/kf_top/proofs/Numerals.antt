@@ -6,7 +6,7 @@ use Rattle.std.specs.Str.Parse.{AllDigits, IsNumeral, digits_value, without_lead
 use Rattle.std.proofs.lemmas.Str.{digit_value_digit}
 use Rattle.std.proofs.lemmas.Str.Parse.{without_leading_plus_none}
 use Rattle.std.proofs.lemmas.Bool.{lt-leb}
-use Rattle.kf_top.specs.Task.{is_numeral, some_number, number_said}
+use Rattle.kf_top.specs.Numerals.{is_numeral, some_number, number_said}
 
 both : (a b : Bool) → (a && b) ≡ true → (a ≡ true) × (b ≡ true)
 both true true h = (refl, refl)

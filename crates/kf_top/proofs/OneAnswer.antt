@@ -1,5 +1,5 @@
 -- Words and files have at most one defined answer.
-use Rattle.std.proofs.Common.{◌≡◌, ℕ, List, [], ◌∷◌, None, Some, Option, Result, Ok, Err, sym, ◌∙◌, ap, subst, ⊎_elim}
+use Rattle.std.proofs.Common.{◌≡◌, ℕ, ◌*◌, nat_le, if◌then◌else◌, List, [], ◌∷◌, length, None, Some, Option, Result, Ok, Err, sym, ◌∙◌, ap, subst, ⊎_elim}
 use Rattle.std.specs.declared.cmp.Ordering.TheVariants.{Less}
 use Rattle.std.specs.Ordering.{nat_cmp, ordering_reverse}
 use Rattle.std.proofs.lemmas.Cmp.{nat_cmp_total}
@@ -18,10 +18,23 @@ use Rattle.kf_core.specs.Programs.{ProgramTree}
 use Rattle.kf_core.proofs.OneTable.{one_list}
 use Rattle.kf_hyper.specs.Traces.{Row}
 use Rattle.kf_channel.specs.Channels.{AreSecrets}
-use Rattle.kf_top.specs.Texts.{hyper_text, trace_text, channel_text}
-use Rattle.kf_top.specs.Task.{Task, task_of}
-use Rattle.kf_top.specs.Answer.{Shown, Statement, HyperOf, TracesOf, ChannelOf, IsText, States, Refused, Usage}
-use Rattle.kf_top.specs.Outcome.{Step, After, Gives, Each, Fault, Text, bad_text, token_fault, syntax_fault, type_fault, IsBad, TokensOf, SourceOf, ProgramOf, TypedOf, TextOf, cleared, ClearedOf, statement_of, TaskOutcome, SomeOutcome, source_of}
+use Rattle.kf_text.specs.Texts.{hyper_text, trace_text, channel_text}
+use Rattle.kf_text.specs.ReportTexts.{report_text}
+use Rattle.kf_frac.specs.Fractions.{limit}
+use Rattle.kf_value.specs.Targets.{Item}
+use Rattle.kf_hyper.specs.declared.entry.Entry.{Entry}
+use Rattle.kf_hyper.specs.Hypers.{Inner}
+use Rattle.kf_core.specs.Joint.{Cell, joint_of}
+use Rattle.kf_core.specs.Scale.{scale_of as run_scale}
+use Rattle.kf_gain.specs.declared.error.TableError.{TableError}
+use Rattle.kf_gain.specs.Gains.{GainOf, Bayes, Tries, Guessing, Table, TableTree}
+use Rattle.kf_gain.specs.Laws.{OneAverage, OneReport}
+use Rattle.kf_gain.specs.TableLaws.{OneTable}
+use Rattle.kf_gain.specs.Vulnerabilities.{IsWidth, width}
+use Rattle.kf_report.specs.Reports.{Leakage, IsLeakage}
+use Rattle.kf_top.specs.Task.{Command, Hyper, Traces, Channel, Leak, Task, task_of}
+use Rattle.kf_top.specs.Answer.{Shown, Statement, HyperOf, TracesOf, ChannelOf, ReportOf, IsText, States, Refused, Usage, BadTable, WideGain}
+use Rattle.kf_top.specs.Outcome.{Step, After, Gives, Each, Fault, Text, bad_text, token_fault, syntax_fault, type_fault, IsBad, TokensOf, SourceOf, ProgramOf, TypedOf, TextOf, cleared, ClearedOf, table_word, TableOf, TableIn, GainIn, HasWidth, ReportIn, channel_statement, CommandOutcome, TaskOutcome, SomeOutcome, source_of}
 use Rattle.kf_top.specs.Ends.{Answer, Settled, IsAnswer, showing}
 use Rattle.kf_top.proofs.Steps.{some_syntax}
 
@@ -40,7 +53,15 @@ one_secrets rows xs ys p q =
 same_shown : (a b : Shown) → a.bytes ≡ b.bytes → a.yes ≡ b.yes → a ≡ b
 same_shown a b bytes yes' = λ i. record { yes = yes' i; bytes = bytes i }
 
-module _ (rows_are_one : RowsAreOne) (hypers_are_one : HypersAreOne) where
+-- inners have one leakage
+one_leakage : OneReport → (g : GainOf TableTree) (scale : ℕ) (inners : List Inner) (l m : Leakage) → IsLeakage g scale inners l → IsLeakage g scale inners m → l ≡ m
+one_leakage one g scale inners l m p q =
+    let prior : l.prior ≡ m.prior = (one g inners l.prior m.prior).0 p.prior q.prior in
+    let posterior : l.posterior ≡ m.posterior = (one g inners l.posterior m.posterior).1 p.posterior q.posterior in
+    let whole : l.whole ≡ m.whole = p.whole ∙ sym q.whole in
+    λ i. record { prior = prior i; posterior = posterior i; whole = whole i }
+
+module _ (rows_are_one : RowsAreOne) (hypers_are_one : HypersAreOne) (reports_are_one : OneReport) where
   one_text : (statement : Statement) (xs ys : List ℕ) → IsText statement xs → IsText statement ys → xs ≡ ys
   one_text (HyperOf target scale joint) xs ys p q = p.2 ∙ ap (hyper_text target scale) (hypers_are_one joint p.0 q.0 p.1 q.1) ∙ sym q.2
   one_text (TracesOf target scale joint) xs ys p q = p.2 ∙ ap (trace_text target scale) (rows_are_one joint p.0 q.0 p.1 q.1) ∙ sym q.2
@@ -48,6 +69,10 @@ module _ (rows_are_one : RowsAreOne) (hypers_are_one : HypersAreOne) where
       let rows : p.0 ≡ q.0 = rows_are_one joint p.0 q.0 p.1 q.1 in
       let secrets : p.2.0 ≡ q.2.0 = one_secrets q.0 p.2.0 q.2.0 (subst (λ (rs : List Row). AreSecrets rs p.2.0) rows p.2.1) q.2.1 in
       p.2.2 ∙ (λ i. channel_text target (rows i) (secrets i)) ∙ sym q.2.2
+  one_text (ReportOf g scale joint) xs ys p q =
+      let inners : p.0 ≡ q.0 = hypers_are_one joint p.0 q.0 p.1 q.1 in
+      let leakage : p.2.0 ≡ q.2.0 = one_leakage reports_are_one g scale q.0 p.2.0 q.2.0 (subst (λ (is : List Inner). IsLeakage g scale is p.2.0) inners p.2.1) q.2.1 in
+      p.2.2 ∙ ap (report_text g) leakage ∙ sym q.2.2
 
   one_shown : (statement : Statement) (a b : Shown) → States a statement → States b statement → a ≡ b
   one_shown statement a b p q = same_shown a b (one_text statement a.bytes b.bytes p.text q.text) (p.yes ∙ sym q.yes)
@@ -101,6 +126,56 @@ one_bad IsError fault_of name bytes one r s p q =
     let f : p.fault ≡ q.fault = cc in
     p.is ∙ ap (bad_text name bytes) f ∙ sym q.is
 
+-- ---- gains
+
+-- the law of gain tables
+module _ (tables_are_one : OneTable) where
+  one_table : (target : List Item) (name bytes : List ℕ) → HasOne (TableOf target name bytes)
+  one_table target name bytes (Ok t) (Ok u) p q = let same : Ok t ≡ Ok u = tables_are_one target bytes (Ok t) (Ok u) p q in let e : t ≡ u = cc in ap Ok e
+  one_table target name bytes (Ok t) (Err s) p q = let same : Ok t ≡ Err q.0 = tables_are_one target bytes (Ok t) (Err q.0) p q.1 in absurd (cc)
+  one_table target name bytes (Err r) (Ok u) p q = let same : Err p.0 ≡ Ok u = tables_are_one target bytes (Err p.0) (Ok u) p.1 q in absurd (cc)
+  one_table target name bytes (Err r) (Err s) p q =
+      let same : Err p.0 ≡ Err q.0 = tables_are_one target bytes (Err p.0) (Err q.0) p.1 q.1 in
+      let e : p.0 ≡ q.0 = cc in
+      ap Err (p.2 ∙ ap (λ (f : TableError). BadTable name (table_word f)) e ∙ sym q.2)
+
+  one_gain : (contents : List ℕ → List ℕ) (target : List Item) (g : GainOf (List ℕ)) → HasOne (GainIn contents target g)
+  one_gain contents target Bayes = one_given (Ok Bayes)
+  one_gain contents target (Tries k) = one_given (Ok (Tries k))
+  one_gain contents target Guessing = one_given (Ok Guessing)
+  one_gain contents target (Table name) =
+      one_after (TableIn contents target name) (λ t. Gives (Ok (Table t)))
+      (one_after (Gives (source_of contents name)) (TableOf target name) (one_given (source_of contents name)) (one_table target name))
+      (λ t. one_given (Ok (Table t)))
+
+-- the laws of hypers and of their sums
+module _ (hypers_are_one : HypersAreOne) (averages_are_one : OneAverage) where
+  one_width : (joint : List Cell) (g : GainOf TableTree) (m n : ℕ) → HasWidth joint g m → HasWidth joint g n → m ≡ n
+  one_width joint g m n p q =
+      let inners : p.inners ≡ q.inners = hypers_are_one joint p.inners q.inners p.is_hyper q.is_hyper in
+      let same : IsWidth g q.inners m = subst (λ (is : List Inner). IsWidth g is m) inners p.is_width in
+      let average : same.average ≡ q.is_width.average = averages_are_one q.inners same.average q.is_width.average same.is_average q.is_width.is_average in
+      same.is ∙ ap (λ (column : List Entry). width g (length column)) average ∙ sym q.is_width.is
+
+  one_report : (scale : ℕ) (joint : List Cell) (g : GainOf TableTree) → HasOne (ReportIn scale joint g)
+  one_report scale joint g r s p q =
+      let m : p.0 ≡ q.0 = one_width joint g p.0 q.0 p.1 q.1 in
+      p.2 ∙ ap (λ (n : ℕ). if nat_le (scale * n) limit then Ok (ReportOf g scale joint) else Err WideGain) m ∙ sym q.2
+
+-- ---- commands
+
+module _ (tables_are_one : OneTable) (hypers_are_one : HypersAreOne) (averages_are_one : OneAverage) (contents : List ℕ → List ℕ) (turns : ℕ) where
+  one_command : (command : Command) (ps : List ProgramTree) → HasOne (CommandOutcome contents command turns ps)
+  one_command Hyper (p ∷ []) = one_given (Ok (HyperOf p.target (run_scale turns p) (joint_of turns p)))
+  one_command Traces (p ∷ []) = one_given (Ok (TracesOf p.target (run_scale turns p) (joint_of turns p)))
+  one_command Channel (p ∷ []) = one_given (channel_statement turns p)
+  one_command (Leak g) (p ∷ []) =
+      one_after (GainIn contents p.target g) (ReportIn (run_scale turns p) (joint_of turns p)) (one_gain tables_are_one contents p.target g)
+      (one_report hypers_are_one averages_are_one (run_scale turns p) (joint_of turns p))
+  one_command command ps = one_given (Err Usage)
+
+-- ---- texts
+
 -- the laws of tokens, of the grammar and of the type rules
 module _ (reading : IsOneReading) (one : OneProgram) (both : NotBoth) (refusal : OneRefusal) (judgement : OneJudgement) (typed : OneTyped) where
   one_tokens : (name bytes : List ℕ) → HasOne (TokensOf name bytes)
@@ -138,18 +213,19 @@ module _ (reading : IsOneReading) (one : OneProgram) (both : NotBoth) (refusal :
       one_after (Gives (source_of contents name)) (λ bytes. After (TypedOf name bytes) (λ p. Gives (Ok (text name bytes p)))) (one_given (source_of contents name))
       (λ bytes. one_after (TypedOf name bytes) (λ p. Gives (Ok (text name bytes p))) (one_typed name bytes) (λ p. one_given (Ok (text name bytes p))))
 
-  one_task : (contents : List ℕ → List ℕ) (task : Task) → HasOne (TaskOutcome contents task)
-  one_task contents task =
-      one_after (ClearedOf contents task) (λ ps. Gives (statement_of task.command task.turns ps))
-      (one_after (Each (TextOf contents) task.files) (Each (λ t. Gives (cleared task.turns t)))
-      (one_each (TextOf contents) (one_read contents) task.files) (one_each (λ t. Gives (cleared task.turns t)) (λ t. one_given (cleared task.turns t))))
-      (λ ps. one_given (statement_of task.command task.turns ps))
+  module _ (tables_are_one : OneTable) (rows_are_one : RowsAreOne) (hypers_are_one : HypersAreOne) (averages_are_one : OneAverage) where
+    one_task : (contents : List ℕ → List ℕ) (task : Task) → HasOne (TaskOutcome contents task)
+    one_task contents task =
+        one_after (ClearedOf contents task) (CommandOutcome contents task.command task.turns)
+        (one_after (Each (TextOf contents) task.files) (Each (λ t. Gives (cleared task.turns t)))
+        (one_each (TextOf contents) (one_read contents) task.files) (one_each (λ t. Gives (cleared task.turns t)) (λ t. one_given (cleared task.turns t))))
+        (one_command tables_are_one hypers_are_one averages_are_one contents task.turns task.command)
 
-  one_outcome : (contents : List ℕ → List ℕ) (task : Option Task) → HasOne (SomeOutcome contents task)
-  one_outcome contents None = one_given (Err Usage)
-  one_outcome contents (Some task) = one_task contents task
+    one_outcome : (contents : List ℕ → List ℕ) (task : Option Task) → HasOne (SomeOutcome contents task)
+    one_outcome contents None = one_given (Err Usage)
+    one_outcome contents (Some task) = one_task contents task
 
-  pub one_answer : RowsAreOne → HypersAreOne → (words : List (List ℕ)) (contents : List ℕ → List ℕ) (a b : Answer) → IsAnswer words contents a → IsAnswer words contents b → a ≡ b
-  one_answer rows_are_one hypers_are_one words contents a b p q =
-      let results : p.result ≡ q.result = one_outcome contents (task_of words) p.result q.result p.outcome q.outcome in
-      one_settled rows_are_one hypers_are_one q.result a b (subst (λ (r : Result Statement Refused). Settled r a) results p.settled) q.settled
+    pub one_answer : OneReport → (words : List (List ℕ)) (contents : List ℕ → List ℕ) (a b : Answer) → IsAnswer words contents a → IsAnswer words contents b → a ≡ b
+    one_answer reports_are_one words contents a b p q =
+        let results : p.result ≡ q.result = one_outcome contents (task_of words) p.result q.result p.outcome q.outcome in
+        one_settled rows_are_one hypers_are_one reports_are_one q.result a b (subst (λ (r : Result Statement Refused). Settled r a) results p.settled) q.settled

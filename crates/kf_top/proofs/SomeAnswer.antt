@@ -1,5 +1,5 @@
 -- Words and files have some defined answer.
-use Rattle.std.proofs.Common.{◌≡◌, ◌⊎◌, ℕ, List, [], ◌∷◌, true, None, Some, Option, Result, Ok, Err, codes, refl, ⊎_elim, inl, inr}
+use Rattle.std.proofs.Common.{◌≡◌, ◌⊎◌, ℕ, ◌*◌, nat_le, if◌then◌else◌, List, [], ◌∷◌, length, Bool, true, false, sym, subst, None, Some, Option, Result, Ok, Err, codes, refl, ⊎_elim, inl, inr}
 use Rattle.kf_lex.specs.declared.token.Token.{Token}
 use Rattle.kf_lex.specs.declared.token.LexError.{LexError}
 use Rattle.kf_lex.specs.declared.token.LexError.TheVariants as lexing
@@ -16,11 +16,24 @@ use Rattle.kf_check.specs.Sources.{IsBroken}
 use Rattle.kf_core.specs.JointLaws.{RowsExist, HypersExist}
 use Rattle.kf_channel.specs.Laws.{SomeSecrets}
 use Rattle.kf_core.specs.Programs.{ProgramTree}
-use Rattle.kf_top.specs.Answer.{Statement, HyperOf, TracesOf, ChannelOf, IsText, Shown, Refused, Usage}
+use Rattle.kf_core.specs.Joint.{Cell, joint_of}
+use Rattle.kf_core.specs.Scale.{scale_of as run_scale}
+use Rattle.kf_channel.specs.Channels.{all_initial}
+use Rattle.kf_frac.specs.Fractions.{limit}
+use Rattle.kf_value.specs.Targets.{Item}
+use Rattle.kf_gain.specs.declared.error.TableError.{TableError}
+use Rattle.kf_gain.specs.Gains.{GainOf, Bayes, Tries, Guessing, Table, TableTree, over_of}
+use Rattle.kf_gain.specs.Laws.{HasActions, SomeAverage, SomeReport}
+use Rattle.kf_gain.specs.TableLaws.{SomeTable, TablesHaveActions}
+use Rattle.kf_gain.specs.Tables.{IsTable}
+use Rattle.kf_gain.specs.Vulnerabilities.{width}
+use Rattle.kf_report.specs.Reports.{Leakage}
+use Rattle.kf_top.specs.Answer.{Statement, HyperOf, TracesOf, ChannelOf, ReportOf, IsText, Shown, Refused, Usage, NotInitial, BadTable, WideGain}
 use Rattle.kf_top.specs.Ends.{Answer, Settled, IsAnswer, showing, refusing}
-use Rattle.kf_top.specs.Outcome.{Step, After, Gives, Each, Text, Fault, fault, bad_text, token_fault, syntax_fault, type_fault, IsBad, TokensOf, SourceOf, ProgramOf, TypedOf, TextOf, cleared, ClearedOf, statement_of, TaskOutcome, SomeOutcome, source_of}
-use Rattle.kf_top.specs.Task.{Task, task_of}
-use Rattle.kf_top.specs.Texts.{hyper_text, trace_text, channel_text}
+use Rattle.kf_top.specs.Outcome.{Step, After, Gives, Each, Text, Fault, fault, bad_text, token_fault, syntax_fault, type_fault, IsBad, TokensOf, SourceOf, ProgramOf, TypedOf, TextOf, cleared, ClearedOf, table_word, TableOf, TableIn, GainIn, ReportIn, channel_statement, CommandOutcome, TaskOutcome, SomeOutcome, Outcome, source_of}
+use Rattle.kf_top.specs.Task.{Command, Hyper, Traces, Channel, Leak, Task, task_of}
+use Rattle.kf_text.specs.Texts.{hyper_text, trace_text, channel_text}
+use Rattle.kf_text.specs.ReportTexts.{report_text}
 
 -- ---- steps
 
@@ -90,52 +103,137 @@ text name bytes p = record { name = name; bytes = bytes; program = p }
 
 -- ---- what is stated
 
-module _ (rows_exist : RowsExist) (hypers_exist : HypersExist) (secrets_exist : SomeSecrets) where
-  some_text : (statement : Statement) → (bytes : List ℕ) × IsText statement bytes
-  some_text (HyperOf target scale joint) = let h = hypers_exist joint in (hyper_text target scale h.0, (h.0, h.1, refl))
-  some_text (TracesOf target scale joint) = let rows = rows_exist joint in (trace_text target scale rows.0, (rows.0, rows.1, refl))
-  some_text (ChannelOf target joint) =
+-- where it is a report, its gain has an action
+abbrev HasText : Statement → Type 0
+HasText (ReportOf g scale joint) = HasActions g
+HasText statement = Unit {0}
+
+module _ (rows_exist : RowsExist) (hypers_exist : HypersExist) (secrets_exist : SomeSecrets) (reports_exist : SomeReport) where
+  some_text : (statement : Statement) → HasText statement → (bytes : List ℕ) × IsText statement bytes
+  some_text (HyperOf target scale joint) has = let h = hypers_exist joint in (hyper_text target scale h.0, (h.0, h.1, refl))
+  some_text (TracesOf target scale joint) has = let rows = rows_exist joint in (trace_text target scale rows.0, (rows.0, rows.1, refl))
+  some_text (ChannelOf target joint) has =
       let rows = rows_exist joint in
       let secrets = secrets_exist rows.0 in
       (channel_text target rows.0 secrets.0, (rows.0, rows.1, (secrets.0, secrets.1, refl)))
+  some_text (ReportOf g scale joint) has =
+      let h = hypers_exist joint in
+      let r = reports_exist g h.0 has in
+      let l : Leakage = record { prior = r.0.0; posterior = r.1.0; whole = scale * over_of g } in
+      (report_text g l, (h.0, h.1, (l, record { prior = r.0.1; posterior = r.1.1; whole = refl }, refl)))
 
-  settled : (r : Result Statement Refused) → (answer : Answer) × Settled r answer
-  settled (Ok statement) =
-      let text = some_text statement in
+  -- each result whose statement has a text is that of some answer
+  settled : (r : Result Statement Refused) → ((statement : Statement) → r ≡ Ok statement → HasText statement) → (answer : Answer) × Settled r answer
+  settled (Ok statement) has =
+      let text = some_text statement (has statement refl) in
       let shown : Shown = record { yes = true; bytes = text.0 } in
       (showing shown, (shown, record { text = text.1; yes = refl }, refl))
-  settled (Err r) = (refusing r, refl)
+  settled (Err r) has = (refusing r, refl)
 
-  -- ---- outcomes
+-- ---- gains
 
-  module _ (read : (src : List ℕ) → ((ts : List Token) × IsTokens src ts) ⊎ ((e : LexError) × IsFault src e)) (parsed : ParsedOrRefused) (built : OnlyBuilt)
-      (typed : TypedOrBroken) (told_rule : (tree : SourceTree) (e : TypeError) → IsBroken tree e → e ≡ typing.Mem → ⊥) where
-    some_tokens : (name bytes : List ℕ) → HasSome (TokensOf name bytes)
-    some_tokens name bytes = ⊎_elim (λ h. (Ok h.0, h.1)) (λ h. bad_tokens name bytes h.0 h.1) (read bytes)
+-- the law of gain tables
+module _ (tables_exist : SomeTable) where
+  told_table : (target : List Item) (name bytes : List ℕ) (r : Result TableTree TableError) → IsTable target bytes r → HasSome (TableOf target name bytes)
+  told_table target name bytes (Ok t) is = (Ok t, is)
+  told_table target name bytes (Err e) is = (Err (BadTable name (table_word e)), (e, is, refl))
 
-    some_source : (name bytes : List ℕ) (tokens : List Token) → HasSome (SourceOf name bytes tokens)
-    some_source name bytes tokens = ⊎_elim (λ h. (Ok h.0, h.1)) (λ h. bad_source name bytes tokens h.0 h.1 h.2) (parsed bytes tokens)
+  some_table : (contents : List ℕ → List ℕ) (target : List Item) (name : List ℕ) → HasSome (TableIn contents target name)
+  some_table contents target name =
+      some_after (Gives (source_of contents name)) (TableOf target name)
+      (λ bytes _. let t = tables_exist target bytes in told_table target name bytes t.0 t.1) (some_given (source_of contents name))
 
-    some_program : (name bytes : List ℕ) (tree : SourceTree) → IsWellBuilt tree → HasSome (ProgramOf name bytes tree)
-    some_program name bytes tree well = ⊎_elim (λ h. (Ok h.0, h.1)) (λ h. bad_program name bytes tree h.0 (told_rule tree h.0 h.1) h.1) (typed tree well)
+  some_gain : (contents : List ℕ → List ℕ) (target : List Item) (g : GainOf (List ℕ)) → HasSome (GainIn contents target g)
+  some_gain contents target Bayes = some_given (Ok Bayes)
+  some_gain contents target (Tries k) = some_given (Ok (Tries k))
+  some_gain contents target Guessing = some_given (Ok Guessing)
+  some_gain contents target (Table name) =
+      some_after (TableIn contents target name) (λ t. Gives (Ok (Table t))) (λ t _. some_given (Ok (Table t))) (some_table contents target name)
 
-    some_typed : (name bytes : List ℕ) → HasSome (TypedOf name bytes)
-    unfolding TypedOf
-    some_typed name bytes =
-        some_after (TokensOf name bytes) (λ tokens. After (SourceOf name bytes tokens) (ProgramOf name bytes))
-        (λ tokens _. some_after (SourceOf name bytes tokens) (ProgramOf name bytes)
-        (λ tree is. some_program name bytes tree (built bytes tokens tree is.program)) (some_source name bytes tokens))
-        (some_tokens name bytes)
+-- the laws of hypers and of their sums
+some_report : HypersExist → SomeAverage → (scale : ℕ) (joint : List Cell) (g : GainOf TableTree) → HasSome (ReportIn scale joint g)
+some_report hypers_exist averages_exist scale joint g =
+    let h = hypers_exist joint in
+    let a = averages_exist h.0 in
+    let m = width g (length a.0) in (
+      (if nat_le (scale * m) limit then Ok (ReportOf g scale joint) else Err WideGain),
+      (m, record { inners = h.0; is_hyper = h.1; is_width = record { average = a.0; is_average = a.1; is = refl } }, refl),
+    )
 
-    some_read : (contents : List ℕ → List ℕ) (name : List ℕ) → HasSome (TextOf contents name)
-    some_read contents name =
-        some_after (Gives (source_of contents name)) (λ bytes. After (TypedOf name bytes) (λ p. Gives (Ok (text name bytes p))))
-        (λ bytes _. some_after (TypedOf name bytes) (λ p. Gives (Ok (text name bytes p))) (λ p _. some_given (Ok (text name bytes p))) (some_typed name bytes))
-        (some_given (source_of contents name))
+-- ---- commands
 
+module _ (tables_exist : SomeTable) (hypers_exist : HypersExist) (averages_exist : SomeAverage) (contents : List ℕ → List ℕ) (turns : ℕ) where
+  some_command : (command : Command) (ps : List ProgramTree) → HasSome (CommandOutcome contents command turns ps)
+  some_command Hyper (p ∷ []) = some_given (Ok (HyperOf p.target (run_scale turns p) (joint_of turns p)))
+  some_command Traces (p ∷ []) = some_given (Ok (TracesOf p.target (run_scale turns p) (joint_of turns p)))
+  some_command Channel (p ∷ []) = some_given (channel_statement turns p)
+  some_command (Leak g) (p ∷ []) =
+      some_after (GainIn contents p.target g) (ReportIn (run_scale turns p) (joint_of turns p))
+      (λ read _. some_report hypers_exist averages_exist (run_scale turns p) (joint_of turns p) read) (some_gain tables_exist contents p.target g)
+  some_command command ps = some_given (Err Usage)
+
+-- what is stated where a test holds
+stated : (b : Bool) (given statement : Statement) (r : Refused) → HasText given → Ok statement ≡ (if b then Ok given else Err r) → HasText statement
+stated true given statement r has is = let same : statement ≡ given = cc in subst HasText (sym same) has
+stated false given statement r has is = absurd (cc)
+
+same_gain : (given g : GainOf TableTree) → HasActions given → Gives {A = GainOf TableTree} (Ok given) (Ok g) → HasActions g
+same_gain given g has is = let same : g ≡ given = cc in subst HasActions (sym same) has
+
+module _ (tables_have_actions : TablesHaveActions) (contents : List ℕ → List ℕ) where
+  -- a gain that was read has an action
+  read_gain : (target : List Item) (word : GainOf (List ℕ)) (g : GainOf TableTree) → GainIn contents target word (Ok g) → HasActions g
+  read_gain target Bayes g is = same_gain Bayes g tt is
+  read_gain target (Tries k) g is = same_gain (Tries k) g tt is
+  read_gain target Guessing g is = same_gain Guessing g tt is
+  read_gain target (Table name) g is = same_gain (Table is.0) g (tables_have_actions target is.1.0 is.0 is.1.2) is.2
+
+  -- what a command states has a text
+  command_text : (command : Command) (turns : ℕ) (ps : List ProgramTree) (statement : Statement) → CommandOutcome contents command turns ps (Ok statement) → HasText statement
+  command_text Hyper turns (p ∷ []) statement is = stated true (HyperOf p.target (run_scale turns p) (joint_of turns p)) statement Usage tt is
+  command_text Traces turns (p ∷ []) statement is = stated true (TracesOf p.target (run_scale turns p) (joint_of turns p)) statement Usage tt is
+  command_text Channel turns (p ∷ []) statement is = stated (all_initial p.target) (ChannelOf p.target (joint_of turns p)) statement NotInitial tt is
+  command_text (Leak word) turns (p ∷ []) statement is =
+      stated (nat_le (run_scale turns p * is.2.0) limit) (ReportOf is.0 (run_scale turns p) (joint_of turns p)) statement WideGain
+      (read_gain p.target word is.0 is.1) is.2.2
+  command_text command turns ps statement is = absurd (cc)
+
+  task_text : (task : Option Task) (statement : Statement) → SomeOutcome contents task (Ok statement) → HasText statement
+  task_text None statement is = absurd (cc)
+  task_text (Some task) statement is = command_text task.command task.turns is.0 statement is.2
+
+-- ---- outcomes
+
+module _ (read : (src : List ℕ) → ((ts : List Token) × IsTokens src ts) ⊎ ((e : LexError) × IsFault src e)) (parsed : ParsedOrRefused) (built : OnlyBuilt)
+    (typed : TypedOrBroken) (told_rule : (tree : SourceTree) (e : TypeError) → IsBroken tree e → e ≡ typing.Mem → ⊥) where
+  some_tokens : (name bytes : List ℕ) → HasSome (TokensOf name bytes)
+  some_tokens name bytes = ⊎_elim (λ h. (Ok h.0, h.1)) (λ h. bad_tokens name bytes h.0 h.1) (read bytes)
+
+  some_source : (name bytes : List ℕ) (tokens : List Token) → HasSome (SourceOf name bytes tokens)
+  some_source name bytes tokens = ⊎_elim (λ h. (Ok h.0, h.1)) (λ h. bad_source name bytes tokens h.0 h.1 h.2) (parsed bytes tokens)
+
+  some_program : (name bytes : List ℕ) (tree : SourceTree) → IsWellBuilt tree → HasSome (ProgramOf name bytes tree)
+  some_program name bytes tree well = ⊎_elim (λ h. (Ok h.0, h.1)) (λ h. bad_program name bytes tree h.0 (told_rule tree h.0 h.1) h.1) (typed tree well)
+
+  some_typed : (name bytes : List ℕ) → HasSome (TypedOf name bytes)
+  unfolding TypedOf
+  some_typed name bytes =
+      some_after (TokensOf name bytes) (λ tokens. After (SourceOf name bytes tokens) (ProgramOf name bytes))
+      (λ tokens _. some_after (SourceOf name bytes tokens) (ProgramOf name bytes)
+      (λ tree is. some_program name bytes tree (built bytes tokens tree is.program)) (some_source name bytes tokens))
+      (some_tokens name bytes)
+
+  some_read : (contents : List ℕ → List ℕ) (name : List ℕ) → HasSome (TextOf contents name)
+  some_read contents name =
+      some_after (Gives (source_of contents name)) (λ bytes. After (TypedOf name bytes) (λ p. Gives (Ok (text name bytes p))))
+      (λ bytes _. some_after (TypedOf name bytes) (λ p. Gives (Ok (text name bytes p))) (λ p _. some_given (Ok (text name bytes p))) (some_typed name bytes))
+      (some_given (source_of contents name))
+
+  module _ (tables_exist : SomeTable) (hypers_exist : HypersExist) (averages_exist : SomeAverage) where
     some_task : (contents : List ℕ → List ℕ) (task : Task) → HasSome (TaskOutcome contents task)
     some_task contents task =
-        some_after (ClearedOf contents task) (λ ps. Gives (statement_of task.command task.turns ps)) (λ ps _. some_given (statement_of task.command task.turns ps))
+        some_after (ClearedOf contents task) (CommandOutcome contents task.command task.turns)
+        (λ ps _. some_command tables_exist hypers_exist averages_exist contents task.turns task.command ps)
         (some_after (Each (TextOf contents) task.files) (Each (λ t. Gives (cleared task.turns t)))
         (λ ts _. some_each (λ t. Gives (cleared task.turns t)) (λ t. some_given (cleared task.turns t)) ts)
         (some_each (TextOf contents) (some_read contents) task.files))
@@ -144,8 +242,9 @@ module _ (rows_exist : RowsExist) (hypers_exist : HypersExist) (secrets_exist : 
     some_outcome contents None = some_given (Err Usage)
     some_outcome contents (Some task) = some_task contents task
 
-    pub some_answer : (words : List (List ℕ)) (contents : List ℕ → List ℕ) → (answer : Answer) × IsAnswer words contents answer
-    some_answer words contents =
+    pub some_answer : TablesHaveActions → RowsExist → SomeSecrets → SomeReport → (words : List (List ℕ)) (contents : List ℕ → List ℕ) → (answer : Answer) × IsAnswer words contents answer
+    some_answer tables_have_actions rows_exist secrets_exist reports_exist words contents =
         let r = some_outcome contents (task_of words) in
-        let s = settled r.0 in
+        let s = settled rows_exist hypers_exist secrets_exist reports_exist r.0
+        (λ statement is. task_text tables_have_actions contents (task_of words) statement (subst (λ (o : Result Statement Refused). Outcome words contents o) is r.1)) in
         (s.0, record { result = r.0; outcome = r.1; settled = s.1 })

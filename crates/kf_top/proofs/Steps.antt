@@ -1,6 +1,7 @@
 -- One step and then the next, and what a stop's result is.
 use Rattle.std.proofs.Common.{◌≡◌, Contains, arith, ◌≢◌, ◌<◌, ◌≤◌, le-leb, if◌then◌else◌, IsOk, ℕ, List, [], ◌∷◌, Bool, ◌⊎◌, ⊎_elim, inl, inr, true, false, true≢false, None, Some, Result, Ok, Err, refl, sym, ap, ◌∙◌, subst}
 use Rattle.std.proofs.lemmas.Bool.{lt-leb}
+use Rattle.std.proofs.lemmas.List.Elements.{Contains-append_left, Contains-append_right}
 use Rattle.kf_frac.specs.Fractions.{limit}
 use Rattle.kf_value.specs.Targets.{Item}
 use Rattle.kf_lex.specs.declared.token.Token.{Token}
@@ -20,12 +21,15 @@ use Rattle.kf_core.specs.Support.{StoreSet, program_pass}
 use Rattle.kf_core.specs.Scale.{scale_of as run_scale}
 use Rattle.kf_core.specs.Joint.{joint_of}
 use Rattle.kf_channel.specs.Channels.{all_initial}
+use Rattle.kf_gain.specs.Gains.{Table}
 use Rattle.kf_top.specs.Answer.{Statement, Refused, ChannelOf, NotInitial, WideScale}
-use Rattle.kf_top.specs.Outcome.{Step, After, Each, Fault, Text, token_fault, syntax_fault, type_fault, bad_text, TokensOf, SourceOf, ProgramOf, TextOf, bad_run, narrow, cleared, ClearedOf, Gives, channel_statement, source_of, statement_of, TaskOutcome}
+use Rattle.kf_top.specs.Outcome.{Step, After, Each, Fault, Text, token_fault, syntax_fault, type_fault, bad_text, TokensOf, SourceOf, ProgramOf, TextOf, bad_run, narrow, cleared, ClearedOf, Gives, channel_statement, source_of, CommandOutcome, TaskOutcome}
 use Rattle.kf_top.specs.Stops.{Answers, is_bytes, is_text, is_cleared, is_alone}
-use Rattle.kf_top.specs.Task.{Command, on_file}
+use Rattle.kf_top.specs.Task.{Command, Task, Leak, on_file, named, tables_of}
 use Rattle.kf_support.specs.declared.cleared.Cleared.{Cleared}
-use Rattle.kf_top.specs.Views.{ShowsStatement}
+use Rattle.kf_top.specs.Views.{ShowsStatement, gain_of}
+use Rattle.kf_top.specs.declared.gain_words.GainWord.{GainWord}
+use Rattle.kf_top.specs.declared.gain_words.GainWord.TheVariants as word
 use Rattle.kf_top.specs.declared.stops.Done.{Done}
 use Rattle.kf_top.specs.declared.stops.Stop.{Stop}
 use Rattle.kf_top.specs.declared.stops.Stop.TheVariants as stop
@@ -77,10 +81,10 @@ no_bytes contents name (stop.Refused r) h = inl h
 no_bytes contents name (stop.ReadFailed n) h = tt
 no_bytes contents name stop.Mem h = tt
 
--- what is stated of a step's result, given what it is
-then_answers : {A : Type 0} (first : Step A) (next : A → Result Statement Refused) (q : A) (r : Result Done Stop) → ((y : A) × (q ≡ y) × first (Ok y))
-    → Answers ShowsStatement r (Gives (next q)) → Answers ShowsStatement r (After first (λ p. Gives (next p)))
-then_answers {A} first next q r way answer = next_answers ShowsStatement first (λ p. Gives (next p)) r way.0 way.2 (subst (λ (p : A). Answers ShowsStatement r (Gives (next p))) way.1 answer)
+-- the result of the next step for what the first one has
+then_answers : {A : Type 0} (first : Step A) (next : A → Step Statement) (q : A) (r : Result Done Stop) → ((y : A) × (q ≡ y) × first (Ok y))
+    → Answers ShowsStatement r (next q) → Answers ShowsStatement r (After first next)
+then_answers {A} first next q r way answer = next_answers ShowsStatement first next r way.0 way.2 (subst (λ (p : A). Answers ShowsStatement r (next p)) way.1 answer)
 
 module _ (contents : List ℕ → List ℕ) (command : Command) (turns : ℕ) where
   -- what stops the clearing of a task's one file stops the task
@@ -96,15 +100,29 @@ module _ (contents : List ℕ → List ℕ) (command : Command) (turns : ℕ) wh
   -- what its command states of its cleared program is stated by the task
   pub task_answers : (name said : List ℕ) → said ≡ name → (q : ProgramTree) (n : ℕ) → n ≡ turns → (r : Result Done Stop)
       → ((ys : List ProgramTree) × (q ∷ [] ≡ ys) × ClearedOf contents (on_file command said turns) (Ok ys))
-      → Answers ShowsStatement r (Gives (statement_of command n (q ∷ []))) → Answers ShowsStatement r (TaskOutcome contents (on_file command name turns))
+      → Answers ShowsStatement r (CommandOutcome contents command n (q ∷ [])) → Answers ShowsStatement r (TaskOutcome contents (on_file command name turns))
   task_answers name said same q n often r way answer =
-      then_answers (ClearedOf contents (on_file command name turns)) (statement_of command turns) (q ∷ []) r
+      then_answers (ClearedOf contents (on_file command name turns)) (CommandOutcome contents command turns) (q ∷ []) r
       (subst (λ (m : List ℕ). (ys : List ProgramTree) × (q ∷ [] ≡ ys) × ClearedOf contents (on_file command m turns) (Ok ys)) same way)
-      (subst (λ (k : ℕ). Answers ShowsStatement r (Gives (statement_of command k (q ∷ [])))) often answer)
+      (subst (λ (k : ℕ). Answers ShowsStatement r (CommandOutcome contents command k (q ∷ []))) often answer)
 
 -- a task on one file names it
 pub named_alone : (name said : List ℕ) → said ≡ name → Contains (name ∷ []) said
 named_alone name said same = (0, omega arith, sym same)
+
+-- a task names the files of its programs, and its gain's table
+pub names_file : (task : Task) (name : List ℕ) → Contains task.files name → Contains (named task) name
+names_file task name in' = Contains-append_left task.files (tables_of task.command) name in'
+
+pub has_table : (task : Task) (name : List ℕ) → task.command ≡ Leak (Table name) → Contains (tables_of task.command) name
+has_table task name is = subst (λ (c : Command). Contains (tables_of c) name) (sym is) (0, omega arith, refl)
+
+pub names_table : (task : Task) (name : List ℕ) → task.command ≡ Leak (Table name) → Contains (named task) name
+names_table task name is = Contains-append_right task.files (tables_of task.command) name (has_table task name is)
+
+-- the table that a gain's word names
+pub reads_table : (task : Task) (w : GainWord) (name said : List ℕ) → w ≡ word.Table name → said ≡ name → task.command ≡ Leak (gain_of w) → task.command ≡ Leak (Table said)
+reads_table task w name said named same is = is ∙ ap (λ v. Leak (gain_of v)) named ∙ ap (λ (n : List ℕ). Leak (Table n)) (sym same)
 
 -- an error with a fault isn't want of memory
 pub some_syntax : (e : ParseError) (f : Fault) → syntax_fault e ≡ Some f → e ≢ parsing.Mem

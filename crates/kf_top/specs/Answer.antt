@@ -7,7 +7,10 @@ use Rattle.kf_core.specs.Rows.{AreRowsOf, IsHyperOf}
 use Rattle.kf_hyper.specs.Hypers.{Inner}
 use Rattle.kf_hyper.specs.Traces.{Row}
 use Rattle.kf_channel.specs.Channels.{AreSecrets}
-use Rattle.kf_top.specs.Texts.{hyper_text, trace_text, channel_text}
+use Rattle.kf_gain.specs.Gains.{GainOf, TableTree}
+use Rattle.kf_report.specs.Reports.{Leakage, IsLeakage}
+use Rattle.kf_text.specs.Texts.{hyper_text, trace_text, channel_text}
+use Rattle.kf_text.specs.ReportTexts.{report_text}
 
 -- what the bytes of an answer state
 pub data Statement : Type 0 where
@@ -17,6 +20,8 @@ pub data Statement : Type 0 where
   TracesOf : List Item → ℕ → List Cell → Statement
   -- the channel from its values to its traces
   ChannelOf : List Item → List Cell → Statement
+  -- how much a gain's best action gains by what is shown
+  ReportOf : GainOf TableTree → ℕ → List Cell → Statement
 
 -- the bytes are the statement's text
 abbrev pub IsText : Statement → List ℕ → Type 0
@@ -27,6 +32,8 @@ IsText (TracesOf target scale joint) bytes =
 IsText (ChannelOf target joint) bytes =
     (rows : List Row) × AreRowsOf joint rows
     × ((secrets : List ℕ) × AreSecrets rows secrets × (bytes ≡ channel_text target rows secrets))
+IsText (ReportOf g scale joint) bytes =
+    (inners : List Inner) × IsHyperOf joint inners × ((l : Leakage) × IsLeakage g scale inners l × (bytes ≡ report_text g l))
 
 -- the bytes for out, and whether the answer is yes
 pub record Shown : Type 0 where
@@ -49,6 +56,10 @@ pub data Refused : Type 0 where
   WideScale : List ℕ → Refused
   -- some item of the target isn't read before the statements
   NotInitial : Refused
+  -- a gain table's file, and the word of the rule that it breaks
+  BadTable : List ℕ → List ℕ → Refused
+  -- the scale times the gain's width passes 2^127 - 1
+  WideGain : Refused
 
 -- a line on standard error; `name` is the file's, or empty
 abbrev pub said : List ℕ → List ℕ → List ℕ
@@ -65,6 +76,8 @@ status_of (BadText name line column word) = 5
 status_of (BadRun name line column word) = 6
 status_of (WideScale name) = 7
 status_of NotInitial = 10
+status_of (BadTable name word) = 9
+status_of WideGain = 7
 
 abbrev pub line_of : Refused → List ℕ
 line_of Usage = said [] (codes "usage: kuifje COMMAND [FILES] [--gain G] [--turns N] [--json]")
@@ -73,3 +86,5 @@ line_of (BadText name line column word) = placed name line column word
 line_of (BadRun name line column word) = placed name line column word
 line_of (WideScale name) = said name (codes ": scale passes 2^127 - 1")
 line_of NotInitial = said [] (codes "target is not initial")
+line_of (BadTable name word) = said name (codes ": " ++ word)
+line_of WideGain = said [] (codes "gain passes 2^127 - 1")

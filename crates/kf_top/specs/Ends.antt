@@ -6,8 +6,9 @@ use Rattle.std.specs.Option.{ForSome}
 use Rattle.std.specs.Io.KnownBytes.{Appends, Keeps}
 use Rattle.kf_io.specs.Faults.{Rose}
 use Rattle.kf_io.specs.Writes.{AppendsSome}
-use Rattle.kf_top.specs.Task.{Task, Channel, task_of, files_of}
-use Rattle.kf_top.specs.Answer.{Statement, Shown, States, Refused, Usage, TooLong, BadText, BadRun, WideScale, NotInitial, said, line_of, status_of}
+use Rattle.kf_gain.specs.Gains.{GainOf}
+use Rattle.kf_top.specs.Task.{Task, Channel, Leak, task_of, files_of, tables_of, named}
+use Rattle.kf_top.specs.Answer.{Statement, Shown, States, Refused, Usage, TooLong, BadText, BadRun, WideScale, NotInitial, BadTable, WideGain, said, line_of, status_of}
 use Rattle.kf_top.specs.Outcome.{Outcome}
 
 -- ---- answers
@@ -94,14 +95,16 @@ pub record AnsweredInPart (words : List (List ℕ)) (contents : List ℕ → Lis
   pub front : TookFront out answer.out
   pub no_room : out.room_before < length answer.out
 
--- the refusal is one that the task can have: of a file that it names, or, for a channel, of its target
+-- the refusal is one that the task can have: of a file that it names, or of its command
 abbrev pub CanRefuse : Task → Refused → Type 0
 CanRefuse task Usage = ⊥
-CanRefuse task (TooLong name) = Contains task.files name
+CanRefuse task (TooLong name) = Contains (named task) name
 CanRefuse task (BadText name line column word) = Contains task.files name
 CanRefuse task (BadRun name line column word) = Contains task.files name
 CanRefuse task (WideScale name) = Contains task.files name
 CanRefuse task NotInitial = task.command ≡ Channel
+CanRefuse task (BadTable name word) = Contains (tables_of task.command) name
+CanRefuse task WideGain = (g : GainOf (List ℕ)) × (task.command ≡ Leak g)
 
 -- the status and the line are those of a refusal that these words can have
 pub record RefusedAs (words : List (List ℕ)) (err : Sunk) (status : ℕ) : Type 0 where

@@ -1,10 +1,11 @@
 -- Believed
 pub mod Ends
 pub mod Task
+pub mod Numerals
 pub mod Said
+pub mod GainWords
 pub mod Outcome
 pub mod Answer
-pub mod Texts
 pub mod Place
 -- For bodies
 pub mod Laws

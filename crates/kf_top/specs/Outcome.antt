@@ -1,5 +1,6 @@
 -- Believed: the defined answer to words over files: the first refusal, or what is to be stated.
-use Rattle.std.specs.Prelude.{◌≡◌, ◌⊎◌, ℕ, List, [], ◌∷◌, length, nat_le, codes, if◌then◌else◌, Ok, Err, None, Some}
+use Rattle.std.specs.Prelude.{◌≡◌, ◌⊎◌, ℕ, ◌*◌, List, [], ◌∷◌, ◌++◌, length, nat_le, codes, if◌then◌else◌, Ok, Err, None, Some}
+use Rattle.std.specs.Fmt.{decimal}
 use Rattle.std.specs.declared.option.Option.{Option}
 use Rattle.std.specs.declared.result.Result.{Result}
 use Rattle.kf_lex.specs.declared.token.Token.{Token}
@@ -21,11 +22,19 @@ use Rattle.kf_core.specs.Runs.{Cause, Choosing, OutOfRange, LoopBound, Halted}
 use Rattle.kf_core.specs.Support.{program_pass}
 use Rattle.kf_core.specs.Scale.{scale_of as run_scale}
 use Rattle.kf_core.specs.Programs.{ProgramTree}
-use Rattle.kf_core.specs.Joint.{joint_of}
+use Rattle.kf_value.specs.Targets.{Item}
+use Rattle.kf_core.specs.Joint.{Cell, joint_of}
+use Rattle.kf_core.specs.Rows.{IsHyperOf}
+use Rattle.kf_hyper.specs.Hypers.{Inner}
 use Rattle.kf_channel.specs.Channels.{all_initial}
-use Rattle.kf_top.specs.Answer.{Statement, HyperOf, TracesOf, ChannelOf, Refused, Usage, TooLong, BadText, BadRun, WideScale, NotInitial}
+use Rattle.kf_gain.specs.declared.error.TableError.{TableError}
+use Rattle.kf_gain.specs.declared.error.TableError.TheVariants as table
+use Rattle.kf_gain.specs.Gains.{GainOf, Bayes, Tries, Guessing, Table, TableTree}
+use Rattle.kf_gain.specs.Tables.{IsTable}
+use Rattle.kf_gain.specs.Vulnerabilities.{IsWidth}
+use Rattle.kf_top.specs.Answer.{Statement, HyperOf, TracesOf, ChannelOf, ReportOf, Refused, Usage, TooLong, BadText, BadRun, WideScale, NotInitial, BadTable, WideGain}
 use Rattle.kf_top.specs.Place.{line_at, column_at}
-use Rattle.kf_top.specs.Task.{Command, Task, Hyper, Traces, Channel, task_of}
+use Rattle.kf_top.specs.Task.{Command, Task, Hyper, Traces, Channel, Leak, task_of}
 
 -- a step towards an answer: which results it may have
 abbrev pub Step : Type 0 → Type 1
@@ -159,15 +168,53 @@ ClearedOf contents task = After (Each (TextOf contents) task.files) (Each (λ t.
 abbrev pub channel_statement : ℕ → ProgramTree → Result Statement Refused
 channel_statement turns p = if all_initial p.target then Ok (ChannelOf p.target (joint_of turns p)) else Err NotInitial
 
--- what a command states of its programs; `task_of` gives each command as many files as it has programs here
-abbrev pub statement_of : Command → ℕ → List ProgramTree → Result Statement Refused
-statement_of Hyper turns (p ∷ []) = Ok (HyperOf p.target (run_scale turns p) (joint_of turns p))
-statement_of Traces turns (p ∷ []) = Ok (TracesOf p.target (run_scale turns p) (joint_of turns p))
-statement_of Channel turns (p ∷ []) = channel_statement turns p
-statement_of command turns ps = Err Usage
+-- the word of the first rule that a gain table breaks; want of memory is none
+abbrev pub table_word : TableError → List ℕ
+table_word table.Json = codes "Json"
+table_word (table.Form rule) = codes "Form " ++ decimal rule
+table_word table.Wide = codes "Wide"
+table_word table.Unknown = codes "Unknown"
+table_word table.Twice = codes "Twice"
+table_word table.Empty = codes "Empty"
+table_word table.Mem = []
+
+-- the gain table that bytes are, about a target's values, or the first rule that they break
+abbrev pub TableOf : List Item → List ℕ → List ℕ → Step TableTree
+TableOf target name bytes (Ok t) = IsTable target bytes (Ok t)
+TableOf target name bytes (Err r) = (e : TableError) × IsTable target bytes (Err e) × (r ≡ BadTable name (table_word e))
+
+-- the gain table in a file
+abbrev pub TableIn : (List ℕ → List ℕ) → List Item → List ℕ → Step TableTree
+TableIn contents target name = After (Gives (source_of contents name)) (TableOf target name)
+
+-- a gain, whose table is read now
+abbrev pub GainIn : (List ℕ → List ℕ) → List Item → GainOf (List ℕ) → Step (GainOf TableTree)
+GainIn contents target Bayes = Gives (Ok Bayes)
+GainIn contents target (Tries k) = Gives (Ok (Tries k))
+GainIn contents target Guessing = Gives (Ok Guessing)
+GainIn contents target (Table name) = After (TableIn contents target name) (λ t. Gives (Ok (Table t)))
+
+-- how wide a gain is on the hyper of a joint
+pub record HasWidth (joint : List Cell) (g : GainOf TableTree) (m : ℕ) : Type 0 where
+  pub inners : List Inner
+  pub is_hyper : IsHyperOf joint inners
+  pub is_width : IsWidth g inners m
+
+-- a report; no number of one that is given passes 2^127 - 1
+abbrev pub ReportIn : ℕ → List Cell → GainOf TableTree → Step Statement
+ReportIn scale joint g result =
+    (m : ℕ) × HasWidth joint g m × (result ≡ (if nat_le (scale * m) limit then Ok (ReportOf g scale joint) else Err WideGain))
+
+-- what a command comes to for its programs; `task_of` gives each command as many files as it has programs here
+abbrev pub CommandOutcome : (List ℕ → List ℕ) → Command → ℕ → List ProgramTree → Step Statement
+CommandOutcome contents Hyper turns (p ∷ []) = Gives (Ok (HyperOf p.target (run_scale turns p) (joint_of turns p)))
+CommandOutcome contents Traces turns (p ∷ []) = Gives (Ok (TracesOf p.target (run_scale turns p) (joint_of turns p)))
+CommandOutcome contents Channel turns (p ∷ []) = Gives (channel_statement turns p)
+CommandOutcome contents (Leak g) turns (p ∷ []) = After (GainIn contents p.target g) (ReportIn (run_scale turns p) (joint_of turns p))
+CommandOutcome contents command turns ps = Gives (Err Usage)
 
 abbrev pub TaskOutcome : (List ℕ → List ℕ) → Task → Step Statement
-TaskOutcome contents task = After (ClearedOf contents task) (λ ps. Gives (statement_of task.command task.turns ps))
+TaskOutcome contents task = After (ClearedOf contents task) (CommandOutcome contents task.command task.turns)
 
 abbrev pub SomeOutcome : (List ℕ → List ℕ) → Option Task → Step Statement
 SomeOutcome contents None = Gives (Err Usage)

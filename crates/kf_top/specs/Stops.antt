@@ -12,12 +12,16 @@ use Rattle.kf_support.specs.declared.cleared.Cleared.{Cleared}
 use Rattle.kf_support.specs.Cleared.{program_of}
 use Rattle.std.specs.declared.result.Result.{Result}
 use Rattle.kf_io.specs.Faults.{Rose}
+use Rattle.kf_gain.specs.Gains.{GainOf, TableTree}
+use Rattle.kf_gain.specs.Views.{gain_tree, table_tree}
+use Rattle.kf_gain.specs.declared.gain.Gain.{Gain}
+use Rattle.kf_gain.specs.declared.table.GainTable.{GainTable}
 use Rattle.kf_top.specs.Answer as answer
 use Rattle.kf_top.specs.Ends.{CanRefuse}
-use Rattle.kf_top.specs.Outcome.{Step, Text}
-use Rattle.kf_top.specs.Task.{Task}
+use Rattle.kf_top.specs.Outcome.{Step, Text, table_word}
+use Rattle.kf_top.specs.Task.{Task, named}
 use Rattle.kf_top.specs.Views.{text_of}
-use Rattle.kf_top.specs.declared.work.Text as code
+use Rattle.kf_top.specs.declared.clearing.Text as code
 use Rattle.kf_top.specs.declared.stops.Refusal.{Refusal}
 use Rattle.kf_top.specs.declared.stops.Refusal.TheVariants as refusal
 use Rattle.kf_top.specs.declared.stops.Stop.{Stop}
@@ -29,6 +33,8 @@ refused (refusal.BadText name line column word) = answer.BadText name.now line c
 refused (refusal.BadRun name line column word) = answer.BadRun name.now line column word.now
 refused (refusal.WideScale name) = answer.WideScale name.now
 refused refusal.NotInitial = answer.NotInitial
+refused (refusal.BadTable name error) = answer.BadTable name.now (table_word error)
+refused refusal.WideGain = answer.WideGain
 
 -- the result is one that the step may have, or its cause isn't in the words and the files' bytes
 abbrev pub Answers : {A B : Type 0} → (A → B → Type 0) → Result A Stop → Step B → Type 0
@@ -40,7 +46,7 @@ Answers Meets (Err stop.Mem) step = Unit {0}
 -- where a read failed, it is of one of the task's files, whose count rose; no other stop changed a count, and a refusal is one that the task can have
 abbrev pub StopCause : Task → (List ℕ → ℕ) → (List ℕ → ℕ) → Stop → Type 0
 StopCause task before now (stop.Refused r) = CanRefuse task (refused r) × (now ≡ before)
-StopCause task before now (stop.ReadFailed name) = Contains task.files name.now × Rose (before name.now) (now name.now)
+StopCause task before now (stop.ReadFailed name) = Contains (named task) name.now × Rose (before name.now) (now name.now)
 StopCause task before now stop.Mem = now ≡ before
 
 abbrev pub Causes : {A : Type 0} → Task → (List ℕ → ℕ) → (List ℕ → ℕ) → Result A Stop → Type 0
@@ -70,3 +76,9 @@ is_cleared cleared p = program_tree (program_of cleared) ≡ p
 -- the same as the only one
 abbrev pub is_alone : Cleared → List ProgramTree → Type 0
 is_alone cleared ps = program_tree (program_of cleared) ∷ [] ≡ ps
+
+abbrev pub is_table : GainTable → TableTree → Type 0
+is_table table t = table_tree table ≡ t
+
+abbrev pub is_gain : Gain → GainOf TableTree → Type 0
+is_gain gain g = gain_tree gain ≡ g

@@ -1,37 +1,50 @@
 -- Believed: what a list of words asks for, by the table of commands.
-use Rattle.std.specs.Prelude.{ℕ, List, [], ◌∷◌, Bool, false, not, ◌&&◌, ◌||◌, ◌==◌, Option, None, Some, is_some, codes, length, find}
-use Rattle.std.specs.Prelude.{nat_le, if◌then◌else◌, option_map, option_and_then}
-use Rattle.std.specs.Char.{is_ascii_digit}
-use Rattle.std.specs.List.{list_all}
-use Rattle.std.specs.Str.Parse.{digits_value}
+use Rattle.std.specs.Prelude.{ℕ, List, [], ◌∷◌, ◌++◌, Bool, true, false, not, ◌&&◌, ◌||◌, ◌==◌, Option, None, Some, is_some, codes, length, find}
+use Rattle.std.specs.Prelude.{if◌then◌else◌, option_map, option_and_then}
 use Rattle.std.specs.Str.{bytes_eq}
+use Rattle.kf_gain.specs.Gains.{GainOf, Table}
+use Rattle.kf_top.specs.GainWords.{gain_said}
+use Rattle.kf_top.specs.Numerals.{number_said}
 use Rattle.kf_top.specs.Said.{Said, said_by}
 
 pub data Command : Type 0 where
   Hyper : Command
   Traces : Command
   Channel : Command
+  -- under a gain, whose table stands in the file of this name
+  Leak : GainOf (List ℕ) → Command
 
--- a command, the files that it is about, and how often a loop may turn
+-- a command, the files of its programs, and how often a loop may turn
 pub record Task : Type 0 where
   pub command : Command
   pub files : List (List ℕ)
   pub turns : ℕ
 
--- what stands behind a command's word: how many files, whether `--gain`, and whether `--json` may
+-- what stands behind a command's word: how many files, whether `--gain`, and whether `--json` may; and which command it is by that gain
 pub record Row : Type 0 where
-  pub command : Command
   pub files : ℕ
   pub needs_gain : Bool
   pub takes_json : Bool
+  pub command : Option (List ℕ) → Option Command
 
 -- a row of a command on so many files, with neither `--gain` nor `--json`
 abbrev pub plain : Command → ℕ → Row
-plain command files = record { command = command; files = files; needs_gain = false; takes_json = false }
+plain command files = record { files = files; needs_gain = false; takes_json = false; command = λ gain. Some command }
+
+-- a row of a command on so many files, with the gain that `--gain` names
+abbrev pub with_gain : (GainOf (List ℕ) → Command) → ℕ → Row
+with_gain command files = record {
+  files = files;
+  needs_gain = true;
+  takes_json = false;
+  command = λ gain. option_map command (option_and_then gain_said gain);
+}
 
 -- the table of commands, by their words
 abbrev pub commands : List (List ℕ × Row)
-commands = (codes "hyper", plain Hyper 1) ∷ (codes "traces", plain Traces 1) ∷ (codes "channel", plain Channel 1) ∷ []
+commands =
+    (codes "hyper", plain Hyper 1) ∷ (codes "traces", plain Traces 1) ∷ (codes "channel", plain Channel 1)
+    ∷ (codes "leak", with_gain Leak 1) ∷ []
 
 -- the row of a command's word
 abbrev pub row_of : List ℕ → Option Row
@@ -44,18 +57,6 @@ options_fit row said = (if row.needs_gain then is_some said.gain else not (is_so
 -- how often a loop may turn where no word says it
 abbrev pub default_turns : ℕ
 default_turns = 1024
-
--- a word of one to five decimal digits
-abbrev pub is_numeral : List ℕ → Bool
-is_numeral word = nat_le 1 (length word) && (nat_le (length word) 5 && list_all is_ascii_digit word)
-
--- a number from 1 to 65,535
-abbrev pub some_number : ℕ → Option ℕ
-some_number n = if nat_le 1 n && nat_le n 65535 then Some n else None
-
--- the number that a word says
-abbrev pub number_said : List ℕ → Option ℕ
-number_said word = if is_numeral word then some_number (digits_value 10 word) else None
 
 -- how often a loop may turn, as `--turns` says it where it stands
 abbrev pub turns_of : Option (List ℕ) → Option ℕ
@@ -73,7 +74,9 @@ on_file command file turns = on_files command (file ∷ []) turns
 -- the task of a row and the files behind the command's word, where their number and the options are the row's
 abbrev pub row_task : List (List ℕ) → Said → Row → Option Task
 row_task files said row =
-    if length files == row.files && options_fit row said then option_map (on_files row.command files) (turns_of said.turns) else None
+    if length files == row.files && options_fit row said
+    then option_and_then (λ turns. option_map (λ command. on_files command files turns) (row.command said.gain)) (turns_of said.turns)
+    else None
 
 -- the first value is the command's word, the others are its files
 abbrev pub task_of_values : List (List ℕ) → Said → Option Task
@@ -88,9 +91,18 @@ task_said said = task_of_values said.values said
 abbrev pub task_of : List (List ℕ) → Option Task
 task_of words = option_and_then task_said (said_by words)
 
+-- the files that a command reads beside its programs
+abbrev pub tables_of : Command → List (List ℕ)
+tables_of (Leak (Table name)) = name ∷ []
+tables_of command = []
+
+-- all files that a task names
+abbrev pub named : Task → List (List ℕ)
+named task = task.files ++ tables_of task.command
+
 abbrev pub files_of_some : Option Task → List (List ℕ)
 files_of_some None = []
-files_of_some (Some task) = task.files
+files_of_some (Some task) = named task
 
 -- the files that the words name
 abbrev pub files_of : List (List ℕ) → List (List ℕ)

@@ -2,20 +2,30 @@
 use Rattle.std.specs.Prelude.{ℕ, List, ◌≤◌}
 use Rattle.kf_core.specs.Views.{program_tree}
 use Rattle.kf_top.specs.Answer.{Shown, Statement, States}
+use Rattle.kf_gain.specs.Gains.{GainOf, Bayes, Tries, Guessing, Table}
 use Rattle.kf_top.specs.Outcome as outcome
 use Rattle.kf_top.specs.Task as task
 use Rattle.kf_top.specs.declared.stops.Done.{Done}
+use Rattle.kf_top.specs.declared.clearing.Text.{Text}
+use Rattle.kf_top.specs.declared.gain_words.GainWord.{GainWord}
+use Rattle.kf_top.specs.declared.gain_words.GainWord.TheVariants as word
 use Rattle.kf_top.specs.declared.words.Job.{Job}
-use Rattle.kf_top.specs.declared.work.Text.{Text}
 use Rattle.kf_top.specs.declared.words.Job.TheVariants as job
 
 abbrev pub shown : Done → Shown
 shown done = record { yes = done.yes; bytes = done.bytes.items }
 
+abbrev pub gain_of : GainWord → GainOf (List ℕ)
+gain_of word.Bayes = Bayes
+gain_of (word.Tries k) = Tries k
+gain_of word.Guessing = Guessing
+gain_of (word.Table name) = Table name
+
 abbrev pub task_of_job : Job → task.Task
 task_of_job (job.Hyper file turns) = task.on_file task.Hyper file turns
 task_of_job (job.Traces file turns) = task.on_file task.Traces file turns
 task_of_job (job.Channel file turns) = task.on_file task.Channel file turns
+task_of_job (job.Leak file gain turns) = task.on_file (task.Leak (gain_of gain)) file turns
 
 -- a file's text, by its name
 abbrev pub text_of : List ℕ → Text → outcome.Text

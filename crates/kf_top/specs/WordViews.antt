@@ -1,5 +1,6 @@
 -- For bodies: what the code's values show of the words.
-use Rattle.std.specs.Prelude.{map, option_map}
+use Rattle.std.specs.Prelude.{ℕ, List, map, Option, Some, option_map, option_and_then}
+use Rattle.kf_top.specs.GainWords.{gain_said}
 use Rattle.kf_top.specs.Said as spec
 use Rattle.kf_top.specs.Task as task
 use Rattle.kf_top.specs.declared.commands.Kind.{Kind}
@@ -15,15 +16,17 @@ said_shown s = record {
   json = s.json;
 }
 
-abbrev pub command_shown : Kind → task.Command
-command_shown kind.Hyper = task.Hyper
-command_shown kind.Traces = task.Traces
-command_shown kind.Channel = task.Channel
+-- which command a kind is, by what `--gain` says
+abbrev pub command_shown : Kind → Option (List ℕ) → Option task.Command
+command_shown kind.Hyper gain = Some task.Hyper
+command_shown kind.Traces gain = Some task.Traces
+command_shown kind.Channel gain = Some task.Channel
+command_shown kind.Leak gain = option_map task.Leak (option_and_then gain_said gain)
 
 abbrev pub row_shown : Row → task.Row
 row_shown row = record {
-  command = command_shown row.command;
   files = row.files;
   needs_gain = row.needs_gain;
   takes_json = row.takes_json;
+  command = command_shown row.command;
 }

@@ -10,6 +10,7 @@ pub(crate) enum Kind {
     Hyper,
     Traces,
     Channel,
+    Leak,
 }
 
 /// What stands behind a command's word.
@@ -44,6 +45,10 @@ pub(crate) fn row_of(word: &str) -> Option<Row>
         "hyper" => Some(plain(Kind::Hyper, 1)),
         "traces" => Some(plain(Kind::Traces, 1)),
         "channel" => Some(plain(Kind::Channel, 1)),
+        "leak" => Some(Row {
+            needs_gain: true,
+            ..plain(Kind::Leak, 1)
+        }),
         _ => None,
     }
 }

@@ -3,6 +3,7 @@ ghost use Rattle.kf_top.specs.Laws.{ExactlyOneAnswer};
 use kf_channel::some_secrets;
 use kf_check::type_laws;
 use kf_core::joint_laws;
+use kf_gain::{average_laws, gain_laws, table_laws};
 use kf_lex::one_reading;
 use kf_parse::{grammar, refusals};
 
@@ -17,4 +18,7 @@ pub fn exactly_one_answer()
     type_laws();
     joint_laws();
     some_secrets();
+    average_laws();
+    gain_laws();
+    table_laws();
 }

@@ -1,3 +1,4 @@
+use kf_gain::TableError;
 use kf_value::Mem;
 use std::alloc::{AllocError, AllocFailed};
 
@@ -14,6 +15,10 @@ pub enum Refusal<'a> {
     WideScale(&'a str),
     /// Some item of the target isn't read before the statements.
     NotInitial,
+    /// The file is no gain table: the first rule that it breaks, which isn't want of memory.
+    BadTable(&'a str, TableError),
+    /// The scale times the gain's width passes 2^127 - 1.
+    WideGain,
 }
 
 /// Why there is no answer.

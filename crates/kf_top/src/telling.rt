@@ -2,12 +2,15 @@
 
 ghost use Rattle.std.specs.Prelude.{◌≡◌};
 ghost use Rattle.std.specs.List.{flat_map};
-ghost use Rattle.kf_top.specs.Answer.{placed, said, line_of, status_of};
+ghost use Rattle.kf_gain.specs.declared.error.TableError.TheVariants as table;
+ghost use Rattle.kf_top.specs.Answer.{placed, said, line_of, status_of, BadTable};
+ghost use Rattle.kf_top.specs.Outcome.{table_word};
 ghost use Rattle.kf_top.specs.Stops.{refused};
 ghost use Rattle.kf_top.specs.Ends.{sunk, TookLine};
 
 use crate::stops::Refusal;
 use itoa::Buffer;
+use kf_gain::TableError;
 use kf_io::{Sink, write_pieces};
 
 // Tells pieces of a line one after the other. A fault of err changes nothing else.
@@ -38,6 +41,30 @@ fn tell_place<E: Sink>(err: &mut E, name: &str, line: u32, column: u32, word: &s
     );
 }
 
+// Tells which rule of a table's form is broken.
+fn tell_form<E: Sink>(err: &mut E, name: &str, rule: u8)
+    ensures { TookLine (sunk E.taken E.faults E.room err.old err.new) (line_of (BadTable name.now (table_word (table.Form rule)))) }
+{
+    let mut digits = Buffer::new();
+    let rule = digits.format(rule);
+    tell_pieces(err, &["kuifje: ", name, ": Form ", rule, "\n"]);
+}
+
+// Tells why a file is no gain table; want of memory is no reason.
+fn tell_table<E: Sink>(err: &mut E, name: &str, error: TableError)
+    ensures { TookLine (sunk E.taken E.faults E.room err.old err.new) (line_of (BadTable name.now (table_word error))) }
+{
+    match error {
+        TableError::Json => tell(err, name, ": Json"),
+        TableError::Form { rule } => tell_form(err, name, rule),
+        TableError::Wide => tell(err, name, ": Wide"),
+        TableError::Unknown => tell(err, name, ": Unknown"),
+        TableError::Twice => tell(err, name, ": Twice"),
+        TableError::Empty => tell(err, name, ": Empty"),
+        TableError::Mem => tell(err, name, ": "),
+    }
+}
+
 /// Tells the refusal, and gives its status.
 pub fn refuse<E: Sink>(err: &mut E, refusal: &Refusal<'_>) -> u8
     ensures line { TookLine (sunk E.taken E.faults E.room err.old err.new) (line_of (refused refusal.now)) }
@@ -63,6 +90,14 @@ pub fn refuse<E: Sink>(err: &mut E, refusal: &Refusal<'_>) -> u8
         Refusal::NotInitial => {
             tell(err, "", "target is not initial");
             10
+        }
+        Refusal::BadTable(name, error) => {
+            tell_table(err, name, *error);
+            9
+        }
+        Refusal::WideGain => {
+            tell(err, "", "gain passes 2^127 - 1");
+            7
         }
     }
 }

@@ -1,4 +1,4 @@
-use crate::{Job, WordsError, read_words};
+use crate::{GainWord, Job, WordsError, read_words};
 use std::alloc::{AllocError, Global};
 use std::process::Abort;
 use std::test::Fail;
@@ -15,12 +15,24 @@ fn words_of(alloc: Global, line: &str) -> Result<Vec<String>, AllocError> {
     Ok(words)
 }
 
+// The command `leak` with its gain.
+fn leak_by(gain: &GainWord) -> &'static str {
+    match gain {
+        GainWord::Bayes => "leak bayes",
+        GainWord::Tries(2) => "leak tries:2",
+        GainWord::Tries(_) => "leak tries",
+        GainWord::Guessing => "leak guessing",
+        GainWord::Table(_) => "leak table",
+    }
+}
+
 // A job's command, file and turns.
 fn parts(job: &Job) -> (&'static str, &str, u32) {
     match job {
         Job::Hyper { file, turns } => ("hyper", file.as_str(), *turns),
         Job::Traces { file, turns } => ("traces", file.as_str(), *turns),
         Job::Channel { file, turns } => ("channel", file.as_str(), *turns),
+        Job::Leak { file, gain, turns } => (leak_by(gain), file.as_str(), *turns),
     }
 }
 
@@ -71,6 +83,22 @@ fn words_that_are_taken(rt: HostRuntime) -> Result<(), Fail> {
         ("kuifje hyper -", ("hyper", "-", 1024)),
         ("kuifje hyper ", ("hyper", "", 1024)),
         ("kuifje hyper hyper", ("hyper", "hyper", 1024)),
+        (
+            "kuifje leak p.kf --gain bayes",
+            ("leak bayes", "p.kf", 1024),
+        ),
+        (
+            "kuifje --gain=tries:00002 leak p.kf",
+            ("leak tries:2", "p.kf", 1024),
+        ),
+        (
+            "kuifje leak --gain guessing p.kf --turns 7",
+            ("leak guessing", "p.kf", 7),
+        ),
+        (
+            "kuifje leak p.kf --gain table:g.json",
+            ("leak table", "p.kf", 1024),
+        ),
     ] {
         asks_for(&rt, line, want)?;
     }
@@ -101,6 +129,10 @@ fn words_that_are_refused(rt: HostRuntime) -> Result<(), Fail> {
         "kuifje hyper p.kf --json --json",
         "kuifje hyper p.kf --json=true",
         "kuifje hyper p.kf --gain bayes",
+        "kuifje leak p.kf",
+        "kuifje leak p.kf --gain tries:0",
+        "kuifje leak p.kf --gain table:",
+        "kuifje leak p.kf --gain bayes --json",
         "kuifje hyperr p.kf",
         "kuifje --help",
         "kuifje -h",

@@ -1,24 +1,42 @@
-ghost use Rattle.std.specs.Prelude.{◌≡◌, ◌≤◌, IfOk, IfSome, IsErrOf, None, Some, map, option_map, string_bytes, ◌∷◌, []};
+ghost use Rattle.std.specs.Prelude.{◌≡◌, ◌≤◌, IfOk, IfSome, IsErrOf, None, Some, map, option_map, option_and_then, string_bytes, ◌∷◌, []};
 ghost use Rattle.std.specs.Char.{is_ascii_digit};
 ghost use Rattle.std.specs.List.{list_all};
-ghost use Rattle.kf_top.specs.Task.{is_numeral as is_numeral_word, number_said as number_in, on_files, task_of, task_said, turns_of};
+ghost use Rattle.kf_top.specs.GainWords.{gain_said as gain_in_word};
+ghost use Rattle.kf_top.specs.Numerals.{is_numeral as is_numeral_word, number_said as number_in};
+ghost use Rattle.kf_top.specs.Task.{on_files, task_of, task_said, turns_of};
 ghost use Rattle.kf_top.specs.WordViews.{command_shown, said_shown};
-ghost use Rattle.kf_top.specs.Views.{task_of_job, HasTurns};
+ghost use Rattle.kf_top.specs.Views.{gain_of, task_of_job, HasTurns};
 
 use crate::commands::{Kind, options_fit, row_of};
+use crate::gain_words::{GainWord, gain_said};
 use crate::said::{Said, matches_of, said_of};
-use kf_value::Name;
+use kf_value::{Mem, Name};
 use std::alloc::{AllocError, Global};
 
 /// What the words of a command line ask for.
 #[derive(Drop)]
 pub enum Job {
     /// The hyper of the program in `file`, whose loops turn at most `turns` times per entry.
-    Hyper { file: Name, turns: u32 },
+    Hyper {
+        file: Name,
+        turns: u32,
+    },
     /// The same program's traces.
-    Traces { file: Name, turns: u32 },
+    Traces {
+        file: Name,
+        turns: u32,
+    },
     /// The channel from its target's values to its traces.
-    Channel { file: Name, turns: u32 },
+    Channel {
+        file: Name,
+        turns: u32,
+    },
+    /// How much a gain's best action gains by what is shown.
+    Leak {
+        file: Name,
+        gain: GainWord,
+        turns: u32,
+    },
 }
 
 /// Why the words have no job.
@@ -37,6 +55,17 @@ impl From<AllocError> for WordsError {
     ghost from_gives = { λ _ e. e ≡ errors.Mem };
 
     fn from(_: AllocError) -> Self {
+        WordsError::Mem
+    }
+}
+
+impl From<Mem> for WordsError {
+    ghost use Rattle.std.specs.Prelude.{◌≡◌};
+    ghost use Rattle.kf_top.specs.declared.words.WordsError.TheVariants as errors;
+
+    ghost from_gives = { λ _ e. e ≡ errors.Mem };
+
+    fn from(_: Mem) -> Self {
         WordsError::Mem
     }
 }
@@ -63,8 +92,8 @@ fn is_numeral(word: &str) -> bool
     1 <= word.len() && word.len() <= 5 && are_digits(word.as_bytes())
 }
 
-// The number from 1 to 65,535 that the word says.
-fn number_said(word: &str) -> Option<u32>
+/// The number from 1 to 65,535 that the word says.
+pub(crate) fn number_said(word: &str) -> Option<u32>
     ensures said { result ≡ number_in word.now }
     ensures few { IfSome result (λ number. (1 ≤ number) × (number ≤ 65535)) }
 {
@@ -94,15 +123,38 @@ fn turns_or_default(word: Option<&str>) -> Option<u32>
     }
 }
 
-// A command on one file.
-fn on_file(alloc: Global, command: Kind, file: &str, turns: u32) -> Result<Job, AllocError>
-    ensures { IfOk result (λ job. task_of_job job ≡ on_files (command_shown command) (file.now ∷ []) turns) }
+// The gain that `--gain` names where it stands.
+fn gain_of_option(alloc: Global, word: Option<&str>) -> Result<Option<GainWord>, Mem>
+    ensures { IfOk result (λ gain. option_map gain_of gain ≡ option_and_then gain_in_word (option_map (λ w. w.now) word.entry)) }
+{
+    match word {
+        None => Ok(None),
+        Some(word) => gain_said(alloc, word),
+    }
+}
+
+// A command on one file; none where it needs a gain and `--gain` names none.
+fn on_file(
+    alloc: Global,
+    command: Kind,
+    file: &str,
+    gain: Option<&str>,
+    turns: u32,
+) -> Result<Option<Job>, Mem>
+    ensures job { IfOk result (λ job. option_map task_of_job job
+        ≡ option_map (λ c. on_files c (file.now ∷ []) turns) (command_shown command (option_map (λ w. w.now) gain.entry))) }
+    ensures none { IfOk result (λ job. job ≡ None → command_shown command (option_map (λ w. w.now) gain.entry) ≡ None) }
+    ensures turns { IfOk result (λ job. IfSome job (λ job. (task_of_job job).turns ≡ turns)) }
 {
     let file = Name::new(file.to_string(alloc)?);
     Ok(match command {
-        Kind::Hyper => Job::Hyper { file, turns },
-        Kind::Traces => Job::Traces { file, turns },
-        Kind::Channel => Job::Channel { file, turns },
+        Kind::Hyper => Some(Job::Hyper { file, turns }),
+        Kind::Traces => Some(Job::Traces { file, turns }),
+        Kind::Channel => Some(Job::Channel { file, turns }),
+        Kind::Leak => match gain_of_option(alloc, gain)? {
+            Some(gain) => Some(Job::Leak { file, gain, turns }),
+            None => None,
+        },
     })
 }
 
@@ -126,7 +178,10 @@ fn job_of(alloc: Global, said: Said<'_, '_>) -> Result<Job, WordsError>
     };
     // No row has another number of files.
     match files {
-        [file] => Ok(on_file(alloc, row.command, file, turns)?),
+        [file] => match on_file(alloc, row.command, file, said.gain, turns)? {
+            Some(job) => Ok(job),
+            None => Err(WordsError::Usage),
+        },
         _ => Err(WordsError::Usage),
     }
 }

@@ -1,215 +1,27 @@
-ghost use Rattle.std.specs.Prelude.{◌≡◌, ◌≤◌, ◌∷◌, [], ℕ, List, length, vec_len, Contains, IfOk};
+ghost use Rattle.std.specs.Prelude.{◌≡◌, ◌∷◌, [], ℕ, List};
 ghost use Rattle.std.specs.Option.{ForSome};
-ghost use Rattle.kf_ast.specs.Views.{source_tree};
-ghost use Rattle.kf_check.specs.Laws.{IsWellBuilt};
-ghost use Rattle.kf_lex.specs.Readings.{IsTokens};
-ghost use Rattle.kf_parse.specs.Answers.{IsParsed};
-ghost use Rattle.kf_core.specs.Checked.{IsChecked};
 ghost use Rattle.kf_core.specs.Views.{program_tree};
-ghost use Rattle.kf_support.specs.Answers.{cause_of};
 ghost use Rattle.kf_support.specs.Cleared.{program_of, turns_of};
-ghost use Rattle.kf_top.specs.Outcome.{Gives, TokensOf, SourceOf, ProgramOf, TypedOf, TextOf, cause_word, cleared as whether_cleared, ClearedOf, statement_of, source_of, TaskOutcome};
-ghost use Rattle.kf_top.specs.Place.{line_at, column_at};
-ghost use Rattle.kf_top.specs.Task.{Command, Hyper, Traces, Channel, Task, on_file};
-ghost use Rattle.kf_top.specs.Stops.{Answers, Causes, is_bytes, is_tokens, is_source, is_program, is_text, is_cleared, is_alone};
-ghost use Rattle.kf_top.specs.declared.stops.Refusal.TheVariants as refusal;
-ghost use Rattle.kf_top.specs.declared.stops.Stop.TheVariants as stop;
-ghost use Rattle.kf_top.specs.Views.{task_of_job, text_of, HasTurns, ShowsStatement};
+ghost use Rattle.kf_top.specs.Outcome.{CommandOutcome, TaskOutcome};
+ghost use Rattle.kf_top.specs.Task.{Hyper, Traces, Channel, Task};
+ghost use Rattle.kf_top.specs.Stops.{Answers, Causes};
+ghost use Rattle.kf_top.specs.Views.{task_of_job, HasTurns, ShowsStatement};
 
+use crate::clearing::file;
 use crate::hypers::hyper_of;
-use crate::places::place;
+use crate::leaking::leak;
 use crate::stops::{Done, Refusal, Stop};
-use crate::texts::{channel_text, hyper_text, trace_text};
 use crate::words::Job;
-use kf_ast::Source;
 use kf_channel::{ChannelError, channel_of};
-use kf_check::{TypeError, check};
-use kf_core::Program;
-use kf_io::{Files, ReadError, read_whole};
-use kf_lex::{LexError, Tokens, lex};
-use kf_parse::{ParseError, grammar, parse};
-use kf_support::{Cleared, Halt, RunFault, clear};
+use kf_io::Files;
+use kf_support::Cleared;
+use kf_text::{channel_text, hyper_text, trace_text};
 use kf_traces::table;
 use std::alloc::Global;
 
-// The refusal of a text for a fault of this word at this byte.
-fn bad_text<'a>(name: &'a str, bytes: &[u8], at: u32, word: &'static str) -> Stop<'a>
-    requires { length bytes.now ≤ 1048576 }
-    ensures { result ≡ stop.Refused (refusal.BadText name.entry (line_at bytes.now at) (column_at bytes.now at) word.entry) }
-{
-    let (line, column) = place(bytes, at);
-    Stop::Refused(Refusal::BadText(name, line, column, word))
-}
-
-// The bytes of a file that isn't too long.
-fn source<'a, F: Files>(alloc: Global, files: &mut F, name: &'a str) -> Result<Vec<u8>, Stop<'a>>
-    ensures answer { ForSome (F.contents files.old) (λ c. Answers is_bytes result (Gives (source_of c name.now))) }
-    ensures causes { (task : Task) → Contains task.files name.now → Causes task (F.faults files.old) (F.faults files.new) result }
-    ensures unchanged { F.contents files.new ≡ F.contents files.old }
-    ensures short { IfOk result (λ bytes. vec_len bytes ≤ 1048576) }
-{
-    match read_whole(alloc, files, name) {
-        Ok(bytes) => Ok(bytes),
-        Err(ReadError::Failed) => Err(Stop::ReadFailed(name)),
-        Err(ReadError::TooLong) => Err(Stop::Refused(Refusal::TooLong(name))),
-        Err(ReadError::Mem) => Err(Stop::Mem),
-    }
-}
-
-// The tokens of a file's bytes.
-fn tokens<'a>(alloc: Global, name: &'a str, bytes: &[u8]) -> Result<Tokens, Stop<'a>>
-    requires { length bytes.now ≤ 1048576 }
-    ensures answer { Answers is_tokens result (TokensOf name.now bytes.now) }
-    ensures tokens { IfOk result (λ tokens. IsTokens bytes.now tokens) }
-    ensures causes { (task : Task) (before : List ℕ → ℕ) → Contains task.files name.now → Causes task before before result }
-{
-    match lex(alloc, bytes) {
-        Ok(tokens) => Ok(tokens),
-        Err(LexError::Utf8 { at }) => Err(bad_text(name, bytes, at, "Utf8")),
-        Err(LexError::Char { at }) => Err(bad_text(name, bytes, at, "Char")),
-        Err(LexError::Number { at }) => Err(bad_text(name, bytes, at, "Number")),
-        Err(LexError::Mem) => Err(Stop::Mem),
-    }
-}
-
-// The source that the tokens are.
-fn tree<'a>(alloc: Global, name: &'a str, bytes: &[u8], tokens: &Tokens) -> Result<Source, Stop<'a>>
-    requires short { length bytes.now ≤ 1048576 }
-    requires tokens { IsTokens bytes.now tokens.now }
-    ensures answer { Answers is_source result (SourceOf name.now bytes.now tokens.now) }
-    ensures parsed { IfOk result (λ source. IsParsed bytes.now tokens.now (source_tree source)) }
-    ensures causes { (task : Task) (before : List ℕ → ℕ) → Contains task.files name.now → Causes task before before result }
-{
-    match parse(alloc, bytes, tokens) {
-        Ok(source) => Ok(source),
-        Err(ParseError::Deep { at }) => Err(bad_text(name, bytes, at, "Deep")),
-        Err(ParseError::Syntax { at }) => Err(bad_text(name, bytes, at, "Syntax")),
-        Err(ParseError::Long { at }) => Err(bad_text(name, bytes, at, "Long")),
-        Err(ParseError::Mem) => Err(Stop::Mem),
-    }
-}
-
-// The program that the source is.
-fn program<'a>(
-    alloc: Global,
-    name: &'a str,
-    bytes: &[u8],
-    source: &Source,
-) -> Result<Program, Stop<'a>>
-    requires short { length bytes.now ≤ 1048576 }
-    requires built { IsWellBuilt (source_tree source.now) }
-    ensures answer { Answers is_program result (ProgramOf name.now bytes.now (source_tree source.now)) }
-    ensures checked { IfOk result (λ program. IsChecked (program_tree program)) }
-    ensures causes { (task : Task) (before : List ℕ → ℕ) → Contains task.files name.now → Causes task before before result }
-{
-    match check(alloc, source) {
-        Ok(program) => Ok(program),
-        Err(TypeError::NoVariable { at }) => Err(bad_text(name, bytes, at, "NoVariable")),
-        Err(TypeError::Twice { at }) => Err(bad_text(name, bytes, at, "Twice")),
-        Err(TypeError::Unknown { at }) => Err(bad_text(name, bytes, at, "Unknown")),
-        Err(TypeError::Clash { at }) => Err(bad_text(name, bytes, at, "Clash")),
-        Err(TypeError::BadRange { at }) => Err(bad_text(name, bytes, at, "BadRange")),
-        Err(TypeError::TypeTooLarge { at }) => Err(bad_text(name, bytes, at, "TypeTooLarge")),
-        Err(TypeError::TooManyVariables { at }) => {
-            Err(bad_text(name, bytes, at, "TooManyVariables"))
-        }
-        Err(TypeError::StoreTooWide { at }) => Err(bad_text(name, bytes, at, "StoreTooWide")),
-        Err(TypeError::BadFlip { at }) => Err(bad_text(name, bytes, at, "BadFlip")),
-        Err(TypeError::Mem) => Err(Stop::Mem),
-    }
-}
-
-// The word of a run fault.
-fn fault_word(kind: RunFault) -> &'static str
-    ensures { result.now ≡ cause_word (cause_of kind) }
-{
-    match kind {
-        RunFault::DivZero => "DivZero",
-        RunFault::ArithWide => "ArithWide",
-        RunFault::OutOfRange => "OutOfRange",
-        RunFault::NoWeight => "NoWeight",
-        RunFault::NegativeWeight => "NegativeWeight",
-        RunFault::RangeLong => "RangeLong",
-        RunFault::LoopBound => "LoopBound",
-    }
-}
-
-// The program of a file's bytes.
-#[tactic(auto, unfolding(crate::specs::Outcome::TypedOf))]
-fn typed<'a>(alloc: Global, name: &'a str, bytes: &[u8]) -> Result<Program, Stop<'a>>
-    requires short { length bytes.now ≤ 1048576 }
-    ensures answer { Answers is_program result (TypedOf name.now bytes.now) }
-    ensures checked { IfOk result (λ program. IsChecked (program_tree program)) }
-    ensures causes { (task : Task) (before : List ℕ → ℕ) → Contains task.files name.now → Causes task before before result }
-{
-    grammar();
-    let tokens = tokens(alloc, name, bytes)?;
-    let source = tree(alloc, name, bytes, &tokens)?;
-    program(alloc, name, bytes, &source)
-}
-
-// A file's bytes, and the program that they are.
-#[derive(Drop)]
-struct Text {
-    bytes: Vec<u8>,
-    program: Program,
-}
-
-// The text of a file.
-fn text_of_file<'a, F: Files>(alloc: Global, files: &mut F, name: &'a str) -> Result<Text, Stop<'a>>
-    ensures answer { ForSome (F.contents files.old) (λ c. Answers (is_text name.now) result (TextOf c name.now)) }
-    ensures causes { (task : Task) → Contains task.files name.now → Causes task (F.faults files.old) (F.faults files.new) result }
-    ensures short { IfOk result (λ text. vec_len text.bytes ≤ 1048576) }
-    ensures checked { IfOk result (λ text. IsChecked (program_tree text.program)) }
-{
-    let bytes = source(alloc, files, name)?;
-    let program = typed(alloc, name, &bytes)?;
-    Ok(Text { bytes, program })
-}
-
-// A text's program as one that meets no fault and whose scale isn't too wide.
-fn cleared<'a>(alloc: Global, name: &'a str, text: Text, turns: u32) -> Result<Cleared, Stop<'a>>
-    requires short { vec_len text.bytes ≤ 1048576 }
-    requires checked { IsChecked (program_tree text.program) }
-    requires some_turns { 1 ≤ turns }
-    requires few_turns { turns ≤ 65535 }
-    ensures answer { Answers is_cleared result (Gives (whether_cleared turns (text_of name.now text))) }
-    ensures turns { IfOk result (λ cleared. turns_of cleared ≡ turns) }
-    ensures causes { (task : Task) (before : List ℕ → ℕ) → Contains task.files name.now → Causes task before before result }
-{
-    let Text { bytes, program } = text;
-    match clear(alloc, program, turns) {
-        Ok(cleared) => Ok(cleared),
-        Err(Halt::Fault { kind, at }) => {
-            let (line, column) = place(&bytes, at);
-            let word = fault_word(kind);
-            Err(Stop::Refused(Refusal::BadRun(name, line, column, word)))
-        }
-        Err(Halt::Scale) => Err(Stop::Refused(Refusal::WideScale(name))),
-        Err(Halt::Mem) => Err(Stop::Mem),
-    }
-}
-
-// The cleared program of the one file of a command.
-fn file<'a, F: Files>(
-    alloc: Global,
-    files: &mut F,
-    name: &'a str,
-    turns: u32,
-) -> Result<Cleared, Stop<'a>>
-    requires some_turns { 1 ≤ turns }
-    requires few_turns { turns ≤ 65535 }
-    ensures answer { (command : Command) → ForSome (F.contents files.old) (λ c. Answers is_alone result (ClearedOf c (on_file command name.now turns))) }
-    ensures turns { IfOk result (λ cleared. turns_of cleared ≡ turns) }
-    ensures causes { (task : Task) → Contains task.files name.now → Causes task (F.faults files.old) (F.faults files.new) result }
-{
-    let text = text_of_file(alloc, files, name)?;
-    cleared(alloc, name, text, turns)
-}
-
 // The command `hyper`.
 fn hyper<'a>(alloc: Global, cleared: &Cleared) -> Result<Done, Stop<'a>>
-    ensures answer { Answers ShowsStatement result (Gives (statement_of Hyper (turns_of cleared.now) (program_tree (program_of cleared.now) ∷ []))) }
+    ensures answer { (c : List ℕ → List ℕ) → Answers ShowsStatement result (CommandOutcome c Hyper (turns_of cleared.now) (program_tree (program_of cleared.now) ∷ [])) }
     ensures causes { (task : Task) (before : List ℕ → ℕ) → Causes task before before result }
 {
     let hyper = hyper_of(alloc, cleared)?;
@@ -219,7 +31,7 @@ fn hyper<'a>(alloc: Global, cleared: &Cleared) -> Result<Done, Stop<'a>>
 
 // The command `traces`.
 fn traces<'a>(alloc: Global, cleared: &Cleared) -> Result<Done, Stop<'a>>
-    ensures answer { Answers ShowsStatement result (Gives (statement_of Traces (turns_of cleared.now) (program_tree (program_of cleared.now) ∷ []))) }
+    ensures answer { (c : List ℕ → List ℕ) → Answers ShowsStatement result (CommandOutcome c Traces (turns_of cleared.now) (program_tree (program_of cleared.now) ∷ [])) }
     ensures causes { (task : Task) (before : List ℕ → ℕ) → Causes task before before result }
 {
     let table = table(alloc, cleared)?;
@@ -229,7 +41,7 @@ fn traces<'a>(alloc: Global, cleared: &Cleared) -> Result<Done, Stop<'a>>
 
 // The command `channel`.
 fn channel<'a>(alloc: Global, cleared: &Cleared) -> Result<Done, Stop<'a>>
-    ensures answer { Answers ShowsStatement result (Gives (statement_of Channel (turns_of cleared.now) (program_tree (program_of cleared.now) ∷ []))) }
+    ensures answer { (c : List ℕ → List ℕ) → Answers ShowsStatement result (CommandOutcome c Channel (turns_of cleared.now) (program_tree (program_of cleared.now) ∷ [])) }
     ensures causes { (task : Task) (before : List ℕ → ℕ) → task.command ≡ Channel → Causes task before before result }
 {
     let table = table(alloc, cleared)?;
@@ -260,6 +72,14 @@ pub fn work<'a, F: Files>(alloc: Global, files: &mut F, job: &'a Job) -> Result<
         Job::Channel { file: name, turns } => {
             let cleared = file(alloc, files, name.as_str(), *turns)?;
             channel(alloc, &cleared)
+        }
+        Job::Leak {
+            file: name,
+            gain,
+            turns,
+        } => {
+            let cleared = file(alloc, files, name.as_str(), *turns)?;
+            leak(alloc, files, &cleared, gain)
         }
     }
 }

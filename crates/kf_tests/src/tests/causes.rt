@@ -2,7 +2,7 @@ ghost use Rattle.std.specs.Prelude.{◌<◌};
 
 use crate::tests::*;
 
-const PARITY_TEXT: &str = "var x : 0..3 := uniform 0..3;\nobserve x mod 2;\n";
+pub(super) const PARITY_TEXT: &str = "var x : 0..3 := uniform 0..3;\nobserve x mod 2;\n";
 
 const READ_FAILED: End<'static> = End {
     status: 3,
@@ -10,7 +10,7 @@ const READ_FAILED: End<'static> = End {
     err: "kuifje: p.kf: read failed\n",
 };
 
-const USAGE: End<'static> = End {
+pub(super) const USAGE: End<'static> = End {
     status: 2,
     out: "",
     err: "kuifje: usage: kuifje COMMAND [FILES] [--gain G] [--turns N] [--json]\n",

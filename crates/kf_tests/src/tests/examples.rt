@@ -222,6 +222,11 @@ inner 3 outer 1/4
   3 1
 ";
 
+// The programs of which reports are kept.
+pub(super) fn reported() -> [&'static str; 7] {
+    [PIN, SURVEY, DOORS, DINNER, TWICE, COUNTDOWN, NOISY]
+}
+
 #[test]
 fn examples(rt: HostRuntime) -> Result<(), Fail> {
     for (text, out) in [

@@ -6,13 +6,13 @@ use Rattle.kf_hyper.specs.Views.{rows_of}
 use Rattle.kf_support.specs.Cleared.{program_of, turns_of}
 use Rattle.kf_channel.specs.Channels.{all_initial}
 use Rattle.kf_channel.specs.Views.{secrets_of}
-use Rattle.kf_top.specs.Texts.{channel_text}
+use Rattle.kf_text.specs.Texts.{channel_text}
 use Rattle.kf_top.specs.Answer.{ChannelOf}
 use Rattle.kf_top.proofs.Steps.{initial}
 use Rattle.kf_top.proofs.work.channel.Goals as goal
 
 pub returns-clause-answer : goal.returns-clause-answer
-returns-clause-answer c =
+returns-clause-answer c contents =
     let p = program_tree (program_of c.args.cleared.now) in
     let turns = turns_of c.args.cleared.now in
     let table = c.in_ok-table.ensures in

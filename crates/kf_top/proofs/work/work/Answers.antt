@@ -1,9 +1,10 @@
-use Rattle.std.proofs.Common.{ℕ, List, refl, subst}
+use Rattle.std.proofs.Common.{ℕ, List, refl, subst, ◌∙◌}
 use Rattle.std.proofs.lemmas.Result.{err_from_is_err_and}
 use Rattle.kf_core.specs.Views.{program_tree}
 use Rattle.kf_support.specs.Cleared.{program_of, turns_of}
 use Rattle.kf_top.specs.Stops.{Causes}
-use Rattle.kf_top.specs.Task.{Hyper, Traces, Channel, Task, on_file}
+use Rattle.kf_top.specs.Task.{Command, Hyper, Traces, Channel, Leak, Task, on_file}
+use Rattle.kf_top.specs.Views.{gain_of}
 use Rattle.kf_top.proofs.Steps.{task_stops, task_answers, named_alone}
 use Rattle.kf_top.proofs.work.work.Goals as goal
 
@@ -22,7 +23,7 @@ pub returns-in_ok-cleared-in-Hyper-clause-answer : goal.returns-in_ok-cleared-in
 returns-in_ok-cleared-in-Hyper-clause-answer g c x e =
     let cleared = c.in_ok-cleared-in-Hyper.cleared in
     rw c.in-Hyper.is (task_answers x Hyper c.in-Hyper.turns c.in-Hyper.name c.as_str.result.now c.as_str.ensures (program_tree (program_of cleared)) (turns_of cleared) c.in_ok-cleared-in-Hyper.ensures.turns
-    c.hyper.result (c.in_ok-cleared-in-Hyper.ensures.answer Hyper x e) c.hyper.ensures.answer)
+    c.hyper.result (c.in_ok-cleared-in-Hyper.ensures.answer Hyper x e) (c.hyper.ensures.answer x))
 
 pub returns-in_ok-cleared-in-Hyper-clause-causes : goal.returns-in_ok-cleared-in-Hyper-clause-causes
 returns-in_ok-cleared-in-Hyper-clause-causes g c =
@@ -46,7 +47,7 @@ pub returns-in_ok-cleared-in-Traces-clause-answer : goal.returns-in_ok-cleared-i
 returns-in_ok-cleared-in-Traces-clause-answer g c x e =
     let cleared = c.in_ok-cleared-in-Traces.cleared in
     rw c.in-Traces.is (task_answers x Traces c.in-Traces.turns c.in-Traces.name c.as_str-in-Traces.result.now c.as_str-in-Traces.ensures (program_tree (program_of cleared)) (turns_of cleared) c.in_ok-cleared-in-Traces.ensures.turns
-    c.traces.result (c.in_ok-cleared-in-Traces.ensures.answer Traces x e) c.traces.ensures.answer)
+    c.traces.result (c.in_ok-cleared-in-Traces.ensures.answer Traces x e) (c.traces.ensures.answer x))
 
 pub returns-in_ok-cleared-in-Traces-clause-causes : goal.returns-in_ok-cleared-in-Traces-clause-causes
 returns-in_ok-cleared-in-Traces-clause-causes g c =
@@ -70,7 +71,7 @@ pub returns-in_ok-cleared-in-Channel-clause-answer : goal.returns-in_ok-cleared-
 returns-in_ok-cleared-in-Channel-clause-answer g c x e =
     let cleared = c.in_ok-cleared-in-Channel.cleared in
     rw c.in-Channel.is (task_answers x Channel c.in-Channel.turns c.in-Channel.name c.as_str-in-Channel.result.now c.as_str-in-Channel.ensures (program_tree (program_of cleared)) (turns_of cleared) c.in_ok-cleared-in-Channel.ensures.turns
-    c.channel.result (c.in_ok-cleared-in-Channel.ensures.answer Channel x e) c.channel.ensures.answer)
+    c.channel.result (c.in_ok-cleared-in-Channel.ensures.answer Channel x e) (c.channel.ensures.answer x))
 
 pub returns-in_ok-cleared-in-Channel-clause-causes : goal.returns-in_ok-cleared-in-Channel-clause-causes
 returns-in_ok-cleared-in-Channel-clause-causes g c =
@@ -78,3 +79,29 @@ returns-in_ok-cleared-in-Channel-clause-causes g c =
     let now = g.F.Files.faults c.file-in-Channel.new.files in
     let same = c.in_ok-cleared-in-Channel.ensures.causes task (named_alone c.in-Channel.name c.as_str-in-Channel.result.now c.as_str-in-Channel.ensures) in
     rw c.in-Channel.is (subst (λ (before : List ℕ → ℕ). Causes task before now c.channel.result) same (c.channel.ensures.causes task now refl))
+
+pub returns-in_err-cleared-in-Leak-clause-answer : goal.returns-in_err-cleared-in-Leak-clause-answer
+returns-in_err-cleared-in-Leak-clause-answer g c x e =
+    let p = err_from_is_err_and c.from_residual-in_err-cleared-in-Leak.result c.from_residual-in_err-cleared-in-Leak.ensures.1 in
+    let command : Command = Leak (gain_of c.in-Leak.gain) in
+    rw (p.1, p.2, c.in-Leak.is) (task_stops x command c.in-Leak.turns c.in-Leak.name c.as_str-in-Leak.result.now c.as_str-in-Leak.ensures c.in_err-cleared-in-Leak.field-0.0 (c.in_err-cleared-in-Leak.ensures.answer command x e))
+
+pub returns-in_err-cleared-in-Leak-clause-causes : goal.returns-in_err-cleared-in-Leak-clause-causes
+returns-in_err-cleared-in-Leak-clause-causes g c =
+    let p = err_from_is_err_and c.from_residual-in_err-cleared-in-Leak.result c.from_residual-in_err-cleared-in-Leak.ensures.1 in
+    let task : Task = on_file (Leak (gain_of c.in-Leak.gain)) c.in-Leak.name c.in-Leak.turns in
+    rw (p.1, p.2, c.in-Leak.is) (c.in_err-cleared-in-Leak.ensures.causes task (named_alone c.in-Leak.name c.as_str-in-Leak.result.now c.as_str-in-Leak.ensures))
+
+pub returns-in_ok-cleared-in-Leak-clause-answer : goal.returns-in_ok-cleared-in-Leak-clause-answer
+returns-in_ok-cleared-in-Leak-clause-answer g c x e =
+    let cleared = c.in_ok-cleared-in-Leak.cleared in
+    let command : Command = Leak (gain_of c.in-Leak.gain) in
+    rw c.in-Leak.is (task_answers x command c.in-Leak.turns c.in-Leak.name c.as_str-in-Leak.result.now c.as_str-in-Leak.ensures (program_tree (program_of cleared)) (turns_of cleared) c.in_ok-cleared-in-Leak.ensures.turns
+    c.leak.result (c.in_ok-cleared-in-Leak.ensures.answer command x e) (c.leak.ensures.answer x (c.in_ok-cleared-in-Leak.ensures.unchanged ∙ e)))
+
+pub returns-in_ok-cleared-in-Leak-clause-causes : goal.returns-in_ok-cleared-in-Leak-clause-causes
+returns-in_ok-cleared-in-Leak-clause-causes g c =
+    let task : Task = on_file (Leak (gain_of c.in-Leak.gain)) c.in-Leak.name c.in-Leak.turns in
+    let now = g.F.Files.faults c.leak.new.files in
+    let same = c.in_ok-cleared-in-Leak.ensures.causes task (named_alone c.in-Leak.name c.as_str-in-Leak.result.now c.as_str-in-Leak.ensures) in
+    rw c.in-Leak.is (subst (λ (before : List ℕ → ℕ). Causes task before now c.leak.result) same (c.leak.ensures.causes task refl))

@@ -1,0 +1,4 @@
+mod Noisy
+pub mod Printing
+mod Reporting
+mod Rows

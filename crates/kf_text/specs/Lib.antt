@@ -1,0 +1,5 @@
+-- Believed
+pub mod Texts
+pub mod ReportTexts
+-- For bodies
+pub mod Views

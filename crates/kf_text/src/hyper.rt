@@ -1,0 +1,78 @@
+ghost use Rattle.std.specs.Prelude.{◌≡◌, ◌<◌, ◌++◌, IfOk, OnOk, flat_map, length};
+ghost use Rattle.kf_hyper.specs.Columns.{total};
+ghost use Rattle.kf_hyper.specs.Views.{entry_at, inner_at, inners_of, scale_of, target_of};
+ghost use Rattle.kf_text.specs.Texts.{head_lines, entry_line, inner_lines, hyper_text as text_of_hyper};
+
+use crate::items::print_about;
+use kf_hyper::Hyper;
+use kf_value::{Mem, print_target};
+use std::alloc::Global;
+
+// Appends the lines before the inners.
+fn print_head(alloc: Global, hyper: &Hyper, out: &mut Vec<u8>) -> Result<(), Mem>
+    ensures { OnOk result (out.new.items ≡ out.old.items ++ head_lines (target_of hyper.now) (scale_of hyper.now) (length (inners_of hyper.now))) }
+{
+    print_about(hyper.target(), out)?;
+    let scale = hyper.scale();
+    let count = hyper.count();
+    let text = format!(in alloc; "scale {scale}\ninners {count}\n")?;
+    out.extend_from_slice(text.as_bytes())?;
+    Ok(())
+}
+
+// Appends the line of the `k`-th value of the inner `i`.
+fn print_entry(
+    alloc: Global,
+    hyper: &Hyper,
+    i: usize,
+    k: usize,
+    out: &mut Vec<u8>,
+) -> Result<(), Mem>
+    requires inner { i < length (inners_of hyper.now) }
+    requires entry { k < length (inner_at hyper.now i).entries }
+    ensures { OnOk result (out.new.items ≡ out.old.items ++ entry_line (target_of hyper.now) (total (inner_at hyper.now i).entries) (entry_at (inner_at hyper.now i).entries k)) }
+{
+    let value = hyper.inner(i).entries().as_slice()[k].value;
+    let chance = hyper.chance(i, k);
+    out.extend_from_slice(b"  ")?;
+    print_target(alloc, hyper.target(), value, out)?;
+    let text = format!(in alloc; " {chance}\n")?;
+    out.extend_from_slice(text.as_bytes())?;
+    Ok(())
+}
+
+// Appends the lines of all values of the inner `i`.
+fn print_entries(alloc: Global, hyper: &Hyper, i: usize, out: &mut Vec<u8>) -> Result<(), Mem>
+    requires { i < length (inners_of hyper.now) }
+    ensures { OnOk result (out.new.items ≡ out.old.items ++ flat_map (entry_line (target_of hyper.now) (total (inner_at hyper.now i).entries)) (inner_at hyper.now i).entries) }
+{
+    let count = hyper.inner(i).entries().as_slice().len();
+    for k in 0..count {
+        print_entry(alloc, hyper, i, k, out)?;
+    }
+    Ok(())
+}
+
+// Appends the lines of the inner `i`.
+fn print_inner(alloc: Global, hyper: &Hyper, i: usize, out: &mut Vec<u8>) -> Result<(), Mem>
+    requires { i < length (inners_of hyper.now) }
+    ensures { OnOk result (out.new.items ≡ out.old.items ++ inner_lines (target_of hyper.now) (scale_of hyper.now) (i, inner_at hyper.now i)) }
+{
+    let outer = hyper.outer(i);
+    let text = format!(in alloc; "inner {i} outer {outer}\n")?;
+    out.extend_from_slice(text.as_bytes())?;
+    print_entries(alloc, hyper, i, out)?;
+    Ok(())
+}
+
+/// The printed hyper: its target, its scale, and each inner with its outer and its probabilities.
+pub fn hyper_text(alloc: Global, hyper: &Hyper) -> Result<Vec<u8>, Mem>
+    ensures { IfOk result (λ text. text.items ≡ text_of_hyper (target_of hyper.now) (scale_of hyper.now) (inners_of hyper.now)) }
+{
+    let mut out = Vec::new(alloc);
+    print_head(alloc, hyper, &mut out)?;
+    for i in 0..hyper.count() {
+        print_inner(alloc, hyper, i, &mut out)?;
+    }
+    Ok(out)
+}

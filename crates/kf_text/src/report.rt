@@ -1,0 +1,66 @@
+ghost use Rattle.std.specs.Prelude.{◌≡◌, ◌++◌, codes, IfOk, OnOk};
+ghost use Rattle.kf_gain.specs.Views.{gain_tree};
+ghost use Rattle.kf_report.specs.Reports.{Leakage};
+ghost use Rattle.kf_report.specs.Views.{IsReport};
+ghost use Rattle.kf_text.specs.ReportTexts.{gain_text, report_text as text_of_report};
+ghost use Rattle.kf_text.specs.Texts.{line};
+ghost use Rattle.kf_text.specs.Views.{own_text, own_quotient_text, own_lines};
+
+use kf_frac::Frac;
+use kf_gain::Gain;
+use kf_report::Report;
+use kf_value::Mem;
+use std::alloc::Global;
+
+// Appends the line of the gain.
+fn print_gain(alloc: Global, gain: &Gain, out: &mut Vec<u8>) -> Result<(), Mem>
+    ensures { OnOk result (out.new.items ≡ out.old.items ++ line (codes "gain " ++ gain_text (gain_tree gain.now))) }
+{
+    match gain {
+        Gain::Bayes => out.extend_from_slice(b"gain bayes\n")?,
+        Gain::Tries(count) => {
+            let text = format!(in alloc; "gain tries {count}\n")?;
+            out.extend_from_slice(text.as_bytes())?;
+        }
+        Gain::Guessing => out.extend_from_slice(b"gain guessing\n")?,
+        Gain::Table(_) => out.extend_from_slice(b"gain table\n")?,
+    }
+    Ok(())
+}
+
+// Appends the line of a fraction behind its name and a space.
+fn print_fraction(alloc: Global, name: &[u8], fraction: Frac, out: &mut Vec<u8>) -> Result<(), Mem>
+    ensures { OnOk result (out.new.items ≡ out.old.items ++ line (name.now ++ own_text fraction)) }
+{
+    out.extend_from_slice(name)?;
+    let text = format!(in alloc; "{fraction}\n")?;
+    out.extend_from_slice(text.as_bytes())?;
+    Ok(())
+}
+
+// Appends the line of the quotient.
+fn print_quotient(alloc: Global, quotient: Option<Frac>, out: &mut Vec<u8>) -> Result<(), Mem>
+    ensures { OnOk result (out.new.items ≡ out.old.items ++ line (codes "quotient " ++ own_quotient_text quotient)) }
+{
+    let Some(fraction) = quotient else {
+        out.extend_from_slice(b"quotient undefined\n")?;
+        return Ok(());
+    };
+    print_fraction(alloc, b"quotient ", fraction, out)
+}
+
+/// The printed report: the gain, the prior, the posterior, their quotient and their difference.
+///
+/// A table is named without its file. The quotient is `undefined` where the report has none.
+pub fn report_text(alloc: Global, g: &Gain, r: &Report) -> Result<Vec<u8>, Mem>
+    ensures parts { IfOk result (λ text. text.items ≡ own_lines (gain_tree g.now) r.now) }
+    ensures numbers { (l : Leakage) → IsReport l r.now → IfOk result (λ text. text.items ≡ text_of_report (gain_tree g.now) l) }
+{
+    let mut out = Vec::new(alloc);
+    print_gain(alloc, g, &mut out)?;
+    print_fraction(alloc, b"prior ", r.prior, &mut out)?;
+    print_fraction(alloc, b"posterior ", r.posterior, &mut out)?;
+    print_quotient(alloc, r.quotient, &mut out)?;
+    print_fraction(alloc, b"difference ", r.difference, &mut out)?;
+    Ok(out)
+}

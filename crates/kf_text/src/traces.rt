@@ -1,0 +1,104 @@
+ghost use Rattle.std.specs.Prelude.{◌≡◌, ◌≤◌, ◌<◌, ◌++◌, IfOk, OnOk, flat_map, length};
+ghost use Rattle.kf_frac.specs.Fractions.{limit};
+ghost use Rattle.kf_value.specs.Numbers.{target_size};
+ghost use Rattle.kf_value.specs.Views.{items_of};
+ghost use Rattle.kf_hyper.specs.Columns.{total};
+ghost use Rattle.kf_hyper.specs.Shapes.{IsBelow};
+ghost use Rattle.kf_hyper.specs.Tables.{table_row};
+ghost use Rattle.kf_hyper.specs.Views.{rows_of};
+ghost use Rattle.kf_text.specs.Texts.{entry_line, row_lines, table_lines, trace_text as text_of_table};
+
+use crate::items::{print_about, print_trace};
+use kf_frac::share;
+use kf_hyper::{Entry, TraceRow, TraceTable};
+use kf_value::{Mem, Target, print_target};
+use std::alloc::Global;
+
+// Appends the lines before the traces.
+fn print_head(alloc: Global, table: &TraceTable, out: &mut Vec<u8>) -> Result<(), Mem>
+    ensures { OnOk result (out.new.items ≡ out.old.items ++ table_lines (items_of table.now.target) table.now.scale (length (rows_of table.now))) }
+{
+    print_about(&table.target, out)?;
+    let scale = table.scale;
+    let count = table.rows.as_slice().len();
+    let text = format!(in alloc; "scale {scale}\ntraces {count}\n")?;
+    out.extend_from_slice(text.as_bytes())?;
+    Ok(())
+}
+
+// Appends the line of a value and its weight over the scale.
+fn print_entry(
+    alloc: Global,
+    target: &Target,
+    scale: u128,
+    entry: Entry,
+    out: &mut Vec<u8>,
+) -> Result<(), Mem>
+    requires value { entry.value < target_size (items_of target.now) }
+    requires part { entry.weight ≤ scale }
+    requires some { 0 < scale }
+    requires narrow { scale ≤ limit }
+    ensures { OnOk result (out.new.items ≡ out.old.items ++ entry_line (items_of target.now) scale entry) }
+{
+    let chance = share(entry.weight, scale);
+    out.extend_from_slice(b"  ")?;
+    print_target(alloc, target, entry.value, out)?;
+    let text = format!(in alloc; " {chance}\n")?;
+    out.extend_from_slice(text.as_bytes())?;
+    Ok(())
+}
+
+// Appends the lines of all values of a trace.
+fn print_entries(
+    alloc: Global,
+    target: &Target,
+    scale: u128,
+    entries: &[Entry],
+    out: &mut Vec<u8>,
+) -> Result<(), Mem>
+    requires within { IsBelow (target_size (items_of target.now)) entries.now }
+    requires parts { total entries.now ≤ scale }
+    requires some { 0 < scale }
+    requires narrow { scale ≤ limit }
+    ensures { OnOk result (out.new.items ≡ out.old.items ++ flat_map (entry_line (items_of target.now) scale) entries.now) }
+{
+    for entry in entries {
+        print_entry(alloc, target, scale, *entry, out)?;
+    }
+    Ok(())
+}
+
+// Appends the lines of a trace.
+fn print_row(
+    alloc: Global,
+    target: &Target,
+    scale: u128,
+    row: &TraceRow,
+    out: &mut Vec<u8>,
+) -> Result<(), Mem>
+    requires within { IsBelow (target_size (items_of target.now)) row.now.column }
+    requires parts { total row.now.column ≤ scale }
+    requires some { 0 < scale }
+    requires narrow { scale ≤ limit }
+    ensures { OnOk result (out.new.items ≡ out.old.items ++ row_lines (items_of target.now) scale (table_row row.now)) }
+{
+    let entries = row.column.entries().as_slice();
+    let weight = share(row.column.total(), scale);
+    out.extend_from_slice(b"trace ")?;
+    print_trace(alloc, row.trace.as_slice(), out)?;
+    let text = format!(in alloc; " weight {weight}\n")?;
+    out.extend_from_slice(text.as_bytes())?;
+    print_entries(alloc, target, scale, entries, out)
+}
+
+/// The printed table: its target, its scale, and each trace with its probability and those of its values.
+pub fn trace_text(alloc: Global, table: &TraceTable) -> Result<Vec<u8>, Mem>
+    ensures { IfOk result (λ text. text.items ≡ text_of_table (items_of table.now.target) table.now.scale (rows_of table.now)) }
+{
+    let mut out = Vec::new(alloc);
+    print_head(alloc, table, &mut out)?;
+    for row in table.rows.as_slice() {
+        print_row(alloc, &table.target, table.scale, row, &mut out)?;
+    }
+    Ok(out)
+}

@@ -44,32 +44,38 @@ agreeing : (f g : Pair → ℕ) → ((c : Pair) → f c ≡ g c) → (ps : List 
 agreeing f g same [] = refl
 agreeing f g same (p ∷ ps) = sum_by-cons f p ps ∙ (λ i. same p i + agreeing f g same ps i) ∙ sym (sum_by-cons g p ps)
 
-module _ (columns : List Column) (pairs : List Pair) (had : ClassesOf columns pairs) (sorted : Ordered pairs) where
+-- ordered classes with the totals of these columns
+module _ (columns : List Column) (pairs : List Pair) (reduced : All HasInner columns) (inners : All (λ (c : Pair). IsInner c.0) pairs) (used : All (λ (c : Pair). 0 < c.1) pairs)
+    (totals : (inner : List Entry) → IsInner inner → total_in pairs inner ≡ class_total columns inner) (sorted : Ordered pairs) where
   covered : (k : ℕ) (d : Column) → k < length columns → 0 < total (get_or columns k d) → count_by (λ (i : Inner). proportional (get_or columns k d) i.entries) (map as_inner pairs) ≡ 1
   covered k d below some =
       let c : Column = get_or columns k d in
-      let h : HasInner c = had.reduced k d below in
+      let h : HasInner c = reduced k d below in
       let r : List Entry = h.inner in
       let itself : proportional c r ≡ true = proportional_reduced c r r h.is_reduced ∙ proportional_itself r in
       let at_least : (if proportional c r then total c else 0) ≤ class_total columns r = get_or-le-sum_by (λ (c : Column). if proportional c r then total c else 0) columns k d below in
       let whole : (if proportional c r then total c else 0) ≡ total c = ap (λ (b : Bool). if b then total c else 0) itself in
-      let gathers : 0 < total_in pairs r = omega (arith, had.totals r h.is_reduced.is_inner, at_least, whole, some) in
+      let gathers : 0 < total_in pairs r = omega (arith, totals r h.is_reduced.is_inner, at_least, whole, some) in
       sum-shown (λ (i : Inner). if proportional c i.entries then 1 else 0) pairs
       ∙ agreeing (λ (p : Pair). if proportional c p.0 then 1 else 0) (λ (p : Pair). if proportional r p.0 then 1 else 0) (λ p. ap (λ (b : Bool). if b then 1 else 0) (proportional_reduced c r p.0 h.is_reduced)) pairs
-      ∙ one_class r h.is_reduced.is_inner pairs had.inners sorted gathers
+      ∙ one_class r h.is_reduced.is_inner pairs inners sorted gathers
 
   ascends : IsStrictlySortedBy list_order (map (λ (i : Inner). i.entries) (map as_inner pairs))
   ascends = subst (IsStrictlySortedBy list_order) (sym (entries-shown pairs)) (sorted_again pairs sorted)
 
-  pub is_hyper : IsHyper columns (map as_inner pairs)
-  is_hyper = record {
+  pub hyper_by_totals : IsHyper columns (map as_inner pairs)
+  hyper_by_totals = record {
     covered = covered;
     totals = All-map (λ (i : Inner). i.total ≡ class_total columns i.entries) as_inner pairs
-        (λ k d below. let c : Pair = get_or pairs k d in sym (own_totals pairs had.inners sorted k d below) ∙ had.totals c.0 (had.inners k d below));
-    used = All-map (λ (i : Inner). 0 < i.total) as_inner pairs had.used;
-    inner = All-map (λ (i : Inner). IsInner i.entries) as_inner pairs had.inners;
+        (λ k d below. let c : Pair = get_or pairs k d in sym (own_totals pairs inners sorted k d below) ∙ totals c.0 (inners k d below));
+    used = All-map (λ (i : Inner). 0 < i.total) as_inner pairs used;
+    inner = All-map (λ (i : Inner). IsInner i.entries) as_inner pairs inners;
     ascending = ascends;
   }
+
+module _ (columns : List Column) (pairs : List Pair) (had : ClassesOf columns pairs) (sorted : Ordered pairs) where
+  pub is_hyper : IsHyper columns (map as_inner pairs)
+  is_hyper = hyper_by_totals columns pairs had.reduced had.inners had.used had.totals sorted
 
   pub is_shape : (size scale : ℕ) → 0 < scale → scale ≤ limit → mass columns ≡ scale → All (IsBelow size) columns → IsShape size scale (map as_inner pairs)
   is_shape size scale some narrow whole below = record {
@@ -77,7 +83,7 @@ module _ (columns : List Column) (pairs : List Pair) (had : ClassesOf columns pa
     narrow = narrow;
     within = All-map (λ (i : Inner). IsBelow size i.entries) as_inner pairs (had.within size below);
     inner = All-map (λ (i : Inner). IsInner i.entries) as_inner pairs had.inners;
-    ascending = ascends;
+    ascending = is_hyper.ascending;
     used = All-map (λ (i : Inner). 0 < i.total) as_inner pairs had.used;
     multiple = All-map (λ (i : Inner). total i.entries ∣ i.total) as_inner pairs had.whole;
     whole = sum-shown (λ (i : Inner). i.total) pairs ∙ had.mass ∙ whole;

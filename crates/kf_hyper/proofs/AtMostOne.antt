@@ -74,7 +74,7 @@ chained c u v some cu cv x y =
 same_one : (i j : Inner) → i.entries ≡ j.entries → i.total ≡ j.total → i ≡ j
 same_one i j e t = λ k. record { entries = e k; total = t k }
 
-if_above : (b : Bool) (n : ℕ) → 0 < (if b then n else 0) → (b ≡ true) × (0 < n)
+pub if_above : (b : Bool) (n : ℕ) → 0 < (if b then n else 0) → (b ≡ true) × (0 < n)
 if_above true n h = (refl, h)
 if_above false n h = absurd (omega arith)
 

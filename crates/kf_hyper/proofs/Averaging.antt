@@ -3,7 +3,7 @@ use Rattle.std.proofs.Common.{◌≡◌, ℕ, ◌+◌, ◌<◌, ◌≤◌, List,
 use Rattle.std.proofs.lemmas.List.{take_all, get_or-map, length-map}
 use Rattle.std.proofs.lemmas.List.Sums.{sum_by-cons, sum_by_more, sum_by_more_le}
 
-sum-mapped : {X Y : Type 0} (shown : X → Y) (f : Y → ℕ) (xs : List X) → sum_by f (map shown xs) ≡ sum_by (λ (x : X). f (shown x)) xs
+pub sum-mapped : {X Y : Type 0} (shown : X → Y) (f : Y → ℕ) (xs : List X) → sum_by f (map shown xs) ≡ sum_by (λ (x : X). f (shown x)) xs
 sum-mapped shown f [] = refl
 sum-mapped shown f (x ∷ xs) =
     sum_by-cons f (shown x) (map shown xs) ∙ ap (λ (n : ℕ). f (shown x) + n) (sum-mapped shown f xs) ∙ sym (sum_by-cons (λ x. f (shown x)) x xs)

@@ -1,5 +1,5 @@
 -- A column divided by the greatest common divisor of its weights is an inner.
-use Rattle.std.proofs.Common.{◌≡◌, ℕ, ◌+◌, ◌*◌, ◌/◌, ◌<◌, ◌≤◌, List, [], ◌∷◌, All, map, refl, sym, subst, arith, suc, zero, length, get_or, take, Some}
+use Rattle.std.proofs.Common.{◌≡◌, ℕ, ◌+◌, ◌*◌, ◌/◌, ◌<◌, ◌≤◌, List, [], ◌∷◌, ◌++◌, All, map, refl, sym, ap, ◌∙◌, subst, arith, suc, zero, length, get_or, take, Some}
 use Rattle.std.proofs.Math.Nat.{mul-dvd-mul_left, dvd_of_mul-dvd-mul_left, mul-div_cancel', pos_of_dvd_of_pos, eq-one_of_dvd-one}
 use Rattle.std.proofs.lemmas.Nat.Gcd.{dvd_trans, dvd-zero}
 use Rattle.std.proofs.lemmas.List.Elements.{All-head, All-tail, All-nil, All-cons, All-weaker, All-more, All-pop}
@@ -10,7 +10,7 @@ use Rattle.kf_frac.specs.Divisors.{gcd_of}
 use Rattle.kf_frac.proofs.CommonDivisors.{gcd_is}
 use Rattle.kf_hyper.specs.declared.entry.Entry.{Entry}
 use Rattle.kf_hyper.specs.Columns.{IsColumn}
-use Rattle.kf_hyper.specs.Classes.{IsCommonFactor, IsReduced}
+use Rattle.kf_hyper.specs.Classes.{IsCommonFactor, IsReduced, Appends}
 use Rattle.kf_hyper.specs.Averages.{scaled}
 
 pub factor_none : (entries : List Entry) → IsCommonFactor 0 (take 0 entries)
@@ -95,6 +95,11 @@ reduced_is factor entries is column =
       };
     }
 
-pub reduced_done : (factor : ℕ) (column entries inner : List Entry) (i : ℕ) → entries ≡ column → IsCommonFactor factor entries → IsColumn entries → length entries ≤ i → inner ≡ map (quotient factor) (take i entries) → IsReduced column inner
-reduced_done factor column entries inner i same is column' past made =
-    rw (made, take_all i entries past, ← same) (reduced_is factor entries is column')
+-- all of a column's entries, divided and put behind the others
+pub reduced_behind : (factor : ℕ) (column entries old new : List Entry) (i : ℕ) → entries ≡ column → IsCommonFactor factor entries → IsColumn entries → length entries ≤ i
+    → new ≡ old ++ map (quotient factor) (take i entries) → Appends column old new
+reduced_behind factor column entries old new i same is column' past made = record {
+  inner = map (quotient factor) entries;
+  is_reduced = subst (λ (c : List Entry). IsReduced c (map (quotient factor) entries)) same (reduced_is factor entries is column');
+  appended = made ∙ ap (λ (l : List Entry). old ++ map (quotient factor) l) (take_all i entries past);
+}

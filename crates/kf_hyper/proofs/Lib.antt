@@ -1,6 +1,9 @@
 pub mod Abstraction
 pub mod AtMostOne
 pub mod Averaging
+pub mod Beliefs
+pub mod ClassSums
+mod Cutting
 pub mod Factors
 pub mod Gathering
 pub mod Inserting
@@ -11,10 +14,11 @@ pub mod Posteriors
 pub mod Projecting
 pub mod Proportions
 pub mod Reading
+pub mod Rising
 pub mod Scaling
 pub mod Searching
 pub mod SomeHyper
 pub mod Steps
 pub mod Summing
-mod Weighing
+pub mod Weighing
 pub mod Weights

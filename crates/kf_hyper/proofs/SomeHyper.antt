@@ -18,7 +18,7 @@ use Rattle.kf_hyper.proofs.Abstraction.{is_hyper}
 use Rattle.kf_hyper.proofs.Factors.{quotient, reduced_is}
 use Rattle.kf_hyper.proofs.Gathering.{list_total, same_list}
 use Rattle.kf_hyper.proofs.Inserting.{inserted, paired, stays_sorted}
-use Rattle.kf_hyper.proofs.Ordered.{ordered_by}
+use Rattle.kf_hyper.proofs.Ordered.{Ordered, ordered_by}
 use Rattle.kf_hyper.proofs.Steps.{classes_none, classes_more}
 
 -- ---- a column has an inner
@@ -73,7 +73,17 @@ gathered done (column ∷ left) all had =
     subst Gathered (append_assoc done (column ∷ []) left)
     (gathered (done ++ column ∷ []) left (All-tail IsColumn column left all) (one_more done column (All-head IsColumn column left all) had))
 
+-- the classes of columns, in their order
+pub record Classed (columns : List (List Entry)) : Type 0 where
+  pub classes : List (List Entry × ℕ)
+  pub are_classes : ClassesOf columns classes
+  pub sorted : Ordered classes
+
+pub classed : (columns : List (List Entry)) → All IsColumn columns → Classed columns
+classed columns all =
+    let g : Gathered columns = gathered [] columns all (record { classes = []; are_classes = classes_none; sorted = sorted_none }) in
+    record { classes = paired itself g.classes; are_classes = g.are_classes; sorted = ordered_by itself g.classes g.sorted }
+
 pub some_hyper : SomeHyper
 some_hyper columns all =
-    let g : Gathered columns = gathered [] columns all (record { classes = []; are_classes = classes_none; sorted = sorted_none }) in
-    (map as_inner (paired itself g.classes), is_hyper columns (paired itself g.classes) g.are_classes (ordered_by itself g.classes g.sorted))
+    let c : Classed columns = classed columns all in (map as_inner c.classes, is_hyper columns c.classes c.are_classes c.sorted)

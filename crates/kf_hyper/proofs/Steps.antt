@@ -25,14 +25,14 @@ use Rattle.kf_hyper.proofs.Scaling.{product_positive, total_positive, total_redu
 abbrev Pair : Type 0
 Pair = List Entry × ℕ
 
-if_adds : (b : Bool) (m n : ℕ) → (if b then m + n else 0) ≡ (if b then m else 0) + (if b then n else 0)
+pub if_adds : (b : Bool) (m n : ℕ) → (if b then m + n else 0) ≡ (if b then m else 0) + (if b then n else 0)
 if_adds true m n = refl
 if_adds false m n = refl
 
-reduced_positive : (column inner : List Entry) → IsReduced column inner → 0 < total column
+pub reduced_positive : (column inner : List Entry) → IsReduced column inner → 0 < total column
 reduced_positive column inner is = rw (total_reduced column inner is) (product_positive is.factor (total inner) is.some (total_positive inner is.is_inner.column))
 
-below_scaled : (size factor : ℕ) (inner : List Entry) → IsBelow size (map (scaled factor) inner) → IsBelow size inner
+pub below_scaled : (size factor : ℕ) (inner : List Entry) → IsBelow size (map (scaled factor) inner) → IsBelow size inner
 below_scaled size factor [] below = All-nil (λ (e : Entry). e.value < size)
 below_scaled size factor (e ∷ es) below =
     All-cons (λ (e : Entry). e.value < size) e es (All-head (λ (e : Entry). e.value < size) (scaled factor e) (map (scaled factor) es) below)
@@ -85,7 +85,7 @@ module _ {K : Type 0} (shown : K → List Entry) where
 
 sum-keyed : (es : List (Key × ℕ)) → sum_by (λ (n : ℕ). n) (values_of es) ≡ sum_by (λ (c : Pair). c.1) (keyed es)
 sum-keyed [] = refl
-sum-keyed (e ∷ es) = omega (arith, sum_by-cons (λ (n : ℕ). n) e.1 (values_of es), sum_by-cons (λ (c : Pair). c.1) (e.0.items, e.1) (keyed es), sum-keyed es)
+sum-keyed (e ∷ es) = omega (arith, sum_by-cons (λ (n : ℕ). n) e.1 (values_of es), sum_by-cons (λ (c : Pair). c.1) (e.0.now, e.1) (keyed es), sum-keyed es)
 
 -- what a class has before a column, and the column's total, fit into the sum of all
 pub class_fits : (columns : List Column) (i : ℕ) (column : Column) (test : Key → Bool) (es : List (Key × ℕ)) → i < length columns → column ≡ get_or columns i column
@@ -95,7 +95,7 @@ class_fits columns i column test es within is had =
     let more : mass (take i columns) + total (get_or columns i column) ≤ mass columns = sum_by_more_le total columns i column within in
     omega (arith, before, more, sum-keyed es, had.mass, ap total is)
 
-pub classes_step : (columns : List Column) (i : ℕ) (column : Column) (key : Key) (es : List (Key × ℕ)) (n : ℕ) → i < length columns → column ≡ get_or columns i column → IsReduced column key.items
+pub classes_step : (columns : List Column) (i : ℕ) (column : Column) (key : Key) (es : List (Key × ℕ)) (n : ℕ) → i < length columns → column ≡ get_or columns i column → IsReduced column key.now
     → ClassesOf (take i columns) (keyed es) → IsStrictlySortedBy key_order (keys_of es) → n ≡ unwrap_or (lookup (is_at (key_order key)) es) 0 + total column
     → ClassesOf (take (i + 1) columns) (keyed (insert_entry key_order es key n))
 classes_step columns i column key es n within is reduced had sorted sum =

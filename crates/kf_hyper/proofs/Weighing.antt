@@ -20,12 +20,12 @@ joint_column_weighs i x = weight_at-scaled (i.total / total i.entries) i.entries
 -- ---- a class is a multiple of its inner
 
 -- a column that is proportional to an inner is a multiple of it
-record IsTimes (column inner : List Entry) : Type 0 where
-  factor : ℕ
-  total_is : total column ≡ factor * total inner
-  weight_is : (x : ℕ) → weight_at column x ≡ factor * weight_at inner x
+pub record IsTimes (column inner : List Entry) : Type 0 where
+  pub factor : ℕ
+  pub total_is : total column ≡ factor * total inner
+  pub weight_is : (x : ℕ) → weight_at column x ≡ factor * weight_at inner x
 
-times_inner : (column inner : List Entry) → IsColumn column → IsInner inner → proportional column inner ≡ true → IsTimes column inner
+pub times_inner : (column inner : List Entry) → IsColumn column → IsInner inner → proportional column inner ≡ true → IsTimes column inner
 times_inner column inner is is_inner test =
     let h : HasInner column = inner_of_column column is in
     let same : h.inner ≡ inner =
@@ -74,7 +74,7 @@ times_class (c ∷ cs) inner is all =
     })
     (bool_cases (proportional c inner))
 
-class_weighs : (columns : List (List Entry)) (i : Inner) → IsInner i.entries → All IsColumn columns → i.total ≡ class_total columns i.entries → (x : ℕ) → joint_weight x i ≡ class_weight columns i.entries x
+pub class_weighs : (columns : List (List Entry)) (i : Inner) → IsInner i.entries → All IsColumn columns → i.total ≡ class_total columns i.entries → (x : ℕ) → joint_weight x i ≡ class_weight columns i.entries x
 class_weighs columns i is all sum x =
     let e : List Entry = i.entries in
     let m : IsTimesClass columns i.entries = times_class columns i.entries is all in

@@ -73,13 +73,13 @@ same_column low (a ∷ as') (b ∷ bs) (from, some, rest) (from', some', rest') 
     let tails = same_column (a.value + 1) as' bs rest more (same_tails a b as' bs some rest some' rest' same) in
     λ i. same_entry a b e w i ∷ tails i
 
-ascending_tail : (x : ℕ) (xs : List ℕ) → IsStrictlyIncreasing (x ∷ xs) → IsStrictlyIncreasing xs
+pub ascending_tail : (x : ℕ) (xs : List ℕ) → IsStrictlyIncreasing (x ∷ xs) → IsStrictlyIncreasing xs
 ascending_tail x xs h k below = rw add-one (rw add-one at (h (suc k) (omega arith)))
 
 ascending_step : (x : ℕ) (xs : List ℕ) (n : ℕ) → IsStrictlyIncreasing (n ∷ x ∷ xs) → n < x
 ascending_step x xs n h = h 0 (omega arith)
 
-above_from : (low : ℕ) (column : List Entry) → (0 < length column → low ≤ get_or (map (λ (e : Entry). e.value) column) 0 0) → IsStrictlyIncreasing (map (λ (e : Entry). e.value) column) → All (λ (e : Entry). 0 < e.weight) column → Above low column
+pub above_from : (low : ℕ) (column : List Entry) → (0 < length column → low ≤ get_or (map (λ (e : Entry). e.value) column) 0 0) → IsStrictlyIncreasing (map (λ (e : Entry). e.value) column) → All (λ (e : Entry). 0 < e.weight) column → Above low column
 above_from low [] from ascending positive = tt
 above_from low (e ∷ []) from ascending positive = (from (omega arith), All-head (λ (e : Entry). 0 < e.weight) e [] positive, tt)
 above_from low (e ∷ f ∷ es) from ascending positive = (
@@ -99,7 +99,7 @@ ascending_above low (e ∷ []) above k below = absurd (omega arith)
 ascending_above low (e ∷ f ∷ es) (from, some, rest) zero below = omega (arith, rest.0)
 ascending_above low (e ∷ f ∷ es) (from, some, rest) (suc k) below = rw add-one (rw add-one at (ascending_above (e.value + 1) (f ∷ es) rest k (omega arith)))
 
-positive_above : (low : ℕ) (column : List Entry) → Above low column → All (λ (e : Entry). 0 < e.weight) column
+pub positive_above : (low : ℕ) (column : List Entry) → Above low column → All (λ (e : Entry). 0 < e.weight) column
 positive_above low [] above = All-nil (λ (e : Entry). 0 < e.weight)
 positive_above low (e ∷ es) (from, some, rest) = All-cons (λ (e : Entry). 0 < e.weight) e es some (positive_above (e.value + 1) es rest)
 

@@ -1,6 +1,6 @@
 -- For bodies: the classes of proportional columns while they are gathered.
-use Rattle.std.specs.Prelude.{◌≡◌, ℕ, ◌<◌, List, All, Vec, map, sum_by, if◌then◌else◌}
-use Rattle.std.specs.declared.alloc.Global.{Global}
+use Rattle.std.specs.Prelude.{◌≡◌, ℕ, ◌*◌, ◌/◌, ◌<◌, List, All, ◌++◌, map, sum_by, if◌then◌else◌}
+use Rattle.std.specs.Borrow.{Bor}
 use Rattle.std.specs.declared.cmp.Ordering.{Ordering}
 use Prim.Native.Nat.{◌∣◌}
 use Rattle.kf_hyper.specs.declared.entry.Entry.{Entry}
@@ -22,18 +22,30 @@ pub record IsReduced (column inner : List Entry) : Type 0 where
   pub multiple : column ≡ map (scaled factor) inner
   pub is_inner : IsInner inner
 
+-- what has been put behind the entries is an inner of the column
+pub record Appends (column old new : List Entry) : Type 0 where
+  pub inner : List Entry
+  pub is_reduced : IsReduced column inner
+  pub appended : new ≡ old ++ inner
+
 -- the column has an inner
 pub record HasInner (column : List Entry) : Type 0 where
   pub inner : List Entry
   pub is_reduced : IsReduced column inner
 
 -- the entries of a map from inners to totals
-abbrev pub keyed : List (Vec Entry Global × ℕ) → List (List Entry × ℕ)
-keyed entries = map (λ e. (e.0.items, e.1)) entries
+abbrev pub keyed : List (Bor (List Entry) × ℕ) → List (List Entry × ℕ)
+keyed entries = map (λ e. (e.0.now, e.1)) entries
 
 -- the order of the map's keys is that of the inners
-abbrev pub key_order : Vec Entry Global → Vec Entry Global → Ordering
-key_order a b = list_order a.items b.items
+abbrev pub key_order : Bor (List Entry) → Bor (List Entry) → Ordering
+key_order a b = list_order a.now b.now
+
+-- a class's inner goes whole, and at least once, into its total
+pub record IsWhole (class : List Entry × ℕ) : Type 0 where
+  pub is_inner : IsInner class.0
+  pub some : 0 < class.1 / total class.0
+  pub whole : (class.1 / total class.0) * total class.0 ≡ class.1
 
 -- the sum of the totals of the classes that are proportional to this column
 abbrev pub total_in : List (List Entry × ℕ) → List Entry → ℕ

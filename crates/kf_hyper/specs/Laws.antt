@@ -5,8 +5,9 @@ use Rattle.kf_value.specs.Types.{TypeTree, count}
 use Rattle.kf_value.specs.Numbers.{IsStore}
 use Rattle.kf_hyper.specs.declared.entry.Entry.{Entry}
 use Rattle.kf_hyper.specs.Columns.{IsColumn, weight_at, proportional}
-use Rattle.kf_hyper.specs.Hypers.{Inner, IsHyper}
+use Rattle.kf_hyper.specs.Hypers.{Inner, IsInner, IsHyper, class_total}
 use Rattle.kf_hyper.specs.Averages.{joint_weight, joint_column, average_weight}
+use Rattle.kf_hyper.specs.Merged.{SameBeliefs, AreMerged}
 use Rattle.kf_hyper.specs.Projection.{projected}
 
 -- two columns are proportional exactly where all their cross products agree
@@ -40,6 +41,27 @@ ClassesWeigh = (columns : List (List Entry)) (inners : List Inner) → All IsCol
 abbrev pub AveragesWeigh : Type 0
 AveragesWeigh = (columns : List (List Entry)) (inners : List Inner) → All IsColumn columns → IsHyper columns inners
     → (x : ℕ) → average_weight inners x ≡ sum_by (λ c. weight_at c x) columns
+
+-- columns are merged in some way
+abbrev pub SomeMerged : Type 0
+SomeMerged = (columns : List (List Entry)) → All IsColumn columns → (merged : List (List Entry)) × AreMerged columns merged
+
+-- and in one way
+abbrev pub AtMostOneMerged : Type 0
+AtMostOneMerged = (columns merged others : List (List Entry)) → AreMerged columns merged → AreMerged columns others → merged ≡ others
+
+-- this holds of columns and what they are merged to
+abbrev pub WhereMerged : (List (List Entry) → List (List Entry) → Type 0) → Type 0
+WhereMerged P = (columns merged : List (List Entry)) → All IsColumn columns → AreMerged columns merged → P columns merged
+
+-- a merged column gives to each value what the columns in proportion to it give together
+abbrev pub MergedWeigh : Type 0
+MergedWeigh = WhereMerged (λ columns merged. All (λ m. (x : ℕ) → weight_at m x ≡ class_weight columns m x) merged)
+
+-- each of two lists has every hyper of the other exactly where all their classes have the same totals
+abbrev pub TotalsTellBeliefs : Type 0
+TotalsTellBeliefs = (columns others : List (List Entry)) → All IsColumn columns → All IsColumn others
+    → SameBeliefs columns others ↔ ((inner : List Entry) → IsInner inner → class_total columns inner ≡ class_total others inner)
 
 -- `there` are the members of the list at these places
 abbrev pub AreAt : {A : Type 0} → List A → List ℕ → List A → Type 0

@@ -7,6 +7,8 @@ pub mod Traces
 pub mod Classes
 pub mod Joint
 pub mod Laws
+pub mod Lists
+pub mod Merged
 pub mod Projection
 pub mod Shapes
 pub mod Sums

@@ -2,6 +2,7 @@ ghost use Rattle.std.specs.Prelude.{◌≡◌, ◌<◌, ◌^◌, IfOk};
 ghost use Rattle.kf_hyper.specs.Columns.{IsColumn, weight_at, total};
 
 use crate::EntryList;
+use crate::entry::total_of;
 use kf_value::Mem;
 use std::alloc::Global;
 use std::marker::Model;
@@ -57,11 +58,7 @@ impl Column {
         requires { total self.now < 2 ^ 128 }
         ensures { result ≡ total self.now }
     {
-        self.entries
-            .as_slice()
-            .iter()
-            .map(|entry| entry.weight)
-            .sum()
+        total_of(self.entries.as_slice())
     }
 
     /// An equal column.

@@ -1,4 +1,5 @@
-ghost use Rattle.std.specs.Prelude.{◌≡◌};
+ghost use Rattle.std.specs.Prelude.{◌≡◌, ◌<◌, ◌^◌};
+ghost use Rattle.kf_hyper.specs.Columns.{total};
 
 use std::marker::Model;
 
@@ -9,6 +10,14 @@ pub struct Entry {
     pub value: u64,
     /// Its weight, over the scale of the list of columns.
     pub weight: u128,
+}
+
+/// The sum of all weights.
+pub(crate) fn total_of(entries: &[Entry]) -> u128
+    requires { total entries.now < 2 ^ 128 }
+    ensures { result ≡ total entries.now }
+{
+    entries.iter().map(|entry| entry.weight).sum()
 }
 
 /// Values with their weights.

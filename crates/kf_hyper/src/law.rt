@@ -1,4 +1,9 @@
+ghost use Rattle.std.specs.Prelude.{All};
+ghost use Rattle.std.specs.List.{IsDistinct};
+ghost use Rattle.kf_hyper.specs.Columns.{IsColumn, proportional};
+ghost use Rattle.kf_hyper.specs.Merged.{SameBeliefs, AreMerged};
 ghost use Rattle.kf_hyper.specs.Laws.{SomeHyper, AtMostOneHyper, ProportionalMeans, JointColumnWeighs, ClassesWeigh, AveragesWeigh, ProjectedNumbers};
+ghost use Rattle.kf_hyper.specs.Laws.{SomeMerged, AtMostOneMerged, WhereMerged, MergedWeigh, TotalsTellBeliefs};
 
 /// A law of the definitions: a list of columns has exactly one hyper.
 pub fn one_hyper()
@@ -18,6 +23,20 @@ pub fn hyper_laws()
     ensures column { JointColumnWeighs }
     ensures classes { ClassesWeigh }
     ensures average { AveragesWeigh }
+{}
+
+/// Laws of the definitions: a list of columns is merged to exactly one list. It has one column for each class, the sum of
+/// the class, and the same hyper, so that merging it again changes nothing. Which hyper a list of columns has is told by
+/// the totals of its classes.
+pub fn merge_laws()
+    ensures some { SomeMerged }
+    ensures at_most_one { AtMostOneMerged }
+    ensures columns { WhereMerged (λ columns merged. All IsColumn merged) }
+    ensures sums { MergedWeigh }
+    ensures apart { WhereMerged (λ columns merged. IsDistinct proportional merged) }
+    ensures beliefs { WhereMerged SameBeliefs }
+    ensures again { WhereMerged (λ columns merged. AreMerged merged merged) }
+    ensures totals { TotalsTellBeliefs }
 {}
 
 /// A law of the definitions: a store's projection is the number of its values at the slots.

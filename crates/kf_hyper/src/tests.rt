@@ -9,7 +9,7 @@ ghost use Rattle.kf_value.specs.Numbers.{target_size};
 ghost use Rattle.kf_value.specs.Views.{items_of};
 ghost use Rattle.kf_hyper.specs.Columns.{IsColumn};
 ghost use Rattle.kf_hyper.specs.Shapes.{IsBelow};
-ghost use Rattle.kf_hyper.specs.Joint.{mass};
+ghost use Rattle.kf_hyper.specs.Joint.{IsJoint, mass};
 
 use super::*;
 use kf_value::{
@@ -156,6 +156,37 @@ fn joined_columns_keep_their_order(rt: HostRuntime) -> Result<(), Fail> {
         "/8 | 0:2 3:2 | 0:2 3:2",
         "two equal"
     );
+    Ok(())
+}
+
+// What these columns over this scale are merged to.
+fn merged(alloc: Global, scale: u128, columns: Vec<Column>) -> Result<String, Mem>
+    requires { IsJoint (record { scale = scale; columns = columns.items }) }
+{
+    let columns = Columns::new(scale, ColumnList::new(columns));
+    matrix(alloc, &merge(alloc, &columns)?)
+}
+
+#[test]
+fn columns_of_one_posterior_are_added_up(rt: HostRuntime) -> Result<(), Fail> {
+    let alloc = rt.alloc();
+    let multiples = vec![in alloc;
+        column(alloc, &[entry(1, 2), entry(2, 4)])?,
+        column(alloc, &[entry(0, 3)])?,
+        column(alloc, &[entry(1, 1), entry(2, 2)])?,
+    ]?;
+    let one = vec![in alloc; column(alloc, &[entry(2, 4), entry(7, 6)])?]?;
+    for (case, got, want) in [
+        (
+            "two multiples and one before them",
+            merged(alloc, 12, multiples)?,
+            "/12 | 0:3 | 1:3 2:6",
+        ),
+        ("no columns", merged(alloc, 5, Vec::new(alloc))?, "/5"),
+        ("one column", merged(alloc, 20, one)?, "/20 | 2:4 7:6"),
+    ] {
+        assert_eq!(rt; got.as_str(), want, "{case}");
+    }
     Ok(())
 }
 

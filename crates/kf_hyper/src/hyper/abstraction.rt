@@ -11,20 +11,21 @@ ghost use Rattle.kf_hyper.specs.Views.{inners_of, scale_of, target_of};
 use super::Hyper;
 use crate::class::Class;
 use crate::classes::classes_of;
+use crate::lists::Lists;
 use crate::{Column, Columns, Entry, EntryList};
 use kf_value::{Mem, Target};
 use std::alloc::Global;
 use std::collections::BTreeMap;
 
 // The classes in the order of their inners.
-fn listed(alloc: Global, classes: BTreeMap<Vec<Entry>, u128>) -> Result<Vec<Class>, Mem>
+fn listed(alloc: Global, classes: BTreeMap<&[Entry], u128>) -> Result<Vec<Class>, Mem>
     requires columns { All (λ c. IsColumn c.0) (keyed classes.entries) }
     requires fit { All (λ c. total c.0 < 2 ^ 128) (keyed classes.entries) }
-    ensures { IfOk result (λ listed. map inner_of listed.items ≡ map as_inner (keyed classes.entries)) }
+    ensures { IfOk result (λ listed. map inner_of listed.items ≡ map as_inner (keyed classes.entry.entries)) }
 {
     let mut list = Vec::new(alloc);
     for (entries, total) in classes {
-        let inner = Column::new(EntryList::new(entries));
+        let inner = Column::new(EntryList::new(entries.to_vec(alloc)?));
         let whole = inner.total();
         list.push(Class {
             inner,
@@ -45,7 +46,9 @@ pub fn abstract_columns(alloc: Global, target: Target, columns: Columns) -> Resu
     ensures scale { IfOk result (λ h. scale_of h ≡ columns.scale) }
     ensures target { IfOk result (λ h. target_of h ≡ items_of target) }
 {
-    let classes = classes_of(alloc, columns.columns().as_slice())?;
+    let whole = columns.columns().as_slice();
+    let lists = Lists::reduced(alloc, whole)?;
+    let classes = classes_of(alloc, whole, &lists)?;
     let classes = listed(alloc, classes)?;
     Ok(Hyper {
         target,

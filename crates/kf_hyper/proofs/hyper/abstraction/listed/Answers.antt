@@ -14,11 +14,11 @@ loop-entries-init c =
 
 pub new-inner-requires : goal.new-inner-requires
 new-inner-requires c =
-    rw c.new.ensures (taken c.loop-entries.entries-iterator (c.in-Some.entries, c.in-Some.total) c.next.new.self c.in-Some.ensures.steps (λ (p : Pair). IsColumn p.0) c.loop-entries.invariant.columns)
+    rw (c.new.ensures, c.in_ok-to_vec.ensures.items_if_clones_equal (λ x y same. same)) (taken c.loop-entries.entries-iterator (c.in-Some.entries, c.in-Some.total) c.next.new.self c.in-Some.ensures.steps (λ (p : Pair). IsColumn p.0) c.loop-entries.invariant.columns)
 
 pub total-whole-requires : goal.total-whole-requires
 total-whole-requires c =
-    rw (c.new-inner.ensures, c.new.ensures)
+    rw (c.new-inner.ensures, c.new.ensures, c.in_ok-to_vec.ensures.items_if_clones_equal (λ x y same. same))
     (taken c.loop-entries.entries-iterator (c.in-Some.entries, c.in-Some.total) c.next.new.self c.in-Some.ensures.steps (λ (p : Pair). total p.0 < 2 ^ 128) c.loop-entries.invariant.fit)
 
 pub loop-entries-preserved : goal.loop-entries-preserved
@@ -27,7 +27,7 @@ loop-entries-preserved c = record {
   fit = still_left c.loop-entries.entries-iterator (c.in-Some.entries, c.in-Some.total) c.next.new.self c.in-Some.ensures.steps (λ (p : Pair). total p.0 < 2 ^ 128) c.loop-entries.invariant.fit;
   listed = listed_more c.loop-entries.entries-iterator (c.in-Some.entries, c.in-Some.total) c.next.new.self c.in-Some.ensures.steps
       c.loop-entries.list.items c.push.new.self.items _ _ c.in_ok-push.ensures.items
-      (λ i. record { entries = (c.new-inner.ensures ∙ c.new.ensures) i; total = c.in-Some.total }) c.loop-entries.invariant.listed;
+      (λ i. record { entries = (c.new-inner.ensures ∙ c.new.ensures ∙ c.in_ok-to_vec.ensures.items_if_clones_equal (λ x y same. same)) i; total = c.in-Some.total }) c.loop-entries.invariant.listed;
 }
 
 pub returns : goal.returns

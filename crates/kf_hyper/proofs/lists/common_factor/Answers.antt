@@ -1,5 +1,5 @@
 use Rattle.kf_hyper.proofs.Factors.{factor_none, factor_more, factor_all}
-use Rattle.kf_hyper.proofs.classes.common_factor.Goals as goal
+use Rattle.kf_hyper.proofs.lists.common_factor.Goals as goal
 
 pub loop-entry-init : goal.loop-entry-init
 loop-entry-init c = factor_none c.args.entries.now

@@ -1,0 +1,141 @@
+-- Columns of one posterior added up: there is one answer, and what it keeps.
+use Rattle.std.proofs.Common.{◌≡◌, ℕ, List, [], true, All, Contains, map, refl, sym, ◌∙◌, ap, subst}
+use Rattle.std.specs.List.{IsDistinct}
+use Rattle.std.specs.List.Sorted.{IsStrictlySortedBy}
+use Rattle.std.specs.Map.{keys_of}
+use Rattle.std.proofs.lemmas.Simd.{map-map}
+use Rattle.kf_hyper.specs.declared.entry.Entry.{Entry}
+use Rattle.kf_hyper.specs.Columns.{IsColumn, weight_at, proportional}
+use Rattle.kf_hyper.specs.Hypers.{Inner, IsInner, IsHyper, class_total}
+use Rattle.kf_hyper.specs.Averages.{joint_column}
+use Rattle.kf_hyper.specs.Joint.{Joint, IsJoint, mass}
+use Rattle.kf_hyper.specs.Classes.{ClassesOf, keyed, key_order}
+use Rattle.kf_hyper.specs.Laws.{class_weight}
+use Rattle.kf_hyper.specs.Merged.{SameBeliefs, AreMerged}
+use Rattle.kf_hyper.specs.Shapes.{IsBelow, as_inner}
+use Rattle.kf_hyper.proofs.Abstraction.{is_hyper, hyper_by_totals}
+use Rattle.kf_hyper.proofs.AtMostOne.{at_most_one}
+use Rattle.kf_hyper.proofs.ClassSums.{column_of, all_whole, sums_columns, sums_totals, sums_mass}
+use Rattle.kf_hyper.proofs.ClassSums.{sums_below, sums_classes, sums_weights, sums_has, sums_apart, sums_distinct}
+use Rattle.kf_hyper.proofs.Gathering.{Key}
+use Rattle.kf_hyper.proofs.Ordered.{ordered}
+use Rattle.kf_hyper.proofs.SomeHyper.{some_hyper, Classed, classed, inner_of_column}
+use Rattle.kf_hyper.proofs.Steps.{classes_none}
+
+pub some_merged : (columns : List (List Entry)) → All IsColumn columns → (merged : List (List Entry)) × AreMerged columns merged
+some_merged columns are = let h = some_hyper columns are in (map joint_column h.0, record { inners = h.0; is_hyper = h.1; sums = refl })
+
+pub one_merged : (columns merged others : List (List Entry)) → AreMerged columns merged → AreMerged columns others → merged ≡ others
+one_merged columns merged others m o = m.sums ∙ ap (map joint_column) (at_most_one columns m.inners o.inners m.is_hyper o.is_hyper) ∙ sym o.sums
+
+pub merged_none : AreMerged [] []
+merged_none = record { inners = []; is_hyper = is_hyper [] [] classes_none tt; sums = refl }
+
+-- the classes by which columns are merged
+module _ (columns merged : List (List Entry)) (are : All IsColumn columns) (m : AreMerged columns merged) where
+  these : Classed columns
+  these = classed columns are
+
+  inners_are : m.inners ≡ map as_inner these.classes
+  inners_are = at_most_one columns m.inners (map as_inner these.classes) m.is_hyper (is_hyper columns these.classes these.are_classes these.sorted)
+
+  sums_are : map column_of these.classes ≡ merged
+  sums_are = sym (map-map joint_column as_inner these.classes) ∙ sym (ap (map joint_column) inners_are) ∙ sym m.sums
+
+  -- what is merged is columns
+  pub merged_columns : All IsColumn merged
+  merged_columns = subst (All IsColumn) sums_are (sums_columns columns these.classes these.are_classes these.sorted)
+
+  -- and is merged
+  pub merged_again : AreMerged merged merged
+  merged_again = record {
+    inners = m.inners;
+    is_hyper = subst (λ cs. IsHyper cs m.inners) sums_are
+        (subst (IsHyper (map column_of these.classes)) (sym inners_are)
+        (is_hyper (map column_of these.classes) these.classes (sums_classes columns these.classes these.are_classes these.sorted) these.sorted));
+    sums = m.sums;
+  }
+
+  -- each class keeps its total
+  pub merged_totals : (inner : List Entry) → IsInner inner → class_total merged inner ≡ class_total columns inner
+  merged_totals inner is =
+      subst (λ cs. class_total cs inner ≡ class_total columns inner) sums_are (sums_totals columns these.classes these.are_classes these.sorted inner is)
+
+  pub merged_mass : mass merged ≡ mass columns
+  merged_mass = subst (λ cs. mass cs ≡ mass columns) sums_are (sums_mass columns these.classes these.are_classes these.sorted)
+
+  -- a merged column is the sum of the columns in proportion to it
+  pub merged_weights : All (λ m. (x : ℕ) → weight_at m x ≡ class_weight columns m x) merged
+  merged_weights =
+      subst (All (λ m. (x : ℕ) → weight_at m x ≡ class_weight columns m x)) sums_are (sums_weights columns these.classes these.are_classes these.sorted are)
+
+  -- each column has its merged one
+  pub merged_has : (column : List Entry) → Contains columns column → (m : List Entry) × Contains merged m × (proportional column m ≡ true)
+  merged_has column here =
+      subst (λ cs. (m : List Entry) × Contains cs m × (proportional column m ≡ true)) sums_are
+      (sums_has columns these.classes these.are_classes these.sorted column here)
+
+  -- and no two merged ones are in proportion
+  pub merged_apart : (u v : List Entry) → Contains merged u → Contains merged v → proportional u v ≡ true → u ≡ v
+  merged_apart =
+      subst (λ cs. (u v : List Entry) → Contains cs u → Contains cs v → proportional u v ≡ true → u ≡ v) sums_are
+      (sums_apart columns these.classes these.are_classes these.sorted)
+
+  pub merged_distinct : IsDistinct proportional merged
+  merged_distinct =
+      subst (IsDistinct proportional) sums_are (sums_distinct these.classes (all_whole columns these.classes these.are_classes these.sorted) these.sorted)
+
+pub merged_below : (size : ℕ) (columns merged : List (List Entry)) → All IsColumn columns → AreMerged columns merged
+    → All (IsBelow size) columns → All (IsBelow size) merged
+merged_below size columns merged are m below =
+    let c : Classed columns = these columns merged are m in
+    subst (All (IsBelow size)) (sums_are columns merged are m) (sums_below columns c.classes c.are_classes c.sorted size below)
+
+-- ---- same beliefs
+
+-- a hyper of the one is a hyper of the other
+hyper_carried : (columns others : List (List Entry)) → All IsColumn columns → All IsColumn others
+    → ((inner : List Entry) → IsInner inner → class_total columns inner ≡ class_total others inner)
+    → (inners : List Inner) → IsHyper columns inners → IsHyper others inners
+hyper_carried columns others are were totals inners is =
+    let c : Classed columns = classed columns are in
+    subst (IsHyper others) (at_most_one columns (map as_inner c.classes) inners (is_hyper columns c.classes c.are_classes c.sorted) is)
+    (hyper_by_totals others c.classes (λ k d below. inner_of_column _ (were k d below)) c.are_classes.inners c.are_classes.used
+    (λ inner is_inner. c.are_classes.totals inner is_inner ∙ totals inner is_inner) c.sorted)
+
+-- lists whose classes have the same totals come to the same beliefs
+pub totals_tell : (columns others : List (List Entry)) → All IsColumn columns → All IsColumn others
+    → ((inner : List Entry) → IsInner inner → class_total columns inner ≡ class_total others inner) → SameBeliefs columns others
+totals_tell columns others are were totals inners =
+    (hyper_carried columns others are were totals inners, hyper_carried others columns were are (λ inner is. sym (totals inner is)) inners)
+
+pub totals_told : (columns others : List (List Entry)) → All IsColumn columns → All IsColumn others → SameBeliefs columns others
+    → (inner : List Entry) → IsInner inner → class_total columns inner ≡ class_total others inner
+totals_told columns others are were same inner is =
+    let m = some_merged columns are in
+    let o : AreMerged others m.0 = record { inners = m.1.inners; is_hyper = (same m.1.inners).0 m.1.is_hyper; sums = m.1.sums } in
+    sym (merged_totals columns m.0 are m.1 inner is) ∙ merged_totals others m.0 were o inner is
+
+-- what is merged comes to the same beliefs
+pub merged_beliefs : (columns merged : List (List Entry)) → All IsColumn columns → AreMerged columns merged → SameBeliefs columns merged
+merged_beliefs columns merged are m =
+    totals_tell columns merged are (merged_columns columns merged are m) (λ inner is. sym (merged_totals columns merged are m inner is))
+
+-- ---- classes in a map, and their sums
+
+module _ (columns : List (List Entry)) (joint : Joint) (es : List (Key × ℕ)) (merged : List (List Entry)) (columns_are : columns ≡ joint.columns)
+    (is : IsJoint joint) (had : ClassesOf columns (keyed es)) (sorted : IsStrictlySortedBy key_order (keys_of es))
+    (sums : merged ≡ map joint_column (map as_inner (keyed es))) where
+  pub merged_made : AreMerged joint.columns merged
+  merged_made = record {
+    inners = map as_inner (keyed es);
+    is_hyper = subst (λ cs. IsHyper cs (map as_inner (keyed es))) columns_are (is_hyper columns (keyed es) had (ordered es sorted));
+    sums = sums;
+  }
+
+  -- over the same scale they are a joint matrix again
+  pub joint_made : IsJoint (record { scale = joint.scale; columns = merged })
+  joint_made =
+      let kept : mass merged ≡ mass joint.columns =
+      ap mass (sums ∙ map-map joint_column as_inner (keyed es)) ∙ sums_mass columns (keyed es) had (ordered es sorted) ∙ ap mass columns_are in
+      record { some = is.some; narrow = is.narrow; fits = rw kept is.fits }

@@ -9,6 +9,7 @@ pub mod HypersFound
 pub mod Keeping
 mod KindsFound
 pub mod Measures
+pub mod Numbering
 pub mod OneTable
 mod PassFollows
 pub mod PassTells

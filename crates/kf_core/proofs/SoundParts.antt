@@ -17,16 +17,20 @@ use Rattle.kf_core.specs.Views.{dx_tree, dx_items, sts_list, st_tree, st_items, 
 use Rattle.kf_core.specs.Checked.{DistKinded, IsSound, AreSound, IsChecked, skip, assign, observe, if_else, while, more}
 use Rattle.kf_core.proofs.Wider.{checked_decl, checked_body}
 
-tree-Assign : (i : ℕ) (d : Dx) → st_tree (code.Assign i d) ≡ Assign i (dx_tree d)
+-- the tree of each form of statement
+pub tree-Skip : st_tree code.Skip ≡ Skip
+tree-Skip = search (rules, the_lemmas)
+
+pub tree-Assign : (i : ℕ) (d : Dx) → st_tree (code.Assign i d) ≡ Assign i (dx_tree d)
 tree-Assign i d = search (rules, the_lemmas)
 
-tree-Observe : (d : Dx) → st_tree (code.Observe d) ≡ Observe (dx_tree d)
+pub tree-Observe : (d : Dx) → st_tree (code.Observe d) ≡ Observe (dx_tree d)
 tree-Observe d = search (rules, the_lemmas)
 
-tree-If : (d : Dx) (xs ys : StList) → st_tree (code.If d xs ys) ≡ If (dx_tree d) (sts (map st_tree (st_items xs))) (sts (map st_tree (st_items ys)))
+pub tree-If : (d : Dx) (xs ys : StList) → st_tree (code.If d xs ys) ≡ If (dx_tree d) (sts (map st_tree (st_items xs))) (sts (map st_tree (st_items ys)))
 tree-If d xs ys = search (rules, the_lemmas)
 
-tree-While : (d : Dx) (xs : StList) → st_tree (code.While d xs) ≡ While (dx_tree d) (sts (map st_tree (st_items xs)))
+pub tree-While : (d : Dx) (xs : StList) → st_tree (code.While d xs) ≡ While (dx_tree d) (sts (map st_tree (st_items xs)))
 tree-While d xs = search (rules, the_lemmas)
 
 sts_list-sts : (ss : List StTree) → sts_list (sts ss) ≡ ss

@@ -11,6 +11,7 @@ pub mod Support
 pub mod Scale
 pub mod Joint
 pub mod Rows
+pub mod Pushing
 -- For bodies
 pub mod Checked
 pub mod Views
@@ -18,3 +19,4 @@ pub mod Laws
 pub mod ChoiceLaws
 pub mod SupportLaws
 pub mod JointLaws
+pub mod Ready

@@ -14,3 +14,4 @@ pub use cleared::Cleared;
 pub use clearing::clear;
 pub use faults::{Halt, RunFault};
 pub use moves::{copied_store, moved};
+pub use steps::chosen_in;

@@ -1,6 +1,6 @@
 //! One step from all stores that are reached.
 
-ghost use Rattle.std.specs.Prelude.{◌≡◌, ℕ, ◌<◌, ◌≤◌, ◌^◌, [], ◌∷◌, if◌then◌else◌, true, false, Ok, length, map, Some, IfOk, IfErr, OnOk};
+ghost use Rattle.std.specs.Prelude.{◌≡◌, ℕ, ◌<◌, ◌≤◌, ◌^◌, [], ◌∷◌, if◌then◌else◌, true, false, Ok, Err, length, map, Some, None, IfOk, IfErr, IfSome, OnOk};
 ghost use Rattle.std.specs.List.{All};
 ghost use Rattle.kf_value.specs.Forms.{IsWellFormed};
 ghost use Rattle.kf_value.specs.Kinds.{KindTree, TruthKind};
@@ -8,7 +8,7 @@ ghost use Rattle.kf_value.specs.Shapes.{shape_types, shape_size};
 ghost use Rattle.kf_core.specs.Checked.{DistKinded, IsChecked};
 ghost use Rattle.kf_core.specs.Views.{dx_tree, program_tree};
 ghost use Rattle.kf_core.specs.Choices.{total};
-ghost use Rattle.kf_core.specs.Runs.{replaced, tried};
+ghost use Rattle.kf_core.specs.Runs.{Halted, replaced, tried};
 ghost use Rattle.kf_core.specs.Results.{then_ok};
 ghost use Rattle.kf_core.specs.Support.{can_be as can_be_of, each_moved};
 ghost use Rattle.kf_eval.specs.Choices.{weighted_tree, weighted_trees};
@@ -46,6 +46,24 @@ fn choices_in(alloc: Global, shape: &Shape, dist: &Dx, store: u64) -> Result<Cho
     match choices(alloc, dist, shape, store) {
         Ok(choice) => Ok(choice),
         Err(error) => Err(fault_of(error, dist.at)),
+    }
+}
+
+/// What the distribution chooses in a store; none where it has a fault there.
+pub fn chosen_in(alloc: Global, shape: &Shape, dist: &Dx, store: u64) -> Result<Option<Choice>, Mem>
+    requires store { store < shape_size shape.now }
+    requires kinded { (k : KindTree) × DistKinded (shape_kinds shape.now) (dx_tree dist.now) k }
+    ensures choice { IfOk result (λ o. IfSome o (λ c. tried (shape_types shape.now) (dx_tree dist.now) store ≡ Ok (weighted_trees c))) }
+    ensures total { IfOk result (λ o. IfSome o (λ c. c.total ≡ total (weighted_trees c))) }
+    ensures some { IfOk result (λ o. IfSome o (λ c. 1 ≤ c.total)) }
+    ensures formed { IfOk result (λ o. IfSome o (λ c. All (λ w. IsWellFormed w.value) (weighted_trees c))) }
+    ensures fault { result ≡ Ok None → (f : Halted) × (tried (shape_types shape.now) (dx_tree dist.now) store ≡ Err f) }
+{
+    match choices_in(alloc, shape, dist, store) {
+        Ok(choice) => Ok(Some(choice)),
+        Err(Halt::Fault { .. }) => Ok(None),
+        Err(Halt::Scale) => Ok(None),
+        Err(Halt::Mem) => Err(Mem),
     }
 }
 

@@ -8,7 +8,6 @@ mod Locating
 mod Splits
 mod Moving
 mod Assigning
-mod Numbering
 mod Tabling
 mod TablingRows
 mod Walking

@@ -1,4 +1,4 @@
--- What is chosen in a store, and stores that are split one after the other.
+-- Stores that are split one after the other.
 use Rattle.std.proofs.Common.{◌≡◌, ℕ, ◌+◌, ◌*◌, ◌/◌, ◌^◌, ◌≤◌, ◌<◌, false, true≢false, List, [], ◌∷◌, Ok, Err, refl, sym, ap, subst, ◌∙◌, arith}
 use Rattle.std.specs.List.{All, AllByRecursion as Each}
 use Rattle.std.proofs.Math.Nat.{div-mul-le_self, mul-add, mul-zero}
@@ -8,36 +8,13 @@ use Rattle.kf_value.specs.Values.{ValueTree}
 use Rattle.kf_value.proofs.ListLemmas.{each_any, each_weaker}
 use Rattle.kf_core.specs.Choices.{Weighted, Chosen, total}
 use Rattle.kf_core.specs.Runs.{Halted, Tried, placed_at}
-use Rattle.kf_core.proofs.Scales.{Weighty}
-use Rattle.kf_eval.specs.Choices.{IsChoiceFaultOf}
-use Rattle.kf_eval.specs.declared.choice.ChoiceError.{ChoiceError}
-use Rattle.kf_eval.specs.declared.choice.ChoiceError.TheVariants as error
-use Rattle.kf_core.proofs.Filled.{Filled}
 use Rattle.kf_core.proofs.Measures.{Measure}
-use Rattle.kf_traces.specs.Choosing.{is_mem}
 use Rattle.kf_traces.specs.Laws.{sum_of}
 use Rattle.kf_traces.specs.Traced.{Weights, Part, with_part, with_shares, parted, split}
 use Rattle.kf_traces.specs.Views.{parts_sum, PartsAscend}
 use Rattle.kf_traces.proofs.Locating.{part_sum}
 use Rattle.kf_traces.proofs.Splitting.{shares_joined}
 use Rattle.kf_traces.proofs.Ordering.{shares_ascend}
-
--- ---- what is chosen
-
-pub total_some : (g : Tried) (ws : List Weighted) → g ≡ Ok ws → Filled g → Weighty g → 1 ≤ total ws
-total_some g ws is filled weighs = at ws (subst (λ (x : Tried). Filled x) is filled) (subst (λ (x : Tried). Weighty x) is weighs)
-  where
-    at : (ws : List Weighted) → Filled (Ok ws) → Weighty (Ok ws) → 1 ≤ total ws
-    at [] f h = absurd f
-    at (w ∷ ws) f h = let first : 0 < w.weight = h.0 in omega (arith, first, sum_by-cons (λ (u : Weighted). u.weight) w ws)
-
-pub fault_there : (defined : Chosen) (e : ChoiceError) (at : ℕ) → is_mem e ≡ false → IsChoiceFaultOf defined e → (f : Halted) × (placed_at at defined ≡ Err f)
-fault_there defined error.DivZero at other is = (_, ap (placed_at at) is)
-fault_there defined error.ArithWide at other is = (_, ap (placed_at at) is)
-fault_there defined error.NoWeight at other is = (_, ap (placed_at at) is)
-fault_there defined error.NegativeWeight at other is = (_, ap (placed_at at) is)
-fault_there defined error.RangeLong at other is = (_, ap (placed_at at) is)
-fault_there defined error.Mem at other is = absurd (true≢false other)
 
 -- ---- stores that are left to split
 

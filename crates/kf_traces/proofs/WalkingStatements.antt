@@ -1,37 +1,18 @@
 -- What a state comes to in each form of statement.
-use Rattle.std.proofs.Common.{◌≡◌, ℕ, true, false, List, map, rules, sym, ap, ◌∙◌}
+use Rattle.std.proofs.Common.{◌≡◌, ℕ, true, false, List, map, sym, ap, ◌∙◌}
 use Rattle.std.specs.Prelude.{flat_map}
 use Rattle.kf_value.specs.Types.{TypeTree}
 use Rattle.kf_core.specs.Views.{dx_tree, st_tree, st_items}
 use Rattle.kf_core.specs.declared.dx.Dx.{Dx}
-use Rattle.kf_core.specs.declared.st.St.{St, the_lemmas}
+use Rattle.kf_core.specs.declared.st.St.{St}
 use Rattle.kf_core.specs.declared.st.St.TheVariants as code
 use Rattle.kf_core.specs.declared.st.StList.{StList}
 use Rattle.kf_core.specs.Sts.{StTree, Skip, Assign, Observe, If, While, sts}
 use Rattle.kf_core.specs.Runs.{tried}
+use Rattle.kf_core.proofs.SoundParts.{tree-Skip, tree-Assign, tree-Observe, tree-If, tree-While}
 use Rattle.kf_traces.specs.Traced.{Traced, alone, assign_traced, traced, all_traced, loop_traced}
 use Rattle.kf_traces.specs.Visits.{leaked, last_true, side}
 use Rattle.kf_traces.proofs.WalkingLoops.{all_leaked, guard_sides, side_is}
-
--- the tree of each form of statement
-tree-Skip : st_tree code.Skip ≡ Skip
-tree-Skip = search (rules, the_lemmas)
-
--- of an assignment
-tree-Assign : (i : ℕ) (d : Dx) → st_tree (code.Assign i d) ≡ Assign i (dx_tree d)
-tree-Assign i d = search (rules, the_lemmas)
-
--- of an observation
-tree-Observe : (d : Dx) → st_tree (code.Observe d) ≡ Observe (dx_tree d)
-tree-Observe d = search (rules, the_lemmas)
-
--- of a conditional
-tree-If : (d : Dx) (xs ys : StList) → st_tree (code.If d xs ys) ≡ If (dx_tree d) (sts (map st_tree (st_items xs))) (sts (map st_tree (st_items ys)))
-tree-If d xs ys = search (rules, the_lemmas)
-
--- of a loop
-tree-While : (d : Dx) (xs : StList) → st_tree (code.While d xs) ≡ While (dx_tree d) (sts (map st_tree (st_items xs)))
-tree-While d xs = search (rules, the_lemmas)
 
 module _ (ts : List TypeTree) (turns : ℕ) where
   -- the ends of a list of statements

@@ -2,5 +2,4 @@
 pub mod Traced
 pub mod Laws
 pub mod Views
-pub mod Choosing
 pub mod Visits

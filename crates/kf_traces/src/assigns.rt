@@ -15,10 +15,9 @@ ghost use Rattle.kf_traces.specs.Traced.{with_moves, assign_all, copy_all};
 ghost use Rattle.kf_traces.specs.Views.{Fits};
 
 use crate::parts::add_weight;
-use crate::steps::chosen_in;
 use kf_core::{Dx, Program};
 use kf_eval::Weighted;
-use kf_support::{copied_store, moved};
+use kf_support::{chosen_in, copied_store, moved};
 use kf_value::{Mem, Shape};
 use std::alloc::Global;
 use std::collections::BTreeMap;

@@ -1,0 +1,176 @@
+-- Columns pushed through a loop, turn by turn.
+use Rattle.std.proofs.Common.{◌≡◌, ℕ, zero, suc, ◌+◌, ◌≤◌, true, false, List, [], ◌∷◌, ◌++◌, All, length, refl, sym, ◌∙◌, subst, arith}
+use Rattle.std.proofs.lemmas.List.Elements.{All-append, All-nil}
+use Rattle.kf_value.specs.Kinds.{TruthKind}
+use Rattle.kf_value.specs.Shapes.{shape_size, shape_types}
+use Rattle.kf_value.specs.declared.shape.Shape.{Shape}
+use Rattle.kf_hyper.specs.Columns.{IsColumn}
+use Rattle.kf_hyper.specs.Joint.{Joint, mass}
+use Rattle.kf_hyper.specs.Merged.{AreMerged}
+use Rattle.kf_hyper.specs.Shapes.{IsBelow}
+use Rattle.kf_core.specs.Checked.{AreSound, DistKinded}
+use Rattle.kf_core.specs.Dxs.{DxTree}
+use Rattle.kf_core.specs.Runs.{LoopBound, Tried, all_runs, chain, looped, place, stay, stopped, tried}
+use Rattle.kf_core.specs.Sts.{StTree, sts}
+use Rattle.kf_core.proofs.Filled.{Filled, chain_full, looped_full}
+use Rattle.kf_core.proofs.Solid.{all_solid, dist_filled}
+use Rattle.kf_eval.specs.Kinds.{shape_kinds}
+use Rattle.kf_run.specs.Following.{Goes, observed, side}
+use Rattle.kf_run.specs.Going.{CanGo, HasGone}
+use Rattle.kf_run.specs.Laws.{SplitsOnce}
+use Rattle.kf_hyper.proofs.Beliefs.{merged_again, merged_below, merged_columns, merged_mass, merged_none}
+use Rattle.kf_run.proofs.Blocks.{AreSides, block_full, mass_both}
+use Rattle.kf_run.proofs.Carrying.{Runner, Matrix, pushed_again, pushed_columns}
+use Rattle.kf_run.proofs.Statements.{ComesTo, all_turned, block_mass, blocks_split, goes_body, goes_guard, goes_next, turned, turned_last, turned_none}
+
+module _ (shape : Shape) (turns : ℕ) (test : DxTree) (xs : List StTree) (kinded : DistKinded (shape_kinds shape) test TruthKind)
+    (sound : AreSound (shape_kinds shape) xs) where
+  abbrev size : ℕ
+  size = shape_size shape
+
+  abbrev guard : ℕ → Tried
+  guard = tried (shape_types shape) test
+
+  abbrev body : Runner
+  body = all_runs (shape_types shape) turns (sts xs)
+
+  -- the loop with so many turns to come
+  abbrev pub loop_of : ℕ → Runner
+  loop_of rest = looped rest guard (place test) body
+
+  abbrev filled : (n : ℕ) → Filled (guard n)
+  filled = dist_filled (shape_types shape) test kinded
+
+  abbrev splits : SplitsOnce body
+  splits = blocks_split (shape_types shape) turns (sts xs)
+
+  abbrev comes : ℕ → Matrix → Matrix → Matrix → Type 0
+  comes = ComesTo guard filled (place test) body (block_full shape turns xs sound) splits
+
+  -- behind some turns: what those that ask and those that have left come to from here, the loop comes to
+  pub record LoopOn (before : Joint) (rest : ℕ) (asking left : Joint) : Type 0 where
+    pub can : CanGo (loop_of rest) size asking
+    pub were : All IsColumn left.columns
+    pub left_merged : AreMerged left.columns left.columns
+    pub left_below : All (IsBelow size) left.columns
+    pub scale : asking.scale ≡ before.scale
+    pub left_scale : left.scale ≡ before.scale
+    pub fits : mass asking.columns + mass left.columns ≤ before.scale
+    pub leads : (after : Matrix) → comes rest asking.columns left.columns after → comes turns before.columns [] after
+
+  pub loop_start : (before none : Joint) → none ≡ record { scale = before.scale; columns = [] } → CanGo (loop_of turns) size before
+      → LoopOn before turns before none
+  loop_start before none is can =
+      subst (LoopOn before turns before) (sym is) (record {
+        can = can;
+        were = All-nil IsColumn;
+        left_merged = merged_none;
+        left_below = All-nil (IsBelow size);
+        scale = refl;
+        left_scale = refl;
+        fits = omega (arith, can.fits);
+        leads = λ after c. c;
+      })
+
+  -- all that leads to the end
+  all_gone : (before after : Joint) → comes turns before.columns [] after.columns → after.scale ≡ before.scale → All (IsBelow size) after.columns
+      → HasGone (loop_of turns) size before after
+  all_gone before after come scale below = record {
+    pushed = all_turned guard filled (place test) body (block_full shape turns xs sound) splits turns
+        before.columns after.columns come;
+    scale = scale;
+    below = below;
+  }
+
+  -- where no column asks, the loop ends
+  pub loop_none : (before : Joint) (rest : ℕ) (asking left : Joint) → LoopOn before rest asking left → asking.columns ≡ []
+      → HasGone (loop_of turns) size before left
+  loop_none before rest asking left on none =
+      all_gone before left
+      (on.leads left.columns (subst (λ cs. comes rest cs left.columns left.columns) (sym none)
+      (turned_none guard filled (place test) body (block_full shape turns xs sound) splits rest left.columns left.columns on.were on.left_merged)))
+      on.left_scale on.left_below
+
+  -- the guard can be asked
+  pub asks : (rest : ℕ) (columns : Matrix) → Goes (loop_of rest) columns → Goes (observed guard) columns
+  asks zero columns goes = goes_guard guard filled (λ n. stopped LoopBound (place test)) stay (λ n. tt) (λ n. tt) columns goes
+  asks (suc rest) columns goes =
+      goes_guard guard filled (λ n. chain (body n) (loop_of rest)) stay
+      (λ n. chain_full (loop_of rest) (looped_full guard filled rest (place test) body (block_full shape turns xs sound)) (body n)
+      (block_full shape turns xs sound n)) (λ n. tt) columns goes
+
+  module _ (before : Joint) (asking left taken gone : Joint) (sides : AreSides shape test asking taken gone) where
+    module _ (rest : ℕ) (on : LoopOn before rest asking left) where
+      gone_are : All IsColumn gone.columns
+      gone_are = pushed_columns (side false guard) asking.columns gone.columns sides.to_left
+
+      module _ (more : Joint) (merged : AreMerged (left.columns ++ gone.columns) more.columns) (scale : more.scale ≡ left.scale) where
+        both_are : All IsColumn (left.columns ++ gone.columns)
+        both_are = All-append IsColumn left.columns gone.columns on.were gone_are
+
+        more_below : All (IsBelow size) more.columns
+        more_below = merged_below size (left.columns ++ gone.columns) more.columns both_are merged
+            (All-append (IsBelow size) left.columns gone.columns on.left_below sides.below_left)
+
+        more_mass : mass more.columns ≡ mass left.columns + mass gone.columns
+        more_mass = merged_mass (left.columns ++ gone.columns) more.columns both_are merged ∙ mass_both left.columns gone.columns
+
+    -- those on the true side go through the body
+    module _ (rest : ℕ) (on : LoopOn before (suc rest) asking left) where
+      pub turn_can : CanGo body size taken
+      turn_can = record {
+        are = pushed_columns (side true guard) asking.columns taken.columns sides.to_taken;
+        merged = pushed_again (side true guard) asking.columns taken.columns sides.to_taken;
+        below = sides.below_taken;
+        fits = omega (arith, sides.whole, sides.scale_taken, on.can.fits);
+        goes = goes_body guard filled (place test) body (block_full shape turns xs sound) splits rest asking.columns taken.columns on.can.are on.can.goes
+            sides.to_taken;
+      }
+
+      pub loop_step : (more next : Joint) → AreMerged (left.columns ++ gone.columns) more.columns → more.scale ≡ left.scale → HasGone body size taken next
+          → LoopOn before rest next more
+      loop_step more next merged scale went =
+          let kept : mass next.columns ≡ mass taken.columns =
+          block_mass (shape_types shape) turns (sts xs) taken.columns next.columns (all_solid (shape_types shape) (shape_kinds shape) sound) turn_can.are
+          turn_can.goes went.pushed in
+          record {
+            can = record {
+              are = pushed_columns body taken.columns next.columns went.pushed;
+              merged = pushed_again body taken.columns next.columns went.pushed;
+              below = went.below;
+              fits = omega (arith, kept, went.scale, turn_can.fits);
+              goes = goes_next guard filled (place test) body (block_full shape turns xs sound) splits rest asking.columns taken.columns next.columns
+                  on.can.are on.can.goes sides.to_taken went.pushed;
+            };
+            were = merged_columns (left.columns ++ gone.columns) more.columns (both_are (suc rest) on more merged scale) merged;
+            left_merged = merged_again (left.columns ++ gone.columns) more.columns (both_are (suc rest) on more merged scale) merged;
+            left_below = more_below (suc rest) on more merged scale;
+            scale = went.scale ∙ (sides.scale_taken ∙ on.scale);
+            left_scale = scale ∙ on.left_scale;
+            fits = omega (arith, kept, more_mass (suc rest) on more merged scale, sides.whole, on.fits);
+            leads = λ after come.
+                on.leads after
+                (turned guard filled (place test) body (block_full shape turns xs sound) splits rest asking.columns left.columns taken.columns gone.columns
+                next.columns more.columns after
+                on.can.are on.were on.can.goes sides.to_taken sides.to_left went.pushed merged come);
+          }
+
+    -- behind the last turn those on the false side leave
+    pub loop_end : LoopOn before zero asking left → (after : Joint) → AreMerged (left.columns ++ gone.columns) after.columns → after.scale ≡ left.scale
+        → HasGone (loop_of turns) size before after
+    loop_end on after merged scale =
+        all_gone before after
+        (on.leads after.columns (turned_last guard filled (place test) body (block_full shape turns xs sound) splits asking.columns left.columns
+        gone.columns after.columns on.can.are on.were on.can.goes sides.to_left merged))
+        (scale ∙ on.left_scale) (more_below zero on after merged scale)
+
+-- the same, where the guard and the body are sound
+pub record Looping (shape : Shape) (turns : ℕ) (test : DxTree) (xs : List StTree) (before : Joint) (rest : ℕ) (asking left : Joint) : Type 0 where
+  pub kinded : DistKinded (shape_kinds shape) test TruthKind
+  pub sound : AreSound (shape_kinds shape) xs
+  pub on : LoopOn shape turns test xs kinded sound before rest asking left
+
+-- a list without length is empty
+pub none_there : (columns : Matrix) → length columns ≡ 0 → columns ≡ []
+none_there [] empty = refl
+none_there (c ∷ cs) empty = absurd (omega arith)

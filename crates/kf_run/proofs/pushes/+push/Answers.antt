@@ -1,0 +1,383 @@
+use Rattle.std.proofs.Common.{rules, ◌≡◌, ◌-◌, ◌+◌, suc, map, arith, sym, refl, ◌∙◌, subst}
+use Rattle.std.specs.Prelude.{IfOk}
+use Rattle.kf_value.specs.Shapes.{shape_size, shape_types}
+use Rattle.kf_value.proofs.ListLemmas.{left_step, left_end}
+use Rattle.kf_core.specs.declared.st.St.{the_lemmas}
+use Rattle.kf_core.specs.Views.{dx_tree, st_tree, st_items}
+use Rattle.kf_eval.specs.Kinds.{shape_kinds}
+use Rattle.kf_core.proofs.SoundParts as sound
+use Rattle.kf_run.specs.Following.{Goes}
+use Rattle.kf_run.specs.Going.{CanGo, HasGone}
+use Rattle.kf_run.proofs.Blocks as blocks
+use Rattle.kf_run.proofs.Carrying.{pushed_stay}
+use Rattle.kf_run.proofs.Forms as form
+use Rattle.kf_run.proofs.Turns as loop
+use Rattle.kf_run.proofs.pushes.+push.Goals as goal
+
+-- ---- statements, one after the other
+
+pub push_all-push_one-requires : goal.push_all-push_one-requires
+push_all-push_one-requires t c =
+    let here = left_step st_tree c.args.statements.now c.loop-statement.statement-index c.statement-item.result (omega arith) c.statement-item.is in
+    let before = rw here at c.loop-statement.invariant in (
+      search (rules, the_lemmas),
+      (
+        blocks.next_sound c.args.shape.now c.args.turns _ _ _ _ _ before,
+        blocks.next_can c.args.shape.now c.args.turns _ _ _ _ _
+            before,
+      ),
+    )
+
+pub push_all-loop-statement-preserved : goal.push_all-loop-statement-preserved
+push_all-loop-statement-preserved t c =
+    let here = left_step st_tree c.args.statements.now c.loop-statement.statement-index c.statement-item.result (omega arith) c.statement-item.is in
+    let before = rw here at c.loop-statement.invariant in
+    blocks.block_step c.args.shape.now c.args.turns _ _ _ _ _ before c.in_ok-now.now c.in_ok-now.ensures
+
+pub push_all-returns : goal.push_all-returns
+push_all-returns t c =
+    blocks.block_end c.args.shape.now c.args.turns _ c.args.columns _ c.loop-statement.now
+    (left_end st_tree c.args.statements.now c.loop-statement.statement-index (omega arith)) c.loop-statement.invariant
+
+-- ---- loops
+
+pub push_loop-loop-turn-init : goal.push_loop-loop-turn-init
+push_loop-loop-turn-init t c =
+    let all : c.args.turns ≡ c.args.turns - 0 = omega arith in
+    record {
+      kinded = c.requires.kinded;
+      sound = c.requires.sound;
+      on =
+          subst (λ rest. loop.LoopOn c.args.shape.now c.args.turns (dx_tree c.args.test.now) (map st_tree c.args.body.now) c.requires.kinded
+          c.requires.sound c.args.columns rest c.args.columns c.none_of-left.result) all
+          (loop.loop_start c.args.shape.now c.args.turns (dx_tree c.args.test.now) (map st_tree c.args.body.now) c.requires.kinded c.requires.sound
+          c.args.columns c.none_of-left.result c.none_of-left.ensures c.requires.can);
+    }
+
+pub push_loop-returns-then-is_empty : goal.push_loop-returns-then-is_empty
+push_loop-returns-then-is_empty t c =
+    let i = c.loop-turn.invariant in
+    loop.loop_none c.args.shape.now c.args.turns (dx_tree c.args.test.now) (map st_tree c.args.body.now) i.kinded i.sound c.args.columns
+    (c.args.turns - c.loop-turn._turn) c.loop-turn.asking c.loop-turn.left i.on
+    (loop.none_there c.loop-turn.asking.columns (search rules))
+
+pub push_loop-guard-requires-clause-below : goal.push_loop-guard-requires-clause-below
+push_loop-guard-requires-clause-below t c = c.loop-turn.invariant.on.can.below
+
+pub push_loop-guard-requires-clause-goes : goal.push_loop-guard-requires-clause-goes
+push_loop-guard-requires-clause-goes t c =
+    let i = c.loop-turn.invariant in
+    loop.asks c.args.shape.now c.args.turns (dx_tree c.args.test.now) (map st_tree c.args.body.now) i.kinded i.sound (c.args.turns - c.loop-turn._turn)
+    c.loop-turn.asking.columns i.on.can.goes
+
+pub push_loop-merge_both-requires-clause-one_scale : goal.push_loop-merge_both-requires-clause-one_scale
+push_loop-merge_both-requires-clause-one_scale t c =
+    let on = c.loop-turn.invariant.on in
+    on.left_scale ∙ sym (c.in_ok-sides.ensures.scale_left ∙ on.scale)
+
+pub push_loop-merge_both-requires-clause-fits : goal.push_loop-merge_both-requires-clause-fits
+push_loop-merge_both-requires-clause-fits t c =
+    let on = c.loop-turn.invariant.on in
+    omega (arith, c.in_ok-sides.ensures.mass, on.fits, on.left_scale)
+
+pub push_loop-push_all-requires : goal.push_loop-push_all-requires
+push_loop-push_all-requires t c =
+    let i = c.loop-turn.invariant in
+    let rest = c.args.turns - (c.loop-turn._turn + 1) in
+    let later : c.args.turns - c.loop-turn._turn ≡ suc rest = omega arith in
+    let on : loop.LoopOn c.args.shape.now c.args.turns (dx_tree c.args.test.now) (map st_tree c.args.body.now) i.kinded i.sound c.args.columns (suc rest)
+    c.loop-turn.asking c.loop-turn.left =
+    subst (λ k. loop.LoopOn c.args.shape.now c.args.turns (dx_tree c.args.test.now) (map st_tree c.args.body.now) i.kinded i.sound c.args.columns k
+    c.loop-turn.asking c.loop-turn.left) later i.on in
+    let sides : blocks.AreSides c.args.shape.now (dx_tree c.args.test.now) c.loop-turn.asking c.in_ok-sides.sides.taken c.in_ok-sides.sides.left = record {
+      to_taken = c.in_ok-sides.ensures.taken;
+      to_left = c.in_ok-sides.ensures.left;
+      scale_taken = c.in_ok-sides.ensures.scale_taken;
+      scale_left = c.in_ok-sides.ensures.scale_left;
+      below_taken = c.in_ok-sides.ensures.below_taken;
+      below_left = c.in_ok-sides.ensures.below_left;
+      whole = c.in_ok-sides.ensures.mass;
+    } in (
+      search (rules, the_lemmas),
+      (
+        c.requires.sound,
+        loop.turn_can c.args.shape.now c.args.turns (dx_tree c.args.test.now) (map st_tree c.args.body.now) i.kinded i.sound c.args.columns
+            c.loop-turn.asking c.loop-turn.left c.in_ok-sides.sides.taken c.in_ok-sides.sides.left sides rest on,
+      ),
+    )
+
+pub push_loop-loop-turn-preserved : goal.push_loop-loop-turn-preserved
+push_loop-loop-turn-preserved t c =
+    let i = c.loop-turn.invariant in
+    let rest = c.args.turns - (c.loop-turn._turn + 1) in
+    let later : c.args.turns - c.loop-turn._turn ≡ suc rest = omega arith in
+    let on : loop.LoopOn c.args.shape.now c.args.turns (dx_tree c.args.test.now) (map st_tree c.args.body.now) i.kinded i.sound c.args.columns (suc rest)
+    c.loop-turn.asking c.loop-turn.left =
+    subst (λ k. loop.LoopOn c.args.shape.now c.args.turns (dx_tree c.args.test.now) (map st_tree c.args.body.now) i.kinded i.sound c.args.columns k
+    c.loop-turn.asking c.loop-turn.left) later i.on in
+    let sides : blocks.AreSides c.args.shape.now (dx_tree c.args.test.now) c.loop-turn.asking c.in_ok-sides.sides.taken c.in_ok-sides.sides.left = record {
+      to_taken = c.in_ok-sides.ensures.taken;
+      to_left = c.in_ok-sides.ensures.left;
+      scale_taken = c.in_ok-sides.ensures.scale_taken;
+      scale_left = c.in_ok-sides.ensures.scale_left;
+      below_taken = c.in_ok-sides.ensures.below_taken;
+      below_left = c.in_ok-sides.ensures.below_left;
+      whole = c.in_ok-sides.ensures.mass;
+    } in
+    record {
+      kinded = i.kinded;
+      sound = i.sound;
+      on =
+          loop.loop_step c.args.shape.now c.args.turns (dx_tree c.args.test.now) (map st_tree c.args.body.now) i.kinded i.sound c.args.columns
+          c.loop-turn.asking c.loop-turn.left c.in_ok-sides.sides.taken c.in_ok-sides.sides.left sides rest on
+          c.in_ok-left.left c.in_ok-asking.asking c.in_ok-left.ensures.merged c.in_ok-left.ensures.scale c.in_ok-asking.ensures;
+    }
+
+pub push_loop-guard-requires-2-clause-below : goal.push_loop-guard-requires-2-clause-below
+push_loop-guard-requires-2-clause-below t c = c.loop-turn.invariant.on.can.below
+
+pub push_loop-guard-requires-2-clause-goes : goal.push_loop-guard-requires-2-clause-goes
+push_loop-guard-requires-2-clause-goes t c =
+    let i = c.loop-turn.invariant in
+    loop.asks c.args.shape.now c.args.turns (dx_tree c.args.test.now) (map st_tree c.args.body.now) i.kinded i.sound (c.args.turns - c.loop-turn._turn)
+    c.loop-turn.asking.columns i.on.can.goes
+
+pub push_loop-merge_both-requires-2-clause-one_scale : goal.push_loop-merge_both-requires-2-clause-one_scale
+push_loop-merge_both-requires-2-clause-one_scale t c =
+    let on = c.loop-turn.invariant.on in
+    on.left_scale ∙ sym (c.in_ok-sides-2.ensures.scale_left ∙ on.scale)
+
+pub push_loop-merge_both-requires-2-clause-fits : goal.push_loop-merge_both-requires-2-clause-fits
+push_loop-merge_both-requires-2-clause-fits t c =
+    let on = c.loop-turn.invariant.on in
+    omega (arith, c.in_ok-sides-2.ensures.mass, on.fits, on.left_scale)
+
+pub push_loop-returns : goal.push_loop-returns
+push_loop-returns t c =
+    let i = c.loop-turn.invariant in
+    let last : c.args.turns - c.loop-turn._turn ≡ 0 = omega arith in
+    let on : loop.LoopOn c.args.shape.now c.args.turns (dx_tree c.args.test.now) (map st_tree c.args.body.now) i.kinded i.sound c.args.columns 0
+    c.loop-turn.asking c.loop-turn.left =
+    subst (λ k. loop.LoopOn c.args.shape.now c.args.turns (dx_tree c.args.test.now) (map st_tree c.args.body.now) i.kinded i.sound c.args.columns k
+    c.loop-turn.asking c.loop-turn.left) last i.on in
+    let sides : blocks.AreSides c.args.shape.now (dx_tree c.args.test.now) c.loop-turn.asking c.in_ok-sides-2.sides.taken c.in_ok-sides-2.sides.left =
+    record {
+      to_taken = c.in_ok-sides-2.ensures.taken;
+      to_left = c.in_ok-sides-2.ensures.left;
+      scale_taken = c.in_ok-sides-2.ensures.scale_taken;
+      scale_left = c.in_ok-sides-2.ensures.scale_left;
+      below_taken = c.in_ok-sides-2.ensures.below_taken;
+      below_left = c.in_ok-sides-2.ensures.below_left;
+      whole = c.in_ok-sides-2.ensures.mass;
+    } in
+    loop.loop_end c.args.shape.now c.args.turns (dx_tree c.args.test.now) (map st_tree c.args.body.now) i.kinded i.sound c.args.columns c.loop-turn.asking
+    c.loop-turn.left c.in_ok-sides-2.sides.taken c.in_ok-sides-2.sides.left sides on
+    c.in_ok-after.after c.in_ok-after.ensures.merged c.in_ok-after.ensures.scale
+
+-- ---- each form of statement
+
+pub push_one-assign-requires-clause-variable : goal.push_one-assign-requires-clause-variable
+push_one-assign-requires-clause-variable t c =
+    let known = sound.assign_parts (shape_kinds c.args.shape.now) c.args.statement.now c.requires.sound c.in-Assign.slot c.in-Assign.dist c.in-Assign.is in
+    sound.variable_within c.args.shape.now c.in-Assign.slot c.from.result known.0 c.from.ensures known.1.0
+
+pub push_one-assign-requires-clause-kinded : goal.push_one-assign-requires-clause-kinded
+push_one-assign-requires-clause-kinded t c =
+    let known = sound.assign_parts (shape_kinds c.args.shape.now) c.args.statement.now c.requires.sound c.in-Assign.slot c.in-Assign.dist c.in-Assign.is in
+    (known.0, known.1.1)
+
+pub push_one-assign-requires-clause-goes : goal.push_one-assign-requires-clause-goes
+push_one-assign-requires-clause-goes t c =
+    subst (λ f. Goes f c.args.columns.columns) (sym (form.assign_runs (shape_types c.args.shape.now) c.args.turns c.args.statement.now c.in-Assign.slot
+    c.from.result c.in-Assign.dist c.in-Assign.is c.from.ensures)) c.requires.can.goes
+
+pub push_one-observe-requires-clause-kinded : goal.push_one-observe-requires-clause-kinded
+push_one-observe-requires-clause-kinded t c = sound.observe_parts (shape_kinds c.args.shape.now) c.args.statement.now c.requires.sound c.in-Observe.dist
+    c.in-Observe.is
+
+pub push_one-observe-requires-clause-goes : goal.push_one-observe-requires-clause-goes
+push_one-observe-requires-clause-goes t c =
+    subst (λ f. Goes f c.args.columns.columns) (sym (form.observe_runs (shape_types c.args.shape.now) c.args.turns c.args.statement.now c.in-Observe.dist
+    c.in-Observe.is)) c.requires.can.goes
+
+pub push_one-guard-requires-clause-kinded : goal.push_one-guard-requires-clause-kinded
+push_one-guard-requires-clause-kinded t c = sound.if_guard (shape_kinds c.args.shape.now) c.args.statement.now c.requires.sound c.in-If.test c.in-If.yes
+    c.in-If.no c.in-If.is
+
+pub push_one-guard-requires-clause-goes : goal.push_one-guard-requires-clause-goes
+push_one-guard-requires-clause-goes t c =
+    let one = map st_tree (st_items c.in-If.yes) in
+    let other = map st_tree (st_items c.in-If.no) in
+    let same = form.if_runs (shape_types c.args.shape.now) c.args.turns c.args.statement.now c.in-If.test c.in-If.yes c.in-If.no c.in-If.is
+    (st_items c.in-If.yes) (st_items c.in-If.no) refl refl in
+    let can = subst (λ f. CanGo f (shape_size c.args.shape.now) c.args.columns) (sym same) c.requires.can in
+    let kinded = sound.if_guard (shape_kinds c.args.shape.now) c.args.statement.now c.requires.sound c.in-If.test c.in-If.yes c.in-If.no c.in-If.is in
+    let sound_one = sound.yes_sound (shape_kinds c.args.shape.now) c.args.statement.now c.requires.sound c.in-If.test c.in-If.yes c.in-If.no c.in-If.is
+    (st_items c.in-If.yes) refl in
+    let sound_other = sound.no_sound (shape_kinds c.args.shape.now) c.args.statement.now c.requires.sound c.in-If.test c.in-If.yes c.in-If.no c.in-If.is
+    (st_items c.in-If.no) refl in
+    blocks.can_guard c.args.shape.now c.args.turns (dx_tree c.in-If.test) one other kinded sound_one sound_other c.args.columns can
+
+pub push_one-push_all-requires : goal.push_one-push_all-requires
+push_one-push_all-requires t c =
+    let one = map st_tree c.as_slice.result.now in
+    let other = map st_tree (st_items c.in-If.no) in
+    let same = form.if_runs (shape_types c.args.shape.now) c.args.turns c.args.statement.now c.in-If.test c.in-If.yes c.in-If.no c.in-If.is
+    c.as_slice.result.now (st_items c.in-If.no) c.as_slice.ensures refl in
+    let can = subst (λ f. CanGo f (shape_size c.args.shape.now) c.args.columns) (sym same) c.requires.can in
+    let kinded = sound.if_guard (shape_kinds c.args.shape.now) c.args.statement.now c.requires.sound c.in-If.test c.in-If.yes c.in-If.no c.in-If.is in
+    let sound_one = sound.yes_sound (shape_kinds c.args.shape.now) c.args.statement.now c.requires.sound c.in-If.test c.in-If.yes c.in-If.no c.in-If.is
+    c.as_slice.result.now c.as_slice.ensures in
+    let sound_other = sound.no_sound (shape_kinds c.args.shape.now) c.args.statement.now c.requires.sound c.in-If.test c.in-If.yes c.in-If.no c.in-If.is
+    (st_items c.in-If.no) refl in
+    let sides : blocks.AreSides c.args.shape.now (dx_tree c.in-If.test) c.args.columns c.in_ok-sides-in-If.sides.taken c.in_ok-sides-in-If.sides.left =
+    record {
+      to_taken = c.in_ok-sides-in-If.ensures.taken;
+      to_left = c.in_ok-sides-in-If.ensures.left;
+      scale_taken = c.in_ok-sides-in-If.ensures.scale_taken;
+      scale_left = c.in_ok-sides-in-If.ensures.scale_left;
+      below_taken = c.in_ok-sides-in-If.ensures.below_taken;
+      below_left = c.in_ok-sides-in-If.ensures.below_left;
+      whole = c.in_ok-sides-in-If.ensures.mass;
+    } in (
+      search (rules, the_lemmas),
+      (
+        sound_one,
+        blocks.can_take c.args.shape.now c.args.turns (dx_tree c.in-If.test) one other kinded sound_one sound_other
+            c.args.columns can c.in_ok-sides-in-If.sides.taken c.in_ok-sides-in-If.sides.left sides,
+      ),
+    )
+
+pub push_one-push_all-requires-in-If : goal.push_one-push_all-requires-in-If
+push_one-push_all-requires-in-If t c =
+    let one = map st_tree c.as_slice.result.now in
+    let other = map st_tree c.as_slice-in-If.result.now in
+    let same = form.if_runs (shape_types c.args.shape.now) c.args.turns c.args.statement.now c.in-If.test c.in-If.yes c.in-If.no c.in-If.is
+    c.as_slice.result.now c.as_slice-in-If.result.now c.as_slice.ensures c.as_slice-in-If.ensures in
+    let can = subst (λ f. CanGo f (shape_size c.args.shape.now) c.args.columns) (sym same) c.requires.can in
+    let kinded = sound.if_guard (shape_kinds c.args.shape.now) c.args.statement.now c.requires.sound c.in-If.test c.in-If.yes c.in-If.no c.in-If.is in
+    let sound_one = sound.yes_sound (shape_kinds c.args.shape.now) c.args.statement.now c.requires.sound c.in-If.test c.in-If.yes c.in-If.no c.in-If.is
+    c.as_slice.result.now c.as_slice.ensures in
+    let sound_other = sound.no_sound (shape_kinds c.args.shape.now) c.args.statement.now c.requires.sound c.in-If.test c.in-If.yes c.in-If.no c.in-If.is
+    c.as_slice-in-If.result.now c.as_slice-in-If.ensures in
+    let sides : blocks.AreSides c.args.shape.now (dx_tree c.in-If.test) c.args.columns c.in_ok-sides-in-If.sides.taken c.in_ok-sides-in-If.sides.left =
+    record {
+      to_taken = c.in_ok-sides-in-If.ensures.taken;
+      to_left = c.in_ok-sides-in-If.ensures.left;
+      scale_taken = c.in_ok-sides-in-If.ensures.scale_taken;
+      scale_left = c.in_ok-sides-in-If.ensures.scale_left;
+      below_taken = c.in_ok-sides-in-If.ensures.below_taken;
+      below_left = c.in_ok-sides-in-If.ensures.below_left;
+      whole = c.in_ok-sides-in-If.ensures.mass;
+    } in (
+      search (rules, the_lemmas),
+      (
+        sound_other,
+        blocks.can_leave c.args.shape.now c.args.turns (dx_tree c.in-If.test) one other kinded sound_one sound_other
+            c.args.columns can c.in_ok-sides-in-If.sides.taken c.in_ok-sides-in-If.sides.left sides,
+      ),
+    )
+
+pub push_one-merge_both-requires-clause-fits : goal.push_one-merge_both-requires-clause-fits
+push_one-merge_both-requires-clause-fits t c =
+    let one = map st_tree c.as_slice.result.now in
+    let other = map st_tree c.as_slice-in-If.result.now in
+    let same = form.if_runs (shape_types c.args.shape.now) c.args.turns c.args.statement.now c.in-If.test c.in-If.yes c.in-If.no c.in-If.is
+    c.as_slice.result.now c.as_slice-in-If.result.now c.as_slice.ensures c.as_slice-in-If.ensures in
+    let can = subst (λ f. CanGo f (shape_size c.args.shape.now) c.args.columns) (sym same) c.requires.can in
+    let kinded = sound.if_guard (shape_kinds c.args.shape.now) c.args.statement.now c.requires.sound c.in-If.test c.in-If.yes c.in-If.no c.in-If.is in
+    let sound_one = sound.yes_sound (shape_kinds c.args.shape.now) c.args.statement.now c.requires.sound c.in-If.test c.in-If.yes c.in-If.no c.in-If.is
+    c.as_slice.result.now c.as_slice.ensures in
+    let sound_other = sound.no_sound (shape_kinds c.args.shape.now) c.args.statement.now c.requires.sound c.in-If.test c.in-If.yes c.in-If.no c.in-If.is
+    c.as_slice-in-If.result.now c.as_slice-in-If.ensures in
+    let sides : blocks.AreSides c.args.shape.now (dx_tree c.in-If.test) c.args.columns c.in_ok-sides-in-If.sides.taken c.in_ok-sides-in-If.sides.left =
+    record {
+      to_taken = c.in_ok-sides-in-If.ensures.taken;
+      to_left = c.in_ok-sides-in-If.ensures.left;
+      scale_taken = c.in_ok-sides-in-If.ensures.scale_taken;
+      scale_left = c.in_ok-sides-in-If.ensures.scale_left;
+      below_taken = c.in_ok-sides-in-If.ensures.below_taken;
+      below_left = c.in_ok-sides-in-If.ensures.below_left;
+      whole = c.in_ok-sides-in-If.ensures.mass;
+    } in
+    blocks.joined_fit c.args.shape.now c.args.turns (dx_tree c.in-If.test) one other kinded sound_one sound_other c.args.columns can
+    c.in_ok-sides-in-If.sides.taken c.in_ok-sides-in-If.sides.left sides c.in_ok-one-in-If.one c.in_ok-other-in-If.other c.in_ok-one-in-If.ensures
+    c.in_ok-other-in-If.ensures
+
+pub push_one-push_loop-requires : goal.push_one-push_loop-requires
+push_one-push_loop-requires t c =
+    let ks = shape_kinds c.args.shape.now in (
+      search (rules, the_lemmas),
+      (
+        sound.while_guard ks c.args.statement.now c.requires.sound c.in-While.test c.in-While.body c.in-While.is,
+        (
+          sound.body_sound ks c.args.statement.now c.requires.sound c.in-While.test c.in-While.body c.in-While.is c.as_slice-in-While.result.now
+              c.as_slice-in-While.ensures,
+          subst (λ f. CanGo f (shape_size c.args.shape.now) c.args.columns)
+              (sym (form.while_runs (shape_types c.args.shape.now) c.args.turns c.args.statement.now c.in-While.test c.in-While.body c.in-While.is
+              c.as_slice-in-While.result.now c.as_slice-in-While.ensures)) c.requires.can,
+        ),
+      ),
+    )
+
+pub push_one-returns-in-Skip : goal.push_one-returns-in-Skip
+push_one-returns-in-Skip t c =
+    subst (λ f. HasGone f (shape_size c.args.shape.now) c.args.columns c.args.columns)
+    (form.skip_runs (shape_types c.args.shape.now) c.args.turns c.args.statement.now c.in-Skip.is)
+    (record {
+      pushed = pushed_stay c.args.columns.columns c.args.columns.columns c.requires.can.are c.requires.can.merged;
+      scale = refl;
+      below =
+          c.requires.can.below;
+    })
+
+pub push_one-returns-in_ok-after-in-Assign : goal.push_one-returns-in_ok-after-in-Assign
+push_one-returns-in_ok-after-in-Assign t c =
+    subst (λ f. HasGone f (shape_size c.args.shape.now) c.args.columns c.in_ok-after-in-Assign.after)
+    (form.assign_runs (shape_types c.args.shape.now) c.args.turns c.args.statement.now c.in-Assign.slot c.from.result c.in-Assign.dist c.in-Assign.is
+    c.from.ensures)
+    (record { pushed = c.in_ok-after-in-Assign.ensures.pushed; scale = c.in_ok-after-in-Assign.ensures.scale; below = c.in_ok-after-in-Assign.ensures.below })
+
+pub push_one-returns-in_ok-after-in-Observe : goal.push_one-returns-in_ok-after-in-Observe
+push_one-returns-in_ok-after-in-Observe t c =
+    subst (λ f. HasGone f (shape_size c.args.shape.now) c.args.columns c.in_ok-after-in-Observe.after)
+    (form.observe_runs (shape_types c.args.shape.now) c.args.turns c.args.statement.now c.in-Observe.dist c.in-Observe.is)
+    (record {
+      pushed = c.in_ok-after-in-Observe.ensures.pushed;
+      scale = c.in_ok-after-in-Observe.ensures.scale;
+      below =
+          c.in_ok-after-in-Observe.ensures.below;
+    })
+
+pub push_one-returns-in_ok-after-in-If : goal.push_one-returns-in_ok-after-in-If
+push_one-returns-in_ok-after-in-If t c =
+    let one = map st_tree c.as_slice.result.now in
+    let other = map st_tree c.as_slice-in-If.result.now in
+    let same = form.if_runs (shape_types c.args.shape.now) c.args.turns c.args.statement.now c.in-If.test c.in-If.yes c.in-If.no c.in-If.is
+    c.as_slice.result.now c.as_slice-in-If.result.now c.as_slice.ensures c.as_slice-in-If.ensures in
+    let can = subst (λ f. CanGo f (shape_size c.args.shape.now) c.args.columns) (sym same) c.requires.can in
+    let kinded = sound.if_guard (shape_kinds c.args.shape.now) c.args.statement.now c.requires.sound c.in-If.test c.in-If.yes c.in-If.no c.in-If.is in
+    let sound_one = sound.yes_sound (shape_kinds c.args.shape.now) c.args.statement.now c.requires.sound c.in-If.test c.in-If.yes c.in-If.no c.in-If.is
+    c.as_slice.result.now c.as_slice.ensures in
+    let sound_other = sound.no_sound (shape_kinds c.args.shape.now) c.args.statement.now c.requires.sound c.in-If.test c.in-If.yes c.in-If.no c.in-If.is
+    c.as_slice-in-If.result.now c.as_slice-in-If.ensures in
+    let sides : blocks.AreSides c.args.shape.now (dx_tree c.in-If.test) c.args.columns c.in_ok-sides-in-If.sides.taken c.in_ok-sides-in-If.sides.left =
+    record {
+      to_taken = c.in_ok-sides-in-If.ensures.taken;
+      to_left = c.in_ok-sides-in-If.ensures.left;
+      scale_taken = c.in_ok-sides-in-If.ensures.scale_taken;
+      scale_left = c.in_ok-sides-in-If.ensures.scale_left;
+      below_taken = c.in_ok-sides-in-If.ensures.below_taken;
+      below_left = c.in_ok-sides-in-If.ensures.below_left;
+      whole = c.in_ok-sides-in-If.ensures.mass;
+    } in
+    subst (λ f. HasGone f (shape_size c.args.shape.now) c.args.columns c.in_ok-after-in-If.after) same
+    (blocks.branches_joined c.args.shape.now c.args.turns (dx_tree c.in-If.test) one other kinded sound_one sound_other c.args.columns can
+    c.in_ok-sides-in-If.sides.taken c.in_ok-sides-in-If.sides.left sides c.in_ok-one-in-If.one c.in_ok-other-in-If.other c.in_ok-one-in-If.ensures
+    c.in_ok-other-in-If.ensures c.in_ok-after-in-If.after c.in_ok-after-in-If.ensures.merged c.in_ok-after-in-If.ensures.scale)
+
+pub push_one-returns-in-While : goal.push_one-returns-in-While
+push_one-returns-in-While t c =
+    subst (λ f. IfOk c.push_loop.result (HasGone f (shape_size c.args.shape.now) c.args.columns))
+    (form.while_runs (shape_types c.args.shape.now) c.args.turns c.args.statement.now c.in-While.test c.in-While.body c.in-While.is
+    c.as_slice-in-While.result.now c.as_slice-in-While.ensures) c.push_loop.ensures

@@ -1,0 +1,8 @@
+-- For bodies
+pub mod Laws
+pub mod Following
+pub mod Going
+pub mod Ways
+pub mod Spreading
+pub mod Tables
+pub mod Stages

@@ -1,0 +1,175 @@
+//! Columns of stores pushed through statements.
+
+ghost use Rattle.std.specs.Prelude.{◌≡◌, ◌≤◌, ◌+◌, ◌-◌, ◌++◌, [], List, All, length, map, take, drop, IfOk};
+ghost use Rattle.kf_value.specs.Kinds.{TruthKind};
+ghost use Rattle.kf_value.specs.Shapes.{shape_size, shape_types};
+ghost use Rattle.kf_hyper.specs.Columns.{IsColumn};
+ghost use Rattle.kf_hyper.specs.Joint.{mass};
+ghost use Rattle.kf_hyper.specs.Merged.{AreMerged};
+ghost use Rattle.kf_hyper.specs.Shapes.{IsBelow};
+ghost use Rattle.kf_core.specs.Checked.{AreSound, DistKinded, IsSound};
+ghost use Rattle.kf_core.specs.Ready.{IsPushed, IsReady};
+ghost use Rattle.kf_core.specs.Runs.{all_runs, looped, place, runs, tried};
+ghost use Rattle.kf_core.specs.Sts.{sts};
+ghost use Rattle.kf_core.specs.Views.{dx_tree, program_tree, st_tree};
+ghost use Rattle.kf_eval.specs.Kinds.{shape_kinds};
+ghost use Rattle.kf_support.specs.Cleared.{program_of, turns_of, whole_scale};
+ghost use Rattle.kf_run.specs.Going.{CanGo, HasGone};
+
+use crate::steps::{assign, guard, observe};
+use kf_core::{Dx, St, run_laws};
+use kf_hyper::{ColumnList, Columns, join, merge};
+use kf_support::Cleared;
+use kf_value::{Mem, Shape};
+use std::alloc::Global;
+
+/// No columns, over the scale of these.
+fn none_of(alloc: Global, columns: &Columns) -> Columns
+    ensures { result ≡ record { scale = columns.now.scale; columns = [] } }
+{
+    Columns::new(columns.scale(), ColumnList::new(Vec::new(alloc)))
+}
+
+/// That each of them is a column, as its own type says. It goes through them, and changes nothing.
+pub fn are_columns(columns: &Columns)
+    ensures are { All IsColumn columns.now.columns }
+    ensures fits { mass columns.now.columns ≤ columns.now.scale }
+{
+    for column in columns.columns().as_slice() {
+        column.entries();
+    }
+}
+
+/// Both lists as one, with those of one posterior added up.
+fn merge_both(alloc: Global, one: Columns, other: Columns) -> Result<Columns, Mem>
+    requires one_scale { one.scale ≡ other.scale }
+    requires fits { mass one.columns + mass other.columns ≤ one.scale }
+    ensures merged { IfOk result (λ after. AreMerged (one.columns ++ other.columns) after.columns) }
+    ensures scale { IfOk result (λ after. after.scale ≡ one.scale) }
+{
+    let joined = join(alloc, one, other)?;
+    let merged = merge(alloc, &joined)?;
+    Ok(merged)
+}
+
+/// What columns become in a statement.
+#[cycle(push)]
+fn push_one(
+    alloc: Global,
+    shape: &Shape,
+    turns: u32,
+    statement: &St,
+    columns: Columns,
+) -> Result<Columns, Mem>
+    requires sound { IsSound (shape_kinds shape.now) (st_tree statement.now) }
+    requires can { CanGo (runs (shape_types shape.now) turns (st_tree statement.now)) (shape_size shape.now) columns }
+    ensures { IfOk result (λ after. HasGone (runs (shape_types shape.now) turns (st_tree statement.now)) (shape_size shape.now) columns after) }
+{
+    match statement {
+        St::Skip => Ok(columns),
+        St::Assign { slot, dist } => {
+            let after = assign(alloc, shape, usize::from(*slot), dist, &columns)?;
+            Ok(after)
+        }
+        St::Observe(dist) => {
+            let after = observe(alloc, shape, dist, &columns)?;
+            Ok(after)
+        }
+        St::If {
+            guard: test,
+            yes,
+            no,
+        } => {
+            let sides = guard(alloc, shape, test, &columns)?;
+            let one = push_all(alloc, shape, turns, yes.as_slice(), sides.taken)?;
+            let other = push_all(alloc, shape, turns, no.as_slice(), sides.left)?;
+            let after = merge_both(alloc, one, other)?;
+            Ok(after)
+        }
+        St::While { guard: test, body } => {
+            push_loop(alloc, shape, turns, test, body.as_slice(), columns)
+        }
+    }
+}
+
+/// What columns become in a loop with at most so many turns.
+///
+/// Behind each turn those that leave join those that left before, and the others ask the guard again.
+#[cycle(push)]
+fn push_loop(
+    alloc: Global,
+    shape: &Shape,
+    turns: u32,
+    test: &Dx,
+    body: &[St],
+    columns: Columns,
+) -> Result<Columns, Mem>
+    requires kinded { DistKinded (shape_kinds shape.now) (dx_tree test.now) TruthKind }
+    requires sound { AreSound (shape_kinds shape.now) (map st_tree body.now) }
+    requires can { CanGo (looped turns (tried (shape_types shape.now) (dx_tree test.now)) (place (dx_tree test.now)) (all_runs (shape_types shape.now) turns (sts (map st_tree body.now)))) (shape_size shape.now) columns }
+    ensures { IfOk result (λ after. HasGone (looped turns (tried (shape_types shape.now) (dx_tree test.now)) (place (dx_tree test.now)) (all_runs (shape_types shape.now) turns (sts (map st_tree body.now)))) (shape_size shape.now) columns after) }
+{
+    let mut left = none_of(alloc, &columns);
+    let mut asking = columns;
+    for _turn in 0..turns {
+        if asking.columns().as_slice().is_empty() {
+            return Ok(left);
+        }
+        let sides = guard(alloc, shape, test, &asking)?;
+        left = merge_both(alloc, left, sides.left)?;
+        asking = push_all(alloc, shape, turns, body, sides.taken)?;
+    }
+    let sides = guard(alloc, shape, test, &asking)?;
+    let after = merge_both(alloc, left, sides.left)?;
+    Ok(after)
+}
+
+/// What columns become in statements, one after the other.
+#[cycle(push)]
+fn push_all(
+    alloc: Global,
+    shape: &Shape,
+    turns: u32,
+    statements: &[St],
+    columns: Columns,
+) -> Result<Columns, Mem>
+    requires sound { AreSound (shape_kinds shape.now) (map st_tree statements.now) }
+    requires can { CanGo (all_runs (shape_types shape.now) turns (sts (map st_tree statements.now))) (shape_size shape.now) columns }
+    ensures { IfOk result (λ after. HasGone (all_runs (shape_types shape.now) turns (sts (map st_tree statements.now))) (shape_size shape.now) columns after) }
+{
+    let mut now = columns;
+    for statement in statements {
+        now = push_one(alloc, shape, turns, statement, now)?;
+    }
+    Ok(now)
+}
+
+/// What columns of stores become in the outermost statements from the one at `from` on, up to but not with the one at `to`.
+///
+/// Columns of one posterior are added up behind each statement, also inside branches and loops, so that no more is kept
+/// than one column for each belief that an observer may hold. Weights are over the program's scale, before and behind.
+pub fn push(
+    alloc: Global,
+    c: &Cleared,
+    from: usize,
+    to: usize,
+    columns: &Columns,
+) -> Result<Columns, Mem>
+    requires order { from ≤ to }
+    requires within { to ≤ length (program_tree (program_of c.now)).body }
+    requires scale { columns.now.scale ≡ whole_scale c.now }
+    requires below { All (IsBelow (shape_size (program_of c.now).shape)) columns.now.columns }
+    requires ready { IsReady (program_tree (program_of c.now)).types (turns_of c.now) (drop from (program_tree (program_of c.now)).body) columns.now.columns }
+    ensures pushed { IfOk result (λ after. IsPushed (all_runs (program_tree (program_of c.now)).types (turns_of c.now) (sts (take (to - from) (drop from (program_tree (program_of c.now)).body)))) columns.now.columns after.columns) }
+    ensures scale { IfOk result (λ after. after.scale ≡ whole_scale c.now) }
+    ensures below { IfOk result (λ after. All (IsBelow (shape_size (program_of c.now).shape)) after.columns) }
+    ensures ready { IfOk result (λ after. IsReady (program_tree (program_of c.now)).types (turns_of c.now) (drop to (program_tree (program_of c.now)).body) after.columns) }
+{
+    run_laws();
+    are_columns(columns);
+    let merged = merge(alloc, columns)?;
+    let program = c.program();
+    let statements = &program.body.as_slice()[from..to];
+    let after = push_all(alloc, &program.shape, c.turns(), statements, merged)?;
+    Ok(after)
+}

@@ -1,0 +1,5 @@
+-- Believed
+pub mod Making
+-- For bodies
+pub mod Made
+pub mod Laws

@@ -1,0 +1,13 @@
+//! The text that `make` runs, and that it is a program which is never refused.
+#![tactic(auto)]
+
+mod laws;
+mod making;
+mod unrefused;
+
+pub use laws::made_laws;
+pub use making::make_source;
+pub use unrefused::made;
+
+#[cfg(test)]
+mod tests;

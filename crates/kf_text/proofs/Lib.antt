@@ -2,3 +2,4 @@ mod Noisy
 pub mod Printing
 mod Reporting
 mod Rows
+mod Summaries

@@ -1,4 +1,4 @@
--- Believed: printed hypers, tables of traces and channels.
+-- Believed: printed hypers, tables of traces, channels, trails and summaries of made programs.
 use Rattle.std.specs.Prelude.{ℕ, pos, List, [], ◌∷◌, ◌++◌, length, codes, decimal, flat_map, map}
 use Rattle.std.specs.List.{enumerate_from}
 use Rattle.kf_frac.specs.Fractions.{fraction_text}
@@ -28,9 +28,13 @@ inner_lines target scale numbered =
     line (codes "inner " ++ (decimal numbered.0 ++ (codes " outer " ++ fraction_text (pos numbered.1.total) scale)))
     ++ flat_map (entry_line target (total numbered.1.entries)) numbered.1.entries
 
--- the target, the scale and how many inners there are
+-- the scale, and how many inners there are
+abbrev pub size_lines : ℕ → ℕ → List ℕ
+size_lines scale count = line (codes "scale " ++ decimal scale) ++ line (codes "inners " ++ decimal count)
+
+-- the target before these
 abbrev pub head_lines : List Item → ℕ → ℕ → List ℕ
-head_lines target scale count = target_line target ++ (line (codes "scale " ++ decimal scale) ++ line (codes "inners " ++ decimal count))
+head_lines target scale count = target_line target ++ size_lines scale count
 
 -- these, and each inner with its number from 0
 abbrev pub hyper_text : List Item → ℕ → List Inner → List ℕ
@@ -77,3 +81,27 @@ rows_lines target rows secrets = line (codes "rows " ++ decimal (length secrets)
 -- the target, the columns and the rows
 abbrev pub channel_text : List Item → List Row → List ℕ → List ℕ
 channel_text target rows secrets = target_line target ++ (columns_lines rows ++ rows_lines target rows secrets)
+
+-- a place, and how many beliefs stand there
+abbrev pub count_line : ℕ × ℕ → List ℕ
+count_line numbered = line (codes "after " ++ (decimal numbered.0 ++ (codes " inners " ++ decimal numbered.1)))
+
+-- the count of each place, from 0
+abbrev pub trail_text : List ℕ → List ℕ
+trail_text counts = flat_map count_line (enumerate_from 0 counts)
+
+-- the total of the last inner; 0 where there is none
+abbrev pub last_total : List Inner → ℕ
+last_total [] = 0
+last_total (i ∷ []) = i.total
+last_total (i ∷ j ∷ js) = last_total (j ∷ js)
+
+-- the outer of the last inner
+abbrev pub last_line : ℕ → List Inner → List ℕ
+last_line scale inners = line (codes "last " ++ fraction_text (pos (last_total inners)) scale)
+
+-- how many observations there were, the scale and how many inners, and the outer of the last of these
+abbrev pub make_text : ℕ → ℕ → List Inner → List ℕ
+make_text count scale inners =
+    line (codes "observations " ++ decimal count)
+    ++ (size_lines scale (length inners) ++ last_line scale inners)

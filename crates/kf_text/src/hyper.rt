@@ -1,22 +1,30 @@
 ghost use Rattle.std.specs.Prelude.{◌≡◌, ◌<◌, ◌++◌, IfOk, OnOk, flat_map, length};
 ghost use Rattle.kf_hyper.specs.Columns.{total};
 ghost use Rattle.kf_hyper.specs.Views.{entry_at, inner_at, inners_of, scale_of, target_of};
-ghost use Rattle.kf_text.specs.Texts.{head_lines, entry_line, inner_lines, hyper_text as text_of_hyper};
+ghost use Rattle.kf_text.specs.Texts.{head_lines, size_lines, entry_line, inner_lines, hyper_text as text_of_hyper};
 
 use crate::items::print_about;
 use kf_hyper::Hyper;
 use kf_value::{Mem, print_target};
 use std::alloc::Global;
 
+// Appends the scale, and how many inners there are.
+pub fn print_sizes(alloc: Global, hyper: &Hyper, out: &mut Vec<u8>) -> Result<(), Mem>
+    ensures { OnOk result (out.new.items ≡ out.old.items ++ size_lines (scale_of hyper.now) (length (inners_of hyper.now))) }
+{
+    let scale = hyper.scale();
+    let count = hyper.count();
+    let text = format!(in alloc; "scale {scale}\ninners {count}\n")?;
+    out.extend_from_slice(text.as_bytes())?;
+    Ok(())
+}
+
 // Appends the lines before the inners.
 fn print_head(alloc: Global, hyper: &Hyper, out: &mut Vec<u8>) -> Result<(), Mem>
     ensures { OnOk result (out.new.items ≡ out.old.items ++ head_lines (target_of hyper.now) (scale_of hyper.now) (length (inners_of hyper.now))) }
 {
     print_about(hyper.target(), out)?;
-    let scale = hyper.scale();
-    let count = hyper.count();
-    let text = format!(in alloc; "scale {scale}\ninners {count}\n")?;
-    out.extend_from_slice(text.as_bytes())?;
+    print_sizes(alloc, hyper, out)?;
     Ok(())
 }
 

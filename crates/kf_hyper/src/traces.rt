@@ -81,12 +81,6 @@ impl TraceRowList {
         self.items.as_slice()
     }
 
-    pub fn into_items(self) -> Vec<TraceRow>
-        ensures { result.items ≡ self }
-    {
-        self.items
-    }
-
     /// An equal list.
     pub fn copy(&self, alloc: Global) -> Result<TraceRowList, Mem>
         ensures { IfOk result (λ copied. map table_row copied ≡ map table_row self.now) }

@@ -4,6 +4,7 @@ ghost use Rattle.kf_core.specs.Views.{program_tree};
 ghost use Rattle.kf_core.specs.Checked.{IsChecked};
 
 mod answers;
+mod beliefs;
 mod causes;
 mod choices;
 mod commands;
@@ -12,6 +13,7 @@ mod faults;
 mod leaks;
 mod plain;
 mod plain_gains;
+mod plain_hypers;
 mod plain_traces;
 mod refusals;
 mod reports;

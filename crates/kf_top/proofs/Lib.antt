@@ -1,11 +1,12 @@
 pub mod Ending
 pub mod Reporting
 pub mod Lines
-pub mod Listing
 pub mod OneAnswer
 mod SomeAnswer
 pub mod Placing
 pub mod Steps
+mod Making
 mod Reading
 mod Numerals
+mod Asking
 pub mod Spelling

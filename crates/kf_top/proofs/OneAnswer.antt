@@ -18,7 +18,7 @@ use Rattle.kf_core.specs.Programs.{ProgramTree}
 use Rattle.kf_core.proofs.OneTable.{one_list}
 use Rattle.kf_hyper.specs.Traces.{Row}
 use Rattle.kf_channel.specs.Channels.{AreSecrets}
-use Rattle.kf_text.specs.Texts.{hyper_text, trace_text, channel_text}
+use Rattle.kf_text.specs.Texts.{hyper_text, trace_text, channel_text, trail_text, make_text}
 use Rattle.kf_text.specs.ReportTexts.{report_text}
 use Rattle.kf_frac.specs.Fractions.{limit}
 use Rattle.kf_value.specs.Targets.{Item}
@@ -32,9 +32,11 @@ use Rattle.kf_gain.specs.Laws.{OneAverage, OneReport}
 use Rattle.kf_gain.specs.TableLaws.{OneTable}
 use Rattle.kf_gain.specs.Vulnerabilities.{IsWidth, width}
 use Rattle.kf_report.specs.Reports.{Leakage, IsLeakage}
-use Rattle.kf_top.specs.Task.{Command, Hyper, Traces, Channel, Leak, Task, task_of}
-use Rattle.kf_top.specs.Answer.{Shown, Statement, HyperOf, TracesOf, ChannelOf, ReportOf, IsText, States, Refused, Usage, BadTable, WideGain}
-use Rattle.kf_top.specs.Outcome.{Step, After, Gives, Each, Fault, Text, bad_text, token_fault, syntax_fault, type_fault, IsBad, TokensOf, SourceOf, ProgramOf, TypedOf, TextOf, cleared, ClearedOf, table_word, TableOf, TableIn, GainIn, HasWidth, ReportIn, channel_statement, CommandOutcome, TaskOutcome, SomeOutcome, source_of}
+use Rattle.kf_make.specs.Making.{make_source}
+use Rattle.kf_run.specs.Laws.{OnlyOneTrail}
+use Rattle.kf_top.specs.Task.{Command, Hyper, Traces, Channel, Trail, Leak, Make, Task, task_of}
+use Rattle.kf_top.specs.Answer.{Shown, Statement, HyperOf, TracesOf, ChannelOf, ReportOf, TrailOf, MadeOf, IsText, States, Refused, Usage, BadTable, WideGain}
+use Rattle.kf_top.specs.Outcome.{Step, After, Gives, Each, Fault, Text, bad_text, token_fault, syntax_fault, type_fault, IsBad, TokensOf, SourceOf, ProgramOf, TypedOf, TextOf, cleared, ClearedOf, table_word, TableOf, TableIn, GainIn, HasWidth, ReportIn, channel_statement, MadeOutcome, CommandOutcome, TaskOutcome, SomeOutcome, source_of}
 use Rattle.kf_top.specs.Ends.{Answer, Settled, IsAnswer, showing}
 use Rattle.kf_top.proofs.Steps.{some_syntax}
 
@@ -61,7 +63,7 @@ one_leakage one g scale inners l m p q =
     let whole : l.whole ≡ m.whole = p.whole ∙ sym q.whole in
     λ i. record { prior = prior i; posterior = posterior i; whole = whole i }
 
-module _ (rows_are_one : RowsAreOne) (hypers_are_one : HypersAreOne) (reports_are_one : OneReport) where
+module _ (rows_are_one : RowsAreOne) (hypers_are_one : HypersAreOne) (reports_are_one : OneReport) (trails_are_one : OnlyOneTrail) where
   one_text : (statement : Statement) (xs ys : List ℕ) → IsText statement xs → IsText statement ys → xs ≡ ys
   one_text (HyperOf target scale joint) xs ys p q = p.2 ∙ ap (hyper_text target scale) (hypers_are_one joint p.0 q.0 p.1 q.1) ∙ sym q.2
   one_text (TracesOf target scale joint) xs ys p q = p.2 ∙ ap (trace_text target scale) (rows_are_one joint p.0 q.0 p.1 q.1) ∙ sym q.2
@@ -73,6 +75,8 @@ module _ (rows_are_one : RowsAreOne) (hypers_are_one : HypersAreOne) (reports_ar
       let inners : p.0 ≡ q.0 = hypers_are_one joint p.0 q.0 p.1 q.1 in
       let leakage : p.2.0 ≡ q.2.0 = one_leakage reports_are_one g scale q.0 p.2.0 q.2.0 (subst (λ (is : List Inner). IsLeakage g scale is p.2.0) inners p.2.1) q.2.1 in
       p.2.2 ∙ ap (report_text g) leakage ∙ sym q.2.2
+  one_text (MadeOf count scale joint) xs ys p q = p.2 ∙ ap (make_text count scale) (hypers_are_one joint p.0 q.0 p.1 q.1) ∙ sym q.2
+  one_text (TrailOf turns p) xs ys a b = a.2 ∙ ap trail_text (trails_are_one turns p a.0 b.0 a.1 b.1) ∙ sym b.2
 
   one_shown : (statement : Statement) (a b : Shown) → States a statement → States b statement → a ≡ b
   one_shown statement a b p q = same_shown a b (one_text statement a.bytes b.bytes p.text q.text) (p.yes ∙ sym q.yes)
@@ -164,11 +168,14 @@ module _ (hypers_are_one : HypersAreOne) (averages_are_one : OneAverage) where
 
 -- ---- commands
 
-module _ (tables_are_one : OneTable) (hypers_are_one : HypersAreOne) (averages_are_one : OneAverage) (contents : List ℕ → List ℕ) (turns : ℕ) where
+module _ (made_are_one : (count turns : ℕ) → HasOne (MadeOutcome count turns)) (tables_are_one : OneTable) (hypers_are_one : HypersAreOne) (averages_are_one : OneAverage)
+    (contents : List ℕ → List ℕ) (turns : ℕ) where
   one_command : (command : Command) (ps : List ProgramTree) → HasOne (CommandOutcome contents command turns ps)
   one_command Hyper (p ∷ []) = one_given (Ok (HyperOf p.target (run_scale turns p) (joint_of turns p)))
   one_command Traces (p ∷ []) = one_given (Ok (TracesOf p.target (run_scale turns p) (joint_of turns p)))
   one_command Channel (p ∷ []) = one_given (channel_statement turns p)
+  one_command (Make count) [] = made_are_one count turns
+  one_command Trail (p ∷ []) = one_given (Ok (TrailOf turns p))
   one_command (Leak g) (p ∷ []) =
       one_after (GainIn contents p.target g) (ReportIn (run_scale turns p) (joint_of turns p)) (one_gain tables_are_one contents p.target g)
       (one_report hypers_are_one averages_are_one (run_scale turns p) (joint_of turns p))
@@ -208,6 +215,13 @@ module _ (reading : IsOneReading) (one : OneProgram) (both : NotBoth) (refusal :
   one_typed name bytes = one_after (TokensOf name bytes) (λ tokens. After (SourceOf name bytes tokens) (ProgramOf name bytes)) (one_tokens name bytes)
       (λ tokens. one_after (SourceOf name bytes tokens) (ProgramOf name bytes) (one_source name bytes tokens) (one_checked name bytes))
 
+  one_made : (count turns : ℕ) → HasOne (MadeOutcome count turns)
+  one_made count turns =
+      one_after (TypedOf [] (make_source count)) (λ p. After (Gives (cleared turns (text [] (make_source count) p))) (λ q. Gives (Ok (MadeOf count (run_scale turns q) (joint_of turns q)))))
+      (one_typed [] (make_source count))
+      (λ p. one_after (Gives (cleared turns (text [] (make_source count) p))) (λ q. Gives (Ok (MadeOf count (run_scale turns q) (joint_of turns q))))
+      (one_given (cleared turns (text [] (make_source count) p))) (λ q. one_given (Ok (MadeOf count (run_scale turns q) (joint_of turns q)))))
+
   one_read : (contents : List ℕ → List ℕ) (name : List ℕ) → HasOne (TextOf contents name)
   one_read contents name =
       one_after (Gives (source_of contents name)) (λ bytes. After (TypedOf name bytes) (λ p. Gives (Ok (text name bytes p)))) (one_given (source_of contents name))
@@ -219,13 +233,13 @@ module _ (reading : IsOneReading) (one : OneProgram) (both : NotBoth) (refusal :
         one_after (ClearedOf contents task) (CommandOutcome contents task.command task.turns)
         (one_after (Each (TextOf contents) task.files) (Each (λ t. Gives (cleared task.turns t)))
         (one_each (TextOf contents) (one_read contents) task.files) (one_each (λ t. Gives (cleared task.turns t)) (λ t. one_given (cleared task.turns t))))
-        (one_command tables_are_one hypers_are_one averages_are_one contents task.turns task.command)
+        (one_command one_made tables_are_one hypers_are_one averages_are_one contents task.turns task.command)
 
     one_outcome : (contents : List ℕ → List ℕ) (task : Option Task) → HasOne (SomeOutcome contents task)
     one_outcome contents None = one_given (Err Usage)
     one_outcome contents (Some task) = one_task contents task
 
-    pub one_answer : OneReport → (words : List (List ℕ)) (contents : List ℕ → List ℕ) (a b : Answer) → IsAnswer words contents a → IsAnswer words contents b → a ≡ b
-    one_answer reports_are_one words contents a b p q =
+    pub one_answer : OneReport → OnlyOneTrail → (words : List (List ℕ)) (contents : List ℕ → List ℕ) (a b : Answer) → IsAnswer words contents a → IsAnswer words contents b → a ≡ b
+    one_answer reports_are_one trails_are_one words contents a b p q =
         let results : p.result ≡ q.result = one_outcome contents (task_of words) p.result q.result p.outcome q.outcome in
-        one_settled rows_are_one hypers_are_one reports_are_one q.result a b (subst (λ (r : Result Statement Refused). Settled r a) results p.settled) q.settled
+        one_settled rows_are_one hypers_are_one reports_are_one trails_are_one q.result a b (subst (λ (r : Result Statement Refused). Settled r a) results p.settled) q.settled

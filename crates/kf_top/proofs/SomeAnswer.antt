@@ -28,11 +28,13 @@ use Rattle.kf_gain.specs.TableLaws.{SomeTable, TablesHaveActions}
 use Rattle.kf_gain.specs.Tables.{IsTable}
 use Rattle.kf_gain.specs.Vulnerabilities.{width}
 use Rattle.kf_report.specs.Reports.{Leakage}
-use Rattle.kf_top.specs.Answer.{Statement, HyperOf, TracesOf, ChannelOf, ReportOf, IsText, Shown, Refused, Usage, NotInitial, BadTable, WideGain}
+use Rattle.kf_make.specs.Making.{make_source}
+use Rattle.kf_run.specs.Laws.{SomeTrail}
+use Rattle.kf_top.specs.Answer.{Statement, HyperOf, TracesOf, ChannelOf, ReportOf, TrailOf, MadeOf, IsText, Shown, Refused, Usage, NotInitial, BadTable, WideGain}
 use Rattle.kf_top.specs.Ends.{Answer, Settled, IsAnswer, showing, refusing}
-use Rattle.kf_top.specs.Outcome.{Step, After, Gives, Each, Text, Fault, fault, bad_text, token_fault, syntax_fault, type_fault, IsBad, TokensOf, SourceOf, ProgramOf, TypedOf, TextOf, cleared, ClearedOf, table_word, TableOf, TableIn, GainIn, ReportIn, channel_statement, CommandOutcome, TaskOutcome, SomeOutcome, Outcome, source_of}
-use Rattle.kf_top.specs.Task.{Command, Hyper, Traces, Channel, Leak, Task, task_of}
-use Rattle.kf_text.specs.Texts.{hyper_text, trace_text, channel_text}
+use Rattle.kf_top.specs.Outcome.{Step, After, Gives, Each, Text, Fault, fault, bad_text, token_fault, syntax_fault, type_fault, IsBad, TokensOf, SourceOf, ProgramOf, TypedOf, TextOf, cleared, ClearedOf, table_word, TableOf, TableIn, GainIn, ReportIn, channel_statement, MadeOutcome, CommandOutcome, TaskOutcome, SomeOutcome, Outcome, source_of}
+use Rattle.kf_top.specs.Task.{Command, Hyper, Traces, Channel, Trail, Leak, Make, Task, task_of}
+use Rattle.kf_text.specs.Texts.{hyper_text, trace_text, channel_text, trail_text, make_text}
 use Rattle.kf_text.specs.ReportTexts.{report_text}
 
 -- ---- steps
@@ -108,7 +110,7 @@ abbrev HasText : Statement → Type 0
 HasText (ReportOf g scale joint) = HasActions g
 HasText statement = Unit {0}
 
-module _ (rows_exist : RowsExist) (hypers_exist : HypersExist) (secrets_exist : SomeSecrets) (reports_exist : SomeReport) where
+module _ (rows_exist : RowsExist) (hypers_exist : HypersExist) (secrets_exist : SomeSecrets) (reports_exist : SomeReport) (trails_exist : SomeTrail) where
   some_text : (statement : Statement) → HasText statement → (bytes : List ℕ) × IsText statement bytes
   some_text (HyperOf target scale joint) has = let h = hypers_exist joint in (hyper_text target scale h.0, (h.0, h.1, refl))
   some_text (TracesOf target scale joint) has = let rows = rows_exist joint in (trace_text target scale rows.0, (rows.0, rows.1, refl))
@@ -121,6 +123,8 @@ module _ (rows_exist : RowsExist) (hypers_exist : HypersExist) (secrets_exist : 
       let r = reports_exist g h.0 has in
       let l : Leakage = record { prior = r.0.0; posterior = r.1.0; whole = scale * over_of g } in
       (report_text g l, (h.0, h.1, (l, record { prior = r.0.1; posterior = r.1.1; whole = refl }, refl)))
+  some_text (MadeOf count scale joint) has = let h = hypers_exist joint in (make_text count scale h.0, (h.0, h.1, refl))
+  some_text (TrailOf turns p) has = let counts = trails_exist turns p in (trail_text counts.0, (counts.0, counts.1, refl))
 
   -- each result whose statement has a text is that of some answer
   settled : (r : Result Statement Refused) → ((statement : Statement) → r ≡ Ok statement → HasText statement) → (answer : Answer) × Settled r answer
@@ -162,11 +166,14 @@ some_report hypers_exist averages_exist scale joint g =
 
 -- ---- commands
 
-module _ (tables_exist : SomeTable) (hypers_exist : HypersExist) (averages_exist : SomeAverage) (contents : List ℕ → List ℕ) (turns : ℕ) where
+module _ (made_exist : (count turns : ℕ) → HasSome (MadeOutcome count turns)) (tables_exist : SomeTable) (hypers_exist : HypersExist) (averages_exist : SomeAverage) (contents : List ℕ → List ℕ)
+    (turns : ℕ) where
   some_command : (command : Command) (ps : List ProgramTree) → HasSome (CommandOutcome contents command turns ps)
   some_command Hyper (p ∷ []) = some_given (Ok (HyperOf p.target (run_scale turns p) (joint_of turns p)))
   some_command Traces (p ∷ []) = some_given (Ok (TracesOf p.target (run_scale turns p) (joint_of turns p)))
   some_command Channel (p ∷ []) = some_given (channel_statement turns p)
+  some_command (Make count) [] = made_exist count turns
+  some_command Trail (p ∷ []) = some_given (Ok (TrailOf turns p))
   some_command (Leak g) (p ∷ []) =
       some_after (GainIn contents p.target g) (ReportIn (run_scale turns p) (joint_of turns p))
       (λ read _. some_report hypers_exist averages_exist (run_scale turns p) (joint_of turns p) read) (some_gain tables_exist contents p.target g)
@@ -193,6 +200,8 @@ module _ (tables_have_actions : TablesHaveActions) (contents : List ℕ → List
   command_text Hyper turns (p ∷ []) statement is = stated true (HyperOf p.target (run_scale turns p) (joint_of turns p)) statement Usage tt is
   command_text Traces turns (p ∷ []) statement is = stated true (TracesOf p.target (run_scale turns p) (joint_of turns p)) statement Usage tt is
   command_text Channel turns (p ∷ []) statement is = stated (all_initial p.target) (ChannelOf p.target (joint_of turns p)) statement NotInitial tt is
+  command_text (Make count) turns [] statement is = stated true (MadeOf count (run_scale turns is.2.0) (joint_of turns is.2.0)) statement Usage tt is.2.2
+  command_text Trail turns (p ∷ []) statement is = stated true (TrailOf turns p) statement Usage tt is
   command_text (Leak word) turns (p ∷ []) statement is =
       stated (nat_le (run_scale turns p * is.2.0) limit) (ReportOf is.0 (run_scale turns p) (joint_of turns p)) statement WideGain
       (read_gain p.target word is.0 is.1) is.2.2
@@ -223,6 +232,13 @@ module _ (read : (src : List ℕ) → ((ts : List Token) × IsTokens src ts) ⊎
       (λ tree is. some_program name bytes tree (built bytes tokens tree is.program)) (some_source name bytes tokens))
       (some_tokens name bytes)
 
+  some_made : (count turns : ℕ) → HasSome (MadeOutcome count turns)
+  some_made count turns =
+      some_after (TypedOf [] (make_source count)) (λ p. After (Gives (cleared turns (text [] (make_source count) p))) (λ q. Gives (Ok (MadeOf count (run_scale turns q) (joint_of turns q)))))
+      (λ p _. some_after (Gives (cleared turns (text [] (make_source count) p))) (λ q. Gives (Ok (MadeOf count (run_scale turns q) (joint_of turns q))))
+      (λ q _. some_given (Ok (MadeOf count (run_scale turns q) (joint_of turns q)))) (some_given (cleared turns (text [] (make_source count) p))))
+      (some_typed [] (make_source count))
+
   some_read : (contents : List ℕ → List ℕ) (name : List ℕ) → HasSome (TextOf contents name)
   some_read contents name =
       some_after (Gives (source_of contents name)) (λ bytes. After (TypedOf name bytes) (λ p. Gives (Ok (text name bytes p))))
@@ -233,7 +249,7 @@ module _ (read : (src : List ℕ) → ((ts : List Token) × IsTokens src ts) ⊎
     some_task : (contents : List ℕ → List ℕ) (task : Task) → HasSome (TaskOutcome contents task)
     some_task contents task =
         some_after (ClearedOf contents task) (CommandOutcome contents task.command task.turns)
-        (λ ps _. some_command tables_exist hypers_exist averages_exist contents task.turns task.command ps)
+        (λ ps _. some_command some_made tables_exist hypers_exist averages_exist contents task.turns task.command ps)
         (some_after (Each (TextOf contents) task.files) (Each (λ t. Gives (cleared task.turns t)))
         (λ ts _. some_each (λ t. Gives (cleared task.turns t)) (λ t. some_given (cleared task.turns t)) ts)
         (some_each (TextOf contents) (some_read contents) task.files))
@@ -242,9 +258,9 @@ module _ (read : (src : List ℕ) → ((ts : List Token) × IsTokens src ts) ⊎
     some_outcome contents None = some_given (Err Usage)
     some_outcome contents (Some task) = some_task contents task
 
-    pub some_answer : TablesHaveActions → RowsExist → SomeSecrets → SomeReport → (words : List (List ℕ)) (contents : List ℕ → List ℕ) → (answer : Answer) × IsAnswer words contents answer
-    some_answer tables_have_actions rows_exist secrets_exist reports_exist words contents =
+    pub some_answer : TablesHaveActions → RowsExist → SomeSecrets → SomeReport → SomeTrail → (words : List (List ℕ)) (contents : List ℕ → List ℕ) → (answer : Answer) × IsAnswer words contents answer
+    some_answer tables_have_actions rows_exist secrets_exist reports_exist trails_exist words contents =
         let r = some_outcome contents (task_of words) in
-        let s = settled rows_exist hypers_exist secrets_exist reports_exist r.0
+        let s = settled rows_exist hypers_exist secrets_exist reports_exist trails_exist r.0
         (λ statement is. task_text tables_have_actions contents (task_of words) statement (subst (λ (o : Result Statement Refused). Outcome words contents o) is r.1)) in
         (s.0, record { result = r.0; outcome = r.1; settled = s.1 })

@@ -23,9 +23,9 @@ use Rattle.kf_core.specs.Joint.{joint_of}
 use Rattle.kf_channel.specs.Channels.{all_initial}
 use Rattle.kf_gain.specs.Gains.{Table}
 use Rattle.kf_top.specs.Answer.{Statement, Refused, ChannelOf, NotInitial, WideScale}
-use Rattle.kf_top.specs.Outcome.{Step, After, Each, Fault, Text, token_fault, syntax_fault, type_fault, bad_text, TokensOf, SourceOf, ProgramOf, TextOf, bad_run, narrow, cleared, ClearedOf, Gives, channel_statement, source_of, CommandOutcome, TaskOutcome}
+use Rattle.kf_top.specs.Outcome.{Step, After, Each, Fault, Text, token_fault, syntax_fault, type_fault, bad_text, TokensOf, SourceOf, ProgramOf, TextOf, bad_run, narrow, cleared, ClearedOf, Gives, channel_statement, source_of, MadeOutcome, CommandOutcome, TaskOutcome}
 use Rattle.kf_top.specs.Stops.{Answers, is_bytes, is_text, is_cleared, is_alone}
-use Rattle.kf_top.specs.Task.{Command, Task, Leak, on_file, named, tables_of}
+use Rattle.kf_top.specs.Task.{Command, Task, Leak, Make, on_file, on_files, named, tables_of}
 use Rattle.kf_support.specs.declared.cleared.Cleared.{Cleared}
 use Rattle.kf_top.specs.Views.{ShowsStatement, gain_of}
 use Rattle.kf_top.specs.declared.gain_words.GainWord.{GainWord}
@@ -105,6 +105,12 @@ module _ (contents : List ℕ → List ℕ) (command : Command) (turns : ℕ) wh
       then_answers (ClearedOf contents (on_file command name turns)) (CommandOutcome contents command turns) (q ∷ []) r
       (subst (λ (m : List ℕ). (ys : List ProgramTree) × (q ∷ [] ≡ ys) × ClearedOf contents (on_file command m turns) (Ok ys)) same way)
       (subst (λ (k : ℕ). Answers ShowsStatement r (CommandOutcome contents command k (q ∷ []))) often answer)
+
+-- what a made text comes to is what its task comes to, which has no file
+pub made_answers : (contents : List ℕ → List ℕ) (count turns : ℕ) (r : Result Done Stop) → Answers ShowsStatement r (MadeOutcome count turns)
+    → Answers ShowsStatement r (TaskOutcome contents (on_files (Make count) [] turns))
+made_answers contents count turns r answer =
+    next_answers ShowsStatement (ClearedOf contents (on_files (Make count) [] turns)) (CommandOutcome contents (Make count) turns) r [] ([], refl, refl) answer
 
 -- a task on one file names it
 pub named_alone : (name said : List ℕ) → said ≡ name → Contains (name ∷ []) said

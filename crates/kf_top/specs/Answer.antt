@@ -3,13 +3,15 @@ use Rattle.std.specs.Prelude.{◌≡◌, ℕ, List, [], ◌∷◌, ◌++◌, Boo
 use Rattle.std.specs.Fmt.{decimal}
 use Rattle.kf_value.specs.Targets.{Item}
 use Rattle.kf_core.specs.Joint.{Cell}
+use Rattle.kf_core.specs.Programs.{ProgramTree}
+use Rattle.kf_core.specs.Pushing.{IsTrail}
 use Rattle.kf_core.specs.Rows.{AreRowsOf, IsHyperOf}
 use Rattle.kf_hyper.specs.Hypers.{Inner}
 use Rattle.kf_hyper.specs.Traces.{Row}
 use Rattle.kf_channel.specs.Channels.{AreSecrets}
 use Rattle.kf_gain.specs.Gains.{GainOf, TableTree}
 use Rattle.kf_report.specs.Reports.{Leakage, IsLeakage}
-use Rattle.kf_text.specs.Texts.{hyper_text, trace_text, channel_text}
+use Rattle.kf_text.specs.Texts.{hyper_text, trace_text, channel_text, trail_text, make_text}
 use Rattle.kf_text.specs.ReportTexts.{report_text}
 
 -- what the bytes of an answer state
@@ -22,6 +24,10 @@ pub data Statement : Type 0 where
   ChannelOf : List Item → List Cell → Statement
   -- how much a gain's best action gains by what is shown
   ReportOf : GainOf TableTree → ℕ → List Cell → Statement
+  -- how many beliefs stand behind each statement of a program, whose loops turn at most so often
+  TrailOf : ℕ → ProgramTree → Statement
+  -- the hyper of so many noisy observations, by its scale and joint
+  MadeOf : ℕ → ℕ → List Cell → Statement
 
 -- the bytes are the statement's text
 abbrev pub IsText : Statement → List ℕ → Type 0
@@ -34,6 +40,8 @@ IsText (ChannelOf target joint) bytes =
     × ((secrets : List ℕ) × AreSecrets rows secrets × (bytes ≡ channel_text target rows secrets))
 IsText (ReportOf g scale joint) bytes =
     (inners : List Inner) × IsHyperOf joint inners × ((l : Leakage) × IsLeakage g scale inners l × (bytes ≡ report_text g l))
+IsText (MadeOf count scale joint) bytes = (inners : List Inner) × IsHyperOf joint inners × (bytes ≡ make_text count scale inners)
+IsText (TrailOf turns p) bytes = (counts : List ℕ) × IsTrail turns p counts × (bytes ≡ trail_text counts)
 
 -- the bytes for out, and whether the answer is yes
 pub record Shown : Type 0 where

@@ -32,9 +32,10 @@ use Rattle.kf_gain.specs.declared.error.TableError.TheVariants as table
 use Rattle.kf_gain.specs.Gains.{GainOf, Bayes, Tries, Guessing, Table, TableTree}
 use Rattle.kf_gain.specs.Tables.{IsTable}
 use Rattle.kf_gain.specs.Vulnerabilities.{IsWidth}
-use Rattle.kf_top.specs.Answer.{Statement, HyperOf, TracesOf, ChannelOf, ReportOf, Refused, Usage, TooLong, BadText, BadRun, WideScale, NotInitial, BadTable, WideGain}
+use Rattle.kf_make.specs.Making.{make_source}
+use Rattle.kf_top.specs.Answer.{Statement, HyperOf, TracesOf, ChannelOf, ReportOf, TrailOf, MadeOf, Refused, Usage, TooLong, BadText, BadRun, WideScale, NotInitial, BadTable, WideGain}
 use Rattle.kf_top.specs.Place.{line_at, column_at}
-use Rattle.kf_top.specs.Task.{Command, Task, Hyper, Traces, Channel, Leak, task_of}
+use Rattle.kf_top.specs.Task.{Command, Task, Hyper, Traces, Channel, Trail, Leak, Make, task_of}
 
 -- a step towards an answer: which results it may have
 abbrev pub Step : Type 0 → Type 1
@@ -205,11 +206,20 @@ abbrev pub ReportIn : ℕ → List Cell → GainOf TableTree → Step Statement
 ReportIn scale joint g result =
     (m : ℕ) × HasWidth joint g m × (result ≡ (if nat_le (scale * m) limit then Ok (ReportOf g scale joint) else Err WideGain))
 
+-- the made text is typed and cleared as any other, and stands in no file
+abbrev pub MadeOutcome : ℕ → ℕ → Step Statement
+MadeOutcome count turns =
+    After (TypedOf [] (make_source count)) (λ p.
+    After (Gives (cleared turns (record { name = []; bytes = make_source count; program = p }))) (λ q.
+    Gives (Ok (MadeOf count (run_scale turns q) (joint_of turns q)))))
+
 -- what a command comes to for its programs; `task_of` gives each command as many files as it has programs here
 abbrev pub CommandOutcome : (List ℕ → List ℕ) → Command → ℕ → List ProgramTree → Step Statement
 CommandOutcome contents Hyper turns (p ∷ []) = Gives (Ok (HyperOf p.target (run_scale turns p) (joint_of turns p)))
 CommandOutcome contents Traces turns (p ∷ []) = Gives (Ok (TracesOf p.target (run_scale turns p) (joint_of turns p)))
 CommandOutcome contents Channel turns (p ∷ []) = Gives (channel_statement turns p)
+CommandOutcome contents Trail turns (p ∷ []) = Gives (Ok (TrailOf turns p))
+CommandOutcome contents (Make count) turns [] = MadeOutcome count turns
 CommandOutcome contents (Leak g) turns (p ∷ []) = After (GainIn contents p.target g) (ReportIn (run_scale turns p) (joint_of turns p))
 CommandOutcome contents command turns ps = Gives (Err Usage)
 

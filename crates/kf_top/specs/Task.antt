@@ -1,6 +1,6 @@
 -- Believed: what a list of words asks for, by the table of commands.
 use Rattle.std.specs.Prelude.{ℕ, List, [], ◌∷◌, ◌++◌, Bool, true, false, not, ◌&&◌, ◌||◌, ◌==◌, Option, None, Some, is_some, codes, length, find}
-use Rattle.std.specs.Prelude.{if◌then◌else◌, option_map, option_and_then}
+use Rattle.std.specs.Prelude.{if◌then◌else◌, option_map, option_and_then, nat_le}
 use Rattle.std.specs.Str.{bytes_eq}
 use Rattle.kf_gain.specs.Gains.{GainOf, Table}
 use Rattle.kf_top.specs.GainWords.{gain_said}
@@ -11,8 +11,11 @@ pub data Command : Type 0 where
   Hyper : Command
   Traces : Command
   Channel : Command
+  Trail : Command
   -- under a gain, whose table stands in the file of this name
   Leak : GainOf (List ℕ) → Command
+  -- the text of so many noisy observations
+  Make : ℕ → Command
 
 -- a command, the files of its programs, and how often a loop may turn
 pub record Task : Type 0 where
@@ -20,31 +23,62 @@ pub record Task : Type 0 where
   pub files : List (List ℕ)
   pub turns : ℕ
 
--- what stands behind a command's word: how many files, whether `--gain`, and whether `--json` may; and which command it is by that gain
+-- a command on files, whose loops may turn so often
+abbrev pub on_files : Command → List (List ℕ) → ℕ → Task
+on_files command files turns = record { command = command; files = files; turns = turns }
+
+-- a command on one file
+abbrev pub on_file : Command → List ℕ → ℕ → Task
+on_file command file turns = on_files command (file ∷ []) turns
+
+-- what stands behind a command's word: how many values, whether `--gain`, and whether `--json` may; and which task it is, by these values
+-- and that gain, once its turns are known
 pub record Row : Type 0 where
-  pub files : ℕ
+  pub values : ℕ
   pub needs_gain : Bool
   pub takes_json : Bool
-  pub command : Option (List ℕ) → Option Command
+  pub task : List (List ℕ) → Option (List ℕ) → Option (ℕ → Task)
 
 -- a row of a command on so many files, with neither `--gain` nor `--json`
 abbrev pub plain : Command → ℕ → Row
-plain command files = record { files = files; needs_gain = false; takes_json = false; command = λ gain. Some command }
+plain command files = record {
+  values = files;
+  needs_gain = false;
+  takes_json = false;
+  task = λ names gain. Some (on_files command names);
+}
 
 -- a row of a command on so many files, with the gain that `--gain` names
 abbrev pub with_gain : (GainOf (List ℕ) → Command) → ℕ → Row
 with_gain command files = record {
-  files = files;
+  values = files;
   needs_gain = true;
   takes_json = false;
-  command = λ gain. option_map command (option_and_then gain_said gain);
+  task = λ names gain. option_map (λ g. on_files (command g) names) (option_and_then gain_said gain);
+}
+
+-- a number of observations, from 1 to 60
+abbrev pub observations_said : List ℕ → Option ℕ
+observations_said word = option_and_then (λ n. if nat_le n 60 then Some n else None) (number_said word)
+
+abbrev pub first_of : List (List ℕ) → Option (List ℕ)
+first_of [] = None
+first_of (word ∷ words) = Some word
+
+-- the row of `make`, which has one value, a number, and reads no file
+abbrev pub making : Row
+making = record {
+  values = 1;
+  needs_gain = false;
+  takes_json = false;
+  task = λ words gain. option_map (λ n. on_files (Make n) []) (option_and_then observations_said (first_of words));
 }
 
 -- the table of commands, by their words
 abbrev pub commands : List (List ℕ × Row)
 commands =
     (codes "hyper", plain Hyper 1) ∷ (codes "traces", plain Traces 1) ∷ (codes "channel", plain Channel 1)
-    ∷ (codes "leak", with_gain Leak 1) ∷ []
+    ∷ (codes "leak", with_gain Leak 1) ∷ (codes "trail", plain Trail 1) ∷ (codes "make", making) ∷ []
 
 -- the row of a command's word
 abbrev pub row_of : List ℕ → Option Row
@@ -63,25 +97,17 @@ abbrev pub turns_of : Option (List ℕ) → Option ℕ
 turns_of None = Some default_turns
 turns_of (Some word) = number_said word
 
--- a command on files
-abbrev pub on_files : Command → List (List ℕ) → ℕ → Task
-on_files command files turns = record { command = command; files = files; turns = turns }
-
--- a command on one file
-abbrev pub on_file : Command → List ℕ → ℕ → Task
-on_file command file turns = on_files command (file ∷ []) turns
-
--- the task of a row and the files behind the command's word, where their number and the options are the row's
+-- the task of a row and the values behind the command's word, where their number and the options are the row's
 abbrev pub row_task : List (List ℕ) → Said → Row → Option Task
-row_task files said row =
-    if length files == row.files && options_fit row said
-    then option_and_then (λ turns. option_map (λ command. on_files command files turns) (row.command said.gain)) (turns_of said.turns)
+row_task values said row =
+    if length values == row.values && options_fit row said
+    then option_and_then (λ turns. option_map (λ task. task turns) (row.task values said.gain)) (turns_of said.turns)
     else None
 
--- the first value is the command's word, the others are its files
+-- the first value is the command's word, the others are its files or its number
 abbrev pub task_of_values : List (List ℕ) → Said → Option Task
 task_of_values [] said = None
-task_of_values (word ∷ files) said = option_and_then (row_task files said) (row_of word)
+task_of_values (word ∷ values) said = option_and_then (row_task values said) (row_of word)
 
 -- the task of what was read
 abbrev pub task_said : Said → Option Task

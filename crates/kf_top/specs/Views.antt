@@ -1,5 +1,5 @@
 -- For bodies: what the code's values show.
-use Rattle.std.specs.Prelude.{ℕ, List, ◌≤◌}
+use Rattle.std.specs.Prelude.{ℕ, List, [], ◌≤◌}
 use Rattle.kf_core.specs.Views.{program_tree}
 use Rattle.kf_top.specs.Answer.{Shown, Statement, States}
 use Rattle.kf_gain.specs.Gains.{GainOf, Bayes, Tries, Guessing, Table}
@@ -25,6 +25,8 @@ abbrev pub task_of_job : Job → task.Task
 task_of_job (job.Hyper file turns) = task.on_file task.Hyper file turns
 task_of_job (job.Traces file turns) = task.on_file task.Traces file turns
 task_of_job (job.Channel file turns) = task.on_file task.Channel file turns
+task_of_job (job.Trail file turns) = task.on_file task.Trail file turns
+task_of_job (job.Make count turns) = task.on_files (task.Make count) [] turns
 task_of_job (job.Leak file gain turns) = task.on_file (task.Leak (gain_of gain)) file turns
 
 -- a file's text, by its name
@@ -34,6 +36,11 @@ text_of name t = record { name = name; bytes = t.bytes.items; program = program_
 -- a task's loops may turn so often
 abbrev pub HasTurns : task.Task → Type 0
 HasTurns t = (1 ≤ t.turns) × (t.turns ≤ 65535)
+
+-- no more observations than the scale of a made text can bear
+abbrev pub IsFew : task.Command → Type 0
+IsFew (task.Make count) = count ≤ 60
+IsFew command = Unit {0}
 
 abbrev pub ShowsStatement : Done → Statement → Type 0
 ShowsStatement done statement = States (shown done) statement

@@ -1,5 +1,5 @@
 -- For bodies: what the code's values show of the words.
-use Rattle.std.specs.Prelude.{ℕ, List, map, Option, Some, option_map, option_and_then}
+use Rattle.std.specs.Prelude.{ℕ, List, [], map, Option, Some, option_map, option_and_then}
 use Rattle.kf_top.specs.GainWords.{gain_said}
 use Rattle.kf_top.specs.Said as spec
 use Rattle.kf_top.specs.Task as task
@@ -16,17 +16,19 @@ said_shown s = record {
   json = s.json;
 }
 
--- which command a kind is, by what `--gain` says
-abbrev pub command_shown : Kind → Option (List ℕ) → Option task.Command
-command_shown kind.Hyper gain = Some task.Hyper
-command_shown kind.Traces gain = Some task.Traces
-command_shown kind.Channel gain = Some task.Channel
-command_shown kind.Leak gain = option_map task.Leak (option_and_then gain_said gain)
+-- which task a kind is, by the values behind its word and what `--gain` says
+abbrev pub task_shown : Kind → List (List ℕ) → Option (List ℕ) → Option (ℕ → task.Task)
+task_shown kind.Hyper names gain = Some (task.on_files task.Hyper names)
+task_shown kind.Traces names gain = Some (task.on_files task.Traces names)
+task_shown kind.Channel names gain = Some (task.on_files task.Channel names)
+task_shown kind.Trail names gain = Some (task.on_files task.Trail names)
+task_shown kind.Leak names gain = option_map (λ g. task.on_files (task.Leak g) names) (option_and_then gain_said gain)
+task_shown kind.Make words gain = option_map (λ n. task.on_files (task.Make n) []) (option_and_then task.observations_said (task.first_of words))
 
 abbrev pub row_shown : Row → task.Row
 row_shown row = record {
-  files = row.files;
+  values = row.values;
   needs_gain = row.needs_gain;
   takes_json = row.takes_json;
-  command = command_shown row.command;
+  task = task_shown row.command;
 }

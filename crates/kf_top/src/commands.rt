@@ -10,15 +10,17 @@ pub(crate) enum Kind {
     Hyper,
     Traces,
     Channel,
+    Trail,
     Leak,
+    Make,
 }
 
 /// What stands behind a command's word.
 #[derive(Clone, Copy)]
 pub(crate) struct Row {
     pub(crate) command: Kind,
-    /// How many files.
-    pub(crate) files: usize,
+    /// How many values stand behind the word: files, or one number.
+    pub(crate) values: usize,
     /// Whether `--gain` must stand; elsewhere it may not.
     pub(crate) needs_gain: bool,
     /// Whether `--json` may stand.
@@ -26,12 +28,12 @@ pub(crate) struct Row {
 }
 
 // A row with neither `--gain` nor `--json`.
-fn plain(command: Kind, files: usize) -> Row
-    ensures { result ≡ record { command = command; files = files; needs_gain = false; takes_json = false } }
+fn plain(command: Kind, values: usize) -> Row
+    ensures { result ≡ record { command = command; values = values; needs_gain = false; takes_json = false } }
 {
     Row {
         command,
-        files,
+        values,
         needs_gain: false,
         takes_json: false,
     }
@@ -45,10 +47,12 @@ pub(crate) fn row_of(word: &str) -> Option<Row>
         "hyper" => Some(plain(Kind::Hyper, 1)),
         "traces" => Some(plain(Kind::Traces, 1)),
         "channel" => Some(plain(Kind::Channel, 1)),
+        "trail" => Some(plain(Kind::Trail, 1)),
         "leak" => Some(Row {
             needs_gain: true,
             ..plain(Kind::Leak, 1)
         }),
+        "make" => Some(plain(Kind::Make, 1)),
         _ => None,
     }
 }

@@ -6,6 +6,7 @@ use kf_core::joint_laws;
 use kf_gain::{average_laws, gain_laws, table_laws};
 use kf_lex::one_reading;
 use kf_parse::{grammar, refusals};
+use kf_run::trail_laws;
 
 /// A law of the definitions: whatever the words and whatever the files hold, there is exactly one defined answer. It does
 /// nothing when it runs.
@@ -21,4 +22,5 @@ pub fn exactly_one_answer()
     average_laws();
     gain_laws();
     table_laws();
+    trail_laws();
 }

@@ -15,11 +15,11 @@ ghost use Rattle.kf_top.specs.Views.{gain_of, ShowsStatement};
 
 use crate::clearing::source;
 use crate::gain_words::GainWord;
-use crate::hypers::hyper_of;
 use crate::stops::{Done, Refusal, Stop};
 use kf_gain::{Gain, GainFault, GainTable, TableError, read_table};
 use kf_io::Files;
 use kf_report::report_of;
+use kf_run::hyper_of;
 use kf_support::Cleared;
 use kf_text::report_text;
 use kf_value::Target;

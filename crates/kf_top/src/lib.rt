@@ -4,7 +4,6 @@
 mod clearing;
 mod commands;
 mod gain_words;
-mod hypers;
 mod law;
 mod leaking;
 mod places;

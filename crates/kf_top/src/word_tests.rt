@@ -26,12 +26,23 @@ fn leak_by(gain: &GainWord) -> &'static str {
     }
 }
 
+// The command `make` with its number.
+fn made_of(count: u32) -> &'static str {
+    match count {
+        1 => "make 1",
+        60 => "make 60",
+        _ => "make",
+    }
+}
+
 // A job's command, file and turns.
 fn parts(job: &Job) -> (&'static str, &str, u32) {
     match job {
         Job::Hyper { file, turns } => ("hyper", file.as_str(), *turns),
         Job::Traces { file, turns } => ("traces", file.as_str(), *turns),
         Job::Channel { file, turns } => ("channel", file.as_str(), *turns),
+        Job::Trail { file, turns } => ("trail", file.as_str(), *turns),
+        Job::Make { count, turns } => (made_of(*count), "", *turns),
         Job::Leak { file, gain, turns } => (leak_by(gain), file.as_str(), *turns),
     }
 }
@@ -71,6 +82,9 @@ fn words_that_are_taken(rt: HostRuntime) -> Result<(), Fail> {
         ("kuifje hyper p.kf", ("hyper", "p.kf", 1024)),
         ("kuifje traces p.kf", ("traces", "p.kf", 1024)),
         ("kuifje channel p.kf", ("channel", "p.kf", 1024)),
+        ("kuifje trail p.kf --turns 9", ("trail", "p.kf", 9)),
+        ("kuifje make 00001 --turns 9", ("make 1", "", 9)),
+        ("kuifje make 60", ("make 60", "", 1024)),
         ("--help hyper p.kf", ("hyper", "p.kf", 1024)),
         ("kuifje hyper --turns 5 p.kf", ("hyper", "p.kf", 5)),
         ("kuifje hyper p.kf --turns=5", ("hyper", "p.kf", 5)),

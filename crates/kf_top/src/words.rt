@@ -3,9 +3,9 @@ ghost use Rattle.std.specs.Char.{is_ascii_digit};
 ghost use Rattle.std.specs.List.{list_all};
 ghost use Rattle.kf_top.specs.GainWords.{gain_said as gain_in_word};
 ghost use Rattle.kf_top.specs.Numerals.{is_numeral as is_numeral_word, number_said as number_in};
-ghost use Rattle.kf_top.specs.Task.{on_files, task_of, task_said, turns_of};
-ghost use Rattle.kf_top.specs.WordViews.{command_shown, said_shown};
-ghost use Rattle.kf_top.specs.Views.{gain_of, task_of_job, HasTurns};
+ghost use Rattle.kf_top.specs.Task.{observations_said as observations_in, task_of, task_said, turns_of};
+ghost use Rattle.kf_top.specs.WordViews.{said_shown, task_shown};
+ghost use Rattle.kf_top.specs.Views.{gain_of, task_of_job, HasTurns, IsFew};
 
 use crate::commands::{Kind, options_fit, row_of};
 use crate::gain_words::{GainWord, gain_said};
@@ -31,10 +31,20 @@ pub enum Job {
         file: Name,
         turns: u32,
     },
+    /// How many beliefs stand behind each of its statements.
+    Trail {
+        file: Name,
+        turns: u32,
+    },
     /// How much a gain's best action gains by what is shown.
     Leak {
         file: Name,
         gain: GainWord,
+        turns: u32,
+    },
+    /// The hyper of so many noisy observations of the parity of one of 64 values, 1 to 60, summed up.
+    Make {
+        count: u32,
         turns: u32,
     },
 }
@@ -133,26 +143,73 @@ fn gain_of_option(alloc: Global, word: Option<&str>) -> Result<Option<GainWord>,
     }
 }
 
-// A command on one file; none where it needs a gain and `--gain` names none.
-fn on_file(
+/// How many observations a made text may have: with more its scale would pass 2^127 - 1.
+const MOST_OBSERVATIONS: u32 = 60;
+
+// The number of observations that the word says.
+fn observations_said(word: &str) -> Option<u32>
+    ensures said { result ≡ observations_in word.now }
+    ensures few { IfSome result (λ count. count ≤ 60) }
+{
+    let Some(number) = number_said(word) else {
+        return None;
+    };
+    if number <= MOST_OBSERVATIONS {
+        Some(number)
+    } else {
+        None
+    }
+}
+
+// The name of a file.
+fn name_of(alloc: Global, word: &str) -> Result<Name, Mem>
+    ensures { IfOk result (λ name. name ≡ word.now) }
+{
+    Ok(Name::new(word.to_string(alloc)?))
+}
+
+// A command on the one value behind its word, a file's name or a number; none where the value is no such number, or where the
+// command needs a gain and `--gain` names none.
+fn on_value(
     alloc: Global,
     command: Kind,
-    file: &str,
+    value: &str,
     gain: Option<&str>,
     turns: u32,
 ) -> Result<Option<Job>, Mem>
     ensures job { IfOk result (λ job. option_map task_of_job job
-        ≡ option_map (λ c. on_files c (file.now ∷ []) turns) (command_shown command (option_map (λ w. w.now) gain.entry))) }
-    ensures none { IfOk result (λ job. job ≡ None → command_shown command (option_map (λ w. w.now) gain.entry) ≡ None) }
+        ≡ option_map (λ task. task turns) (task_shown command (value.now ∷ []) (option_map (λ w. w.now) gain.entry))) }
+    ensures none { IfOk result (λ job. job ≡ None → task_shown command (value.now ∷ []) (option_map (λ w. w.now) gain.entry) ≡ None) }
     ensures turns { IfOk result (λ job. IfSome job (λ job. (task_of_job job).turns ≡ turns)) }
+    ensures few { IfOk result (λ job. IfSome job (λ job. IsFew (task_of_job job).command)) }
 {
-    let file = Name::new(file.to_string(alloc)?);
     Ok(match command {
-        Kind::Hyper => Some(Job::Hyper { file, turns }),
-        Kind::Traces => Some(Job::Traces { file, turns }),
-        Kind::Channel => Some(Job::Channel { file, turns }),
+        Kind::Hyper => Some(Job::Hyper {
+            file: name_of(alloc, value)?,
+            turns,
+        }),
+        Kind::Traces => Some(Job::Traces {
+            file: name_of(alloc, value)?,
+            turns,
+        }),
+        Kind::Channel => Some(Job::Channel {
+            file: name_of(alloc, value)?,
+            turns,
+        }),
+        Kind::Trail => Some(Job::Trail {
+            file: name_of(alloc, value)?,
+            turns,
+        }),
         Kind::Leak => match gain_of_option(alloc, gain)? {
-            Some(gain) => Some(Job::Leak { file, gain, turns }),
+            Some(gain) => Some(Job::Leak {
+                file: name_of(alloc, value)?,
+                gain,
+                turns,
+            }),
+            None => None,
+        },
+        Kind::Make => match observations_said(value) {
+            Some(count) => Some(Job::Make { count, turns }),
             None => None,
         },
     })
@@ -163,22 +220,23 @@ fn job_of(alloc: Global, said: Said<'_, '_>) -> Result<Job, WordsError>
     ensures job { IfOk result (λ job. task_said (said_shown said.entry) ≡ Some (task_of_job job)) }
     ensures usage { IsErrOf result WordsError.Usage → task_said (said_shown said.entry) ≡ None }
     ensures turns { IfOk result (λ job. HasTurns (task_of_job job)) }
+    ensures few { IfOk result (λ job. IsFew (task_of_job job).command) }
 {
-    let [word, files @ ..] = said.values else {
+    let [word, values @ ..] = said.values else {
         return Err(WordsError::Usage);
     };
     let Some(row) = row_of(word) else {
         return Err(WordsError::Usage);
     };
-    if files.len() != row.files || !options_fit(row, &said) {
+    if values.len() != row.values || !options_fit(row, &said) {
         return Err(WordsError::Usage);
     }
     let Some(turns) = turns_or_default(said.turns) else {
         return Err(WordsError::Usage);
     };
-    // No row has another number of files.
-    match files {
-        [file] => match on_file(alloc, row.command, file, said.gain, turns)? {
+    // No row has another number of values.
+    match values {
+        [value] => match on_value(alloc, row.command, value, said.gain, turns)? {
             Some(job) => Ok(job),
             None => Err(WordsError::Usage),
         },
@@ -191,6 +249,7 @@ pub fn read_words(alloc: Global, words: &[String]) -> Result<Job, WordsError>
     ensures job { IfOk result (λ job. task_of (map string_bytes words.now) ≡ Some (task_of_job job)) }
     ensures usage { IsErrOf result WordsError.Usage → task_of (map string_bytes words.now) ≡ None }
     ensures turns { IfOk result (λ job. HasTurns (task_of_job job)) }
+    ensures few { IfOk result (λ job. IsFew (task_of_job job).command) }
 {
     let matches = matches_of(alloc, words)?;
     job_of(alloc, said_of(&matches))

@@ -105,6 +105,11 @@ observe choose { x : 3, not x : 1 };
 observe choose { x : 3, not x : 1 };
 ";
 
+const TWICE_TRAIL: &str = "after 0 inners 1
+after 1 inners 2
+after 2 inners 3
+";
+
 const TWICE_HYPER: &str = "target x
 scale 32
 inners 3
@@ -245,4 +250,10 @@ fn examples(rt: HostRuntime) -> Result<(), Fail> {
         ends_over_text(&rt, HYPER, text, End::answer(out))?;
     }
     Ok(())
+}
+
+// The page of the language shows this trail.
+#[test]
+fn trail_of_an_example(rt: HostRuntime) -> Result<(), Fail> {
+    ends_over_text(&rt, "kuifje trail p.kf", TWICE, End::answer(TWICE_TRAIL))
 }

@@ -8,7 +8,7 @@ const TABLE: &str = "kuifje leak p.kf --gain table:g.json";
 const TWO_LINES: &str = "var x : 0..1 := uniform 0..1;\nobserve choose { x : 3, 1 - x : 1 };\n";
 
 // A PIN of three digits, compared until the first difference.
-const THREE_DIGITS: &str = "var a : 0..9 := uniform 0..9;
+pub(super) const THREE_DIGITS: &str = "var a : 0..9 := uniform 0..9;
 var b : 0..9 := uniform 0..9;
 var c : 0..9 := uniform 0..9;
 about old a, old b, old c;

@@ -14,10 +14,10 @@ use kf_value::{Shape, Value};
 
 // What an observer sees of a way, the number of the target's value, and the weight over the whole scale.
 #[derive(Drop)]
-struct Seen {
-    trace: Vec<u8>,
+pub(super) struct Seen {
+    pub(super) trace: Vec<u8>,
     number: u64,
-    weight: u128,
+    pub(super) weight: u128,
 }
 
 // The number of values before a variable, and then its own as the least significant digit.
@@ -56,7 +56,7 @@ fn whole_weight(way: &Way, whole: u128) -> Result<u128, Fail> {
 }
 
 // What is seen of each way.
-fn seen_of(
+pub(super) fn seen_of(
     alloc: Global,
     program: &Program,
     ways: Vec<Way>,
@@ -73,7 +73,7 @@ fn seen_of(
     Ok(seen)
 }
 
-fn plus(sum: u128, weight: u128) -> Result<u128, Fail> {
+pub(super) fn plus(sum: u128, weight: u128) -> Result<u128, Fail> {
     match sum.checked_add(weight) {
         Some(sum) => Ok(sum),
         None => Err(Fail::new("the weight is too large")),
@@ -81,7 +81,7 @@ fn plus(sum: u128, weight: u128) -> Result<u128, Fail> {
 }
 
 // The weight of all that is seen.
-fn weight_of_all(seen: &[Seen]) -> Result<u128, Fail> {
+pub(super) fn weight_of_all(seen: &[Seen]) -> Result<u128, Fail> {
     let mut sum = 0;
     for one in seen {
         sum = plus(sum, one.weight)?;
@@ -90,7 +90,7 @@ fn weight_of_all(seen: &[Seen]) -> Result<u128, Fail> {
 }
 
 // The weight of this trace with this number.
-fn weight_at(seen: &[Seen], trace: &[u8], number: u64) -> Result<u128, Fail> {
+pub(super) fn weight_at(seen: &[Seen], trace: &[u8], number: u64) -> Result<u128, Fail> {
     let mut sum = 0;
     for one in seen {
         if one.number == number && one.trace.as_slice() == trace {
@@ -120,7 +120,7 @@ fn table_of(alloc: Global, program: Program, turns: u32) -> Result<TraceTable, F
 }
 
 // The ways of a program, none of which stops.
-fn all_ways(alloc: Global, program: &Program, turns: u32) -> Result<Vec<Way>, Fail>
+pub(super) fn all_ways(alloc: Global, program: &Program, turns: u32) -> Result<Vec<Way>, Fail>
     requires { IsChecked (program_tree program.now) }
 {
     let found = ways_of(alloc, program, turns)?;

@@ -1,11 +1,11 @@
-use Rattle.std.proofs.Common.{ℕ, List, refl, subst, ◌∙◌}
+use Rattle.std.proofs.Common.{ℕ, List, [], refl, subst, ◌∙◌}
 use Rattle.std.proofs.lemmas.Result.{err_from_is_err_and}
 use Rattle.kf_core.specs.Views.{program_tree}
 use Rattle.kf_support.specs.Cleared.{program_of, turns_of}
 use Rattle.kf_top.specs.Stops.{Causes}
-use Rattle.kf_top.specs.Task.{Command, Hyper, Traces, Channel, Leak, Task, on_file}
+use Rattle.kf_top.specs.Task.{Command, Hyper, Traces, Channel, Trail, Leak, Make, Task, on_file, on_files}
 use Rattle.kf_top.specs.Views.{gain_of}
-use Rattle.kf_top.proofs.Steps.{task_stops, task_answers, named_alone}
+use Rattle.kf_top.proofs.Steps.{made_answers, task_stops, task_answers, named_alone}
 use Rattle.kf_top.proofs.work.work.Goals as goal
 
 pub returns-in_err-cleared-in-Hyper-clause-answer : goal.returns-in_err-cleared-in-Hyper-clause-answer
@@ -80,6 +80,30 @@ returns-in_ok-cleared-in-Channel-clause-causes g c =
     let same = c.in_ok-cleared-in-Channel.ensures.causes task (named_alone c.in-Channel.name c.as_str-in-Channel.result.now c.as_str-in-Channel.ensures) in
     rw c.in-Channel.is (subst (λ (before : List ℕ → ℕ). Causes task before now c.channel.result) same (c.channel.ensures.causes task now refl))
 
+pub returns-in_err-cleared-in-Trail-clause-answer : goal.returns-in_err-cleared-in-Trail-clause-answer
+returns-in_err-cleared-in-Trail-clause-answer g c x e =
+    let p = err_from_is_err_and c.from_residual-in_err-cleared-in-Trail.result c.from_residual-in_err-cleared-in-Trail.ensures.1 in
+    rw (p.1, p.2, c.in-Trail.is) (task_stops x Trail c.in-Trail.turns c.in-Trail.name c.as_str-in-Trail.result.now c.as_str-in-Trail.ensures c.in_err-cleared-in-Trail.field-0.0 (c.in_err-cleared-in-Trail.ensures.answer Trail x e))
+
+pub returns-in_err-cleared-in-Trail-clause-causes : goal.returns-in_err-cleared-in-Trail-clause-causes
+returns-in_err-cleared-in-Trail-clause-causes g c =
+    let p = err_from_is_err_and c.from_residual-in_err-cleared-in-Trail.result c.from_residual-in_err-cleared-in-Trail.ensures.1 in
+    let task : Task = on_file Trail c.in-Trail.name c.in-Trail.turns in
+    rw (p.1, p.2, c.in-Trail.is) (c.in_err-cleared-in-Trail.ensures.causes task (named_alone c.in-Trail.name c.as_str-in-Trail.result.now c.as_str-in-Trail.ensures))
+
+pub returns-in_ok-cleared-in-Trail-clause-answer : goal.returns-in_ok-cleared-in-Trail-clause-answer
+returns-in_ok-cleared-in-Trail-clause-answer g c x e =
+    let cleared = c.in_ok-cleared-in-Trail.cleared in
+    rw c.in-Trail.is (task_answers x Trail c.in-Trail.turns c.in-Trail.name c.as_str-in-Trail.result.now c.as_str-in-Trail.ensures (program_tree (program_of cleared)) (turns_of cleared) c.in_ok-cleared-in-Trail.ensures.turns
+    c.trail.result (c.in_ok-cleared-in-Trail.ensures.answer Trail x e) (c.trail.ensures.answer x))
+
+pub returns-in_ok-cleared-in-Trail-clause-causes : goal.returns-in_ok-cleared-in-Trail-clause-causes
+returns-in_ok-cleared-in-Trail-clause-causes g c =
+    let task : Task = on_file Trail c.in-Trail.name c.in-Trail.turns in
+    let now = g.F.Files.faults c.file-in-Trail.new.files in
+    let same = c.in_ok-cleared-in-Trail.ensures.causes task (named_alone c.in-Trail.name c.as_str-in-Trail.result.now c.as_str-in-Trail.ensures) in
+    rw c.in-Trail.is (subst (λ (before : List ℕ → ℕ). Causes task before now c.trail.result) same (c.trail.ensures.causes task now))
+
 pub returns-in_err-cleared-in-Leak-clause-answer : goal.returns-in_err-cleared-in-Leak-clause-answer
 returns-in_err-cleared-in-Leak-clause-answer g c x e =
     let p = err_from_is_err_and c.from_residual-in_err-cleared-in-Leak.result c.from_residual-in_err-cleared-in-Leak.ensures.1 in
@@ -105,3 +129,11 @@ returns-in_ok-cleared-in-Leak-clause-causes g c =
     let now = g.F.Files.faults c.leak.new.files in
     let same = c.in_ok-cleared-in-Leak.ensures.causes task (named_alone c.in-Leak.name c.as_str-in-Leak.result.now c.as_str-in-Leak.ensures) in
     rw c.in-Leak.is (subst (λ (before : List ℕ → ℕ). Causes task before now c.leak.result) same (c.leak.ensures.causes task refl))
+
+pub returns-in-Make-clause-answer : goal.returns-in-Make-clause-answer
+returns-in-Make-clause-answer g c x e = rw c.in-Make.is (made_answers x c.in-Make.count c.in-Make.turns c.make.result c.make.ensures.answer)
+
+pub returns-in-Make-clause-causes : goal.returns-in-Make-clause-causes
+returns-in-Make-clause-causes g c =
+    let task : Task = on_files (Make c.in-Make.count) [] c.in-Make.turns in
+    rw c.in-Make.is (c.make.ensures.causes task (g.F.Files.faults c.args.files.now))

@@ -1,0 +1,21 @@
+-- What `make` comes to: its text is typed and cleared, and so it is never refused.
+use Rattle.std.proofs.Common.{◌≡◌, ℕ, ◌≤◌, List, [], Ok, IsOk, refl}
+use Rattle.kf_frac.specs.Fractions.{limit}
+use Rattle.kf_core.specs.Joint.{joint_of}
+use Rattle.kf_core.specs.Scale.{scale_of}
+use Rattle.kf_core.specs.Support.{program_pass}
+use Rattle.kf_make.specs.Laws.{MadeIsParsed, MadeIsTyped}
+use Rattle.kf_make.specs.Made.{made_program, made_tree}
+use Rattle.kf_make.specs.Making.{make_source}
+use Rattle.kf_top.specs.Answer.{MadeOf}
+use Rattle.kf_top.specs.Outcome.{MadeOutcome, Text, TypedOf}
+use Rattle.kf_top.proofs.Steps.{fits}
+
+pub made_outcome : MadeIsParsed → MadeIsTyped → (turns count : ℕ) → IsOk (program_pass turns (made_program count)) → scale_of turns (made_program count) ≤ limit
+    → MadeOutcome count turns (Ok (MadeOf count (scale_of turns (made_program count)) (joint_of turns (made_program count))))
+unfolding TypedOf
+made_outcome parsed typed turns count clear few =
+    let p = made_program count in
+    let read = parsed count in
+    let t : Text = record { name = []; bytes = make_source count; program = p } in
+    (p, (read.0, read.1, (made_tree count, read.2, typed count)), (p, fits turns t clear few, refl))

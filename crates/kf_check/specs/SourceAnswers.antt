@@ -1,4 +1,5 @@
--- For bodies: What the checker may answer of statements, declarations and targets: that no rule is broken, with what stands for them in the program; the first broken rule; or want of memory, which says nothing.
+-- For bodies: what the checker may answer of statements, declarations and targets: that no rule is broken, with what stands for
+-- them in the program; the first broken rule; or want of memory, which says nothing.
 use Rattle.std.specs.Prelude.{◌≡◌, ◌≢◌, ◌⊎◌, ℕ, ◌*◌, ◌^◌, ◌<◌, ◌≤◌, ◌↔◌, Bool, false, Contains, List, [], ◌∷◌, ◌++◌, map, option_to_list, Result, Ok, Err}
 use Rattle.kf_value.specs.Types.{TypeTree}
 use Rattle.kf_value.specs.Targets.{Item}
@@ -36,7 +37,9 @@ AnswersSts known xs (Err e) = e ≢ broken.Mem → JudgesStmts known (stmts xs) 
 -- how many stores there are with one variable more, which has so many values
 abbrev pub AnswersGrowth : ℕ → ℕ → ℕ → ℕ → Result ℕ TypeError → Type 0
 AnswersGrowth variables stores size at (Ok n) = (variables < 32) × (stores * size ≤ 2 ^ 63) × (n ≡ stores * size)
-AnswersGrowth variables stores size at (Err e) = ((32 ≤ variables) × (e ≡ broken.TooManyVariables at)) ⊎ ((variables < 32) × (2 ^ 63 < stores * size) × (e ≡ broken.StoreTooWide at))
+AnswersGrowth variables stores size at (Err e) =
+    ((32 ≤ variables) × (e ≡ broken.TooManyVariables at))
+    ⊎ ((variables < 32) × (2 ^ 63 < stores * size) × (e ≡ broken.StoreTooWide at))
 
 -- a declaration behind those of these variables
 abbrev pub AnswersDecl : List Variable → DeclTree → Result Declaration TypeError → Type 0
@@ -45,7 +48,8 @@ AnswersDecl vs d (Err e) = e ≢ broken.Mem → JudgesDecl vs d (Err e)
 
 -- all declarations of a source
 abbrev pub AnswersDecls : List DeclTree → Result Declared TypeError → Type 0
-AnswersDecls ds (Ok x) = JudgesDecls [] ds (Ok (variables_in x)) × (map dx_tree x.dists.items ≡ map (decl_of (names_of (variables_in x))) ds)
+AnswersDecls ds (Ok x) =
+    JudgesDecls [] ds (Ok (variables_in x)) × (map dx_tree x.dists.items ≡ map (decl_of (names_of (variables_in x))) ds)
 AnswersDecls ds (Err e) = e ≢ broken.Mem → JudgesDecls [] ds (Err e)
 
 -- the item stands here, at some place
@@ -68,6 +72,7 @@ AnswersItem vs stood copies ts i (Err e) = e ≢ broken.Mem → JudgesItem vs st
 
 -- the target of a source
 abbrev pub AnswersTarget : List Variable → List ItemTree → Result Targeted TypeError → Type 0
-AnswersTarget vs is (Ok x) = (types : List TypeTree) × JudgesItems vs [] (types_of vs) is (Ok (types_of vs ++ types)) × AreCopied vs x.copies types
+AnswersTarget vs is (Ok x) =
+    (types : List TypeTree) × JudgesItems vs [] (types_of vs) is (Ok (types_of vs ++ types)) × AreCopied vs x.copies types
     × IsTarget vs is x.copies (items_of x.target) x.slots
 AnswersTarget vs is (Err e) = e ≢ broken.Mem → JudgesItems vs [] (types_of vs) is (Err e)

@@ -1,8 +1,8 @@
 -- Believed
 pub mod Divisors
 pub mod Fractions
+pub mod Views
 -- For bodies
 pub mod Arithmetic
 pub mod Laws
 pub mod Parts
-pub mod Views

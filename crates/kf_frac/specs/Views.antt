@@ -1,4 +1,4 @@
--- For bodies: what contracts see of a `Frac` and of a `Product`.
+-- Believed: what contracts see of a `Frac` and of a `Product`.
 use Rattle.std.specs.Prelude.{ℕ, ◌+◌, ◌*◌, ◌^◌, ℤ}
 use Rattle.kf_frac.specs.declared.frac.Frac.{Frac}
 use Rattle.kf_frac.specs.declared.product.Product.{Product}

@@ -53,7 +53,8 @@ module _ (B : Builder) (src : List ℕ) where
   infixed next l = next >>= operations next l
 
   unfoldable pub prefixed : Parser B.Ex → ℕ → Parser B.Ex
-  prefixed next l = first_or (λ o. where_true (binds_at l (prefix_op o.kind)) (next >>= (λ x. pure (B.apply o.start (row_in (prefix_op o.kind)) (B.one x))))) (infixed next l)
+  prefixed next l = first_or (λ o. where_true (binds_at l (prefix_op o.kind))
+      (next >>= (λ x. pure (B.apply o.start (row_in (prefix_op o.kind)) (B.one x))))) (infixed next l)
 
   -- what is made of the expressions in brackets
   module _ (expr : Parser B.Ex) where
@@ -62,7 +63,8 @@ module _ (B : Builder) (src : List ℕ) where
     others = repeat (λ c xs. where_true (is (t.Sign s.Comma) c.kind) (expr >>= (λ y. pure (B.push xs y))))
 
     unfoldable pub tuple : Token → B.Ex → Parser B.Ex
-    tuple p x = expr >>= (λ y. others (B.push (B.one x) y) >>= (λ xs. expect (is (t.Sign s.ParenClose)) (λ q. pure (B.tuple p.start xs))))
+    tuple p x = expr >>= (λ y. others (B.push (B.one x) y) >>= (λ xs.
+        expect (is (t.Sign s.ParenClose)) (λ q. pure (B.tuple p.start xs))))
 
     abbrev pub in_parens_by : Token → B.Ex → Tok → Option (Parser B.Ex)
     in_parens_by p x (t.Sign s.ParenClose) = Some (pure (B.moved p.start x))
@@ -81,7 +83,8 @@ module _ (B : Builder) (src : List ℕ) where
     arguments (suc n) xs = expect (is (t.Sign s.Comma)) (λ c. expr >>= (λ y. arguments n (B.push xs y)))
 
     unfoldable pub call : Token → Op → Parser B.Ex
-    call f op = expect (is (t.Sign s.ParenOpen)) (λ p. expr >>= (λ x. arguments (arity_of op - 1) (B.one x) >>= (λ xs. expect (is (t.Sign s.ParenClose)) (λ q. pure (B.apply f.start (row_of op) xs)))))
+    call f op = expect (is (t.Sign s.ParenOpen)) (λ p. expr >>= (λ x. arguments (arity_of op - 1) (B.one x) >>= (λ xs.
+        expect (is (t.Sign s.ParenClose)) (λ q. pure (B.apply f.start (row_of op) xs)))))
 
     abbrev pub called : Token → Option Op → Option (Parser B.Ex)
     called f (Some op) = Some (call f op)
@@ -120,10 +123,12 @@ module _ (B : Builder) (src : List ℕ) where
   cases e = repeat (λ c cs. where_true (is (t.Sign s.Comma) c.kind) (weighted e cs))
 
   unfoldable pub choose : Parser B.Ex → Token → Parser B.Di
-  choose e c = expect (is (t.Sign s.BraceOpen)) (λ p. weighted e B.no_cases >>= (λ x. cases e x >>= (λ cs. expect (is (t.Sign s.BraceClose)) (λ q. pure (B.choose c.start cs)))))
+  choose e c = expect (is (t.Sign s.BraceOpen)) (λ p. weighted e B.no_cases >>= (λ x. cases e x >>= (λ cs.
+      expect (is (t.Sign s.BraceClose)) (λ q. pure (B.choose c.start cs)))))
 
   unfoldable pub uniform : Parser B.Ex → Token → Parser B.Di
-  uniform e u = e >>= (λ x. if_first (is (t.Sign s.Range)) (λ r. e >>= (λ y. pure (B.uniform_range u.start x y))) (pure (B.uniform_set u.start x)))
+  uniform e u = e >>= (λ x. if_first (is (t.Sign s.Range))
+      (λ r. e >>= (λ y. pure (B.uniform_range u.start x y))) (pure (B.uniform_set u.start x)))
 
   unfoldable pub flip : Token → Parser B.Di
   flip f = number >>= (λ j. expect (is (t.Sign s.Slash)) (λ d. number >>= (λ k. pure (B.flip f.start j k))))
@@ -145,13 +150,15 @@ module _ (B : Builder) (src : List ℕ) where
     block = expect (is (t.Sign s.BraceOpen)) (λ p. statements >>= (λ xs. expect (is (t.Sign s.BraceClose)) (λ q. pure xs)))
 
     unfoldable pub assign : Token → Parser B.St
-    assign n = expect (is (t.Sign s.Assign)) (λ g. dist d >>= (λ x. expect (is (t.Sign s.Semi)) (λ e. pure (B.assign n.start (named src n) x))))
+    assign n = expect (is (t.Sign s.Assign)) (λ g. dist d >>= (λ x.
+        expect (is (t.Sign s.Semi)) (λ e. pure (B.assign n.start (named src n) x))))
 
     unfoldable pub observe : Token → Parser B.St
     observe o = dist d >>= (λ x. expect (is (t.Sign s.Semi)) (λ e. pure (B.observe o.start x)))
 
     unfoldable pub if_else : Token → Parser B.St
-    if_else i = dist d >>= (λ x. block >>= (λ xs. expect (is (t.Word w.ElseWord)) (λ e. block >>= (λ ys. pure (B.if_else i.start x xs ys)))))
+    if_else i = dist d >>= (λ x. block >>= (λ xs.
+        expect (is (t.Word w.ElseWord)) (λ e. block >>= (λ ys. pure (B.if_else i.start x xs ys)))))
 
     unfoldable pub while : Token → Parser B.St
     while o = dist d >>= (λ x. block >>= (λ xs. pure (B.while o.start x xs)))
@@ -192,7 +199,8 @@ module _ (type : Parser TypeForm) where
   other_types = repeat (λ c xs. where_true (is (t.Sign s.Comma) c.kind) (type >>= (λ y. pure (xs ++ y ∷ []))))
 
   unfoldable pub tuple_type : Token → Parser TypeForm
-  tuple_type p = type >>= (λ x. expect (is (t.Sign s.Comma)) (λ c. type >>= (λ y. other_types (x ∷ y ∷ []) >>= (λ xs. expect (is (t.Sign s.ParenClose)) (λ q. pure (type_at p.start (TupleOf (types xs))))))))
+  tuple_type p = type >>= (λ x. expect (is (t.Sign s.Comma)) (λ c. type >>= (λ y. other_types (x ∷ y ∷ []) >>= (λ xs.
+      expect (is (t.Sign s.ParenClose)) (λ q. pure (type_at p.start (TupleOf (types xs))))))))
 
   abbrev pub base_by : Token → Tok → Option (Parser TypeForm)
   base_by o (t.Word w.BoolWord) = Some (pure (type_at o.start Boolean))
@@ -204,7 +212,8 @@ module _ (type : Parser TypeForm) where
   -- a type with fewer sets of sets than the number
   unfoldable pub sets : ℕ → Parser TypeForm
   sets zero = too_deep
-  sets (suc n) = if_first (is (t.Word w.SetWord)) (λ o. expect (is (t.Word w.OfWord)) (λ f. sets n >>= (λ x. pure (type_at o.start (SetOf x))))) (first (λ o. base_by o o.kind))
+  sets (suc n) = if_first (is (t.Word w.SetWord))
+      (λ o. expect (is (t.Word w.OfWord)) (λ f. sets n >>= (λ x. pure (type_at o.start (SetOf x))))) (first (λ o. base_by o o.kind))
 
 -- a type in which brackets nest less deep than the number
 unfoldable pub type : ℕ → Parser TypeForm
@@ -213,7 +222,9 @@ type (suc d) = sets (type d) (suc d)
 
 module _ (B : Builder) (src : List ℕ) where
   unfoldable pub declaration : ℕ → B.Ds → Parser B.Ds
-  declaration d ds = expect (is t.Name) (λ n. expect (is (t.Sign s.Colon)) (λ c. type d >>= (λ y. expect (is (t.Sign s.Assign)) (λ g. dist B src d >>= (λ x. expect (is (t.Sign s.Semi)) (λ e. pure (B.push_declaration ds (named src n) y x)))))))
+  declaration d ds = expect (is t.Name) (λ n. expect (is (t.Sign s.Colon)) (λ c. type d >>= (λ y.
+      expect (is (t.Sign s.Assign)) (λ g. dist B src d >>= (λ x.
+      expect (is (t.Sign s.Semi)) (λ e. pure (B.push_declaration ds (named src n) y x)))))))
 
   unfoldable pub declarations : ℕ → Parser B.Ds
   declarations d = repeat (λ v ds. where_true (is (t.Word w.VarWord) v.kind) (declaration d ds)) B.no_declarations

@@ -1,4 +1,4 @@
--- For bodies: what `solve` answers.
+-- Believed: what `solve` answers.
 use Rattle.std.specs.Prelude.{◌≡◌, ℕ, ◌+◌, ◌<◌, ℤ, pos, ◌*ℤ◌, List, length, map, slice_index_or, Result, Ok, Err}
 use Rattle.kf_frac.specs.declared.frac.Frac.{Frac}
 use Rattle.kf_frac.specs.Views.{num_of, den_of}
@@ -41,7 +41,8 @@ IsAnswer s limit (Err error.Mem) = Unit {0}
 
 -- the fractions solve the system: over one denominator they are whole numbers that do
 abbrev pub AreSolution : LinearSystem → List Frac → Type 0
-AreSolution s xs = (x : ℕ → ℤ) × (d : ℤ) × Solves s x d × ((j : ℕ) → j < s.unknowns → x j *ℤ pos (den_at xs j) ≡ num_at xs j *ℤ d)
+AreSolution s xs =
+    (x : ℕ → ℤ) × (d : ℤ) × Solves s x d × ((j : ℕ) → j < s.unknowns → x j *ℤ pos (den_at xs j) ≡ num_at xs j *ℤ d)
 
 -- an outcome is right by its own numbers
 abbrev pub IsRight : LinearSystem → Outcome → Type 0

@@ -1,4 +1,4 @@
--- For bodies: numbers in lists, sums, and the columns that decide between rows.
+-- Believed: numbers in lists, sums, and the columns that decide between rows.
 use Rattle.std.specs.Prelude.{ℕ, zero, suc, ◌+◌, ℤ, pos, ◌+ℤ◌, List, slice_index_or}
 
 -- the number at an index; 0 past the end

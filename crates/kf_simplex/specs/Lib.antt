@@ -1,12 +1,13 @@
--- For bodies
+-- Believed
 pub mod Answers
 pub mod Base
-pub mod Cells
-pub mod Flat
-pub mod Laws
 pub mod Runs
 pub mod Solutions
 pub mod Systems
 pub mod Tableaus
+-- For bodies
+pub mod Cells
+pub mod Flat
+pub mod Laws
 pub mod Turns
 pub mod Views

@@ -1,4 +1,4 @@
--- For bodies: the run of the simplex: from the basis of artificials to an answer, one pivot after another.
+-- Believed: the run of the simplex: from the basis of artificials to an answer, one pivot after another.
 use Rattle.std.specs.Prelude.{◌≡◌, ◌≢◌, ℕ, ◌+◌, ◌^◌, ◌<◌, ◌≤◌, ℤ, pos, ◌*ℤ◌, ◌<ℤ◌, ◌≤ℤ◌, unsigned_abs, List, [], ◌∷◌, length}
 use Rattle.kf_simplex.specs.Base.{deciding}
 use Rattle.kf_simplex.specs.Systems.{LinearSystem, right_column}
@@ -10,7 +10,9 @@ key s r m = r (deciding s.unknowns (right_column s) m)
 
 -- by first difference the deciding list of r over p is below that of q over a, both divisors positive
 abbrev pub IsBelow : LinearSystem → Row → ℤ → Row → ℤ → Type 0
-IsBelow s r p q a = (n : ℕ) × (n ≤ s.equations) × ((m : ℕ) → m < n → key s r m *ℤ a ≡ key s q m *ℤ p) × ((key s r n *ℤ a) <ℤ (key s q n *ℤ p))
+IsBelow s r p q a =
+    (n : ℕ) × (n ≤ s.equations)
+    × ((m : ℕ) → m < n → key s r m *ℤ a ≡ key s q m *ℤ p) × ((key s r n *ℤ a) <ℤ (key s q n *ℤ p))
 
 -- c is the least-numbered unknown with a positive entry in the objective row
 pub record Enters (s : LinearSystem) (w : Row) (c : ℕ) : Type 0 where

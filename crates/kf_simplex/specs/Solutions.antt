@@ -1,4 +1,4 @@
--- For bodies: solutions of a system, and multipliers that exclude them.
+-- Believed: solutions of a system, and multipliers that exclude them.
 use Rattle.std.specs.Prelude.{◌≡◌, ℕ, ◌<◌, ℤ, pos, ◌*ℤ◌, ◌<ℤ◌, ◌≤ℤ◌}
 use Rattle.kf_simplex.specs.Systems.{LinearSystem, right_column}
 use Rattle.kf_simplex.specs.Base.{total}

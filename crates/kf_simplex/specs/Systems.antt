@@ -1,4 +1,4 @@
--- For bodies: systems of linear equations over unknowns that must not be negative.
+-- Believed: systems of linear equations over unknowns that must not be negative.
 use Rattle.std.specs.Prelude.{◌≡◌, ◌≢◌, ℕ, ◌+◌, ◌<◌, ◌≤◌, ℤ, pos, ◌≤ℤ◌}
 
 -- the number that each equation has at each column: first the unknowns, then one artificial column

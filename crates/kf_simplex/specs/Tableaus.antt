@@ -1,4 +1,4 @@
--- For bodies: the tableau of a basis. Its numbers are whole and stated by properties alone, with no elimination.
+-- Believed: the tableau of a basis. Its numbers are whole and stated by properties alone, with no elimination.
 use Rattle.std.specs.Prelude.{◌≡◌, ◌≢◌, ℕ, ◌+◌, ◌<◌, ◌≤◌, ℤ, pos, ◌*ℤ◌, ◌<ℤ◌, unsigned_abs}
 use Rattle.std.specs.Int.{◌∣◌}
 use Rattle.kf_simplex.specs.Systems.{LinearSystem, right_column}

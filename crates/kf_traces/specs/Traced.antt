@@ -32,7 +32,10 @@ pub record Part : Type 0 where
 abbrev pub with_part : List Part → ValueTree → ℕ → ℕ → List Part
 with_part [] v n w = record { value = v; stores = (n, w) ∷ [] } ∷ []
 with_part (p ∷ ps) v n w =
-    match_ordering (order v p.value) (record { value = v; stores = (n, w) ∷ [] } ∷ p ∷ ps) (record { value = p.value; stores = with_weight p.stores n w } ∷ ps) (p ∷ with_part ps v n w)
+    match_ordering (order v p.value)
+    (record { value = v; stores = (n, w) ∷ [] } ∷ p ∷ ps)
+    (record { value = p.value; stores = with_weight p.stores n w } ∷ ps)
+    (p ∷ with_part ps v n w)
 
 -- each choice in a store has a share of its weight: as many times this weight as the choice weighs
 abbrev pub with_shares : List Part → ℕ → ℕ → List Weighted → List Part
@@ -122,4 +125,5 @@ copied_traced p s = record { trace = s.trace; stores = copy_all p [] s.stores }
 -- a whole program, all whose weight lies on the first store
 abbrev pub program_traced : ℕ → ℕ → ProgramTree → List Traced
 program_traced turns whole p =
-    flat_map (λ s. all_traced p.types turns (sts p.body) (copied_traced p s)) (declared_traced p.types 0 p.decls (record { trace = []; stores = (0, whole) ∷ [] }))
+    flat_map (λ s. all_traced p.types turns (sts p.body) (copied_traced p s))
+    (declared_traced p.types 0 p.decls (record { trace = []; stores = (0, whole) ∷ [] }))

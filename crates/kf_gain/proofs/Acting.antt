@@ -12,7 +12,7 @@ use Rattle.kf_hyper.specs.Columns.{total}
 use Rattle.kf_hyper.proofs.Scaling.{total-cons}
 use Rattle.kf_gain.specs.declared.table.Action.{Action}
 use Rattle.kf_gain.specs.declared.table.GainEntry.{GainEntry}
-use Rattle.kf_gain.specs.Gains.{GainOf, Table, TableTree, gain_at}
+use Rattle.kf_gain.specs.Gains.{Table, TableTree, gain_at}
 use Rattle.kf_gain.specs.Worth.{gained, IsVulnerability}
 use Rattle.kf_gain.specs.Vulnerabilities.{greatest, gains_of}
 

@@ -1,58 +1,32 @@
 -- Columns added up: there is one sum of a hyper's inners, and no other.
-use Rattle.std.proofs.Common.{◌≡◌, ◌≢◌, ℕ, ◌+◌, ◌*◌, ◌/◌, ◌<◌, ◌≤◌, ◌==◌, List, [], ◌∷◌, Bool, All, map, sum_by, refl, sym, ◌∙◌, ap, subst, arith, length, get_or, add-one, if◌then◌else◌, ⊎_elim, zero-add, suc, zero}
+use Rattle.std.proofs.Common.{◌≡◌, ℕ, ◌+◌, ◌/◌, ◌<◌, ◌≤◌, ◌==◌, List, [], ◌∷◌, Bool, All, map, sum_by, refl, sym, ◌∙◌, ap, subst, arith, length, if◌then◌else◌, ⊎_elim, zero-add}
 use Rattle.std.specs.Prelude.{ℤ, pos, ◌+ℤ◌, ◌*ℤ◌}
 use Rattle.std.specs.Int.{◌∣◌}
-use Rattle.std.specs.List.Sorted.{IsStrictlyIncreasing}
-use Rattle.std.proofs.Math.Nat.{div-mul_cancel, eq-zero-or-pos, zero-mul}
+use Rattle.std.proofs.Math.Nat.{eq-zero-or-pos}
 use Rattle.std.proofs.Math.IntN.{zero-*ℤ, +ℤ_idl}
 use Rattle.std.proofs.lemmas.Int.{ints}
 use Rattle.std.proofs.lemmas.Bool.{cases_order}
-use Rattle.std.proofs.lemmas.List.Elements.{All-head, All-tail, All-nil, All-cons}
+use Rattle.std.proofs.lemmas.List.Elements.{All-head, All-tail}
 use Rattle.std.proofs.lemmas.List.Sums.{sum_by-cons}
 use Rattle.kf_hyper.specs.declared.entry.Entry.{Entry}
 use Rattle.kf_frac.proofs.Ring.{add_mul}
-use Rattle.kf_hyper.specs.Columns.{weight_at, total, IsColumn, values}
+use Rattle.kf_hyper.specs.Columns.{weight_at, total, IsColumn}
 use Rattle.kf_hyper.specs.Hypers.{Inner, IsInner}
 use Rattle.kf_hyper.specs.Shapes.{IsShape}
 use Rattle.kf_hyper.specs.Averages.{scaled, joint_weight, joint_column, average_weight}
-use Rattle.kf_hyper.proofs.Weights.{Above, weight_at-cons, weight_below, same_column, above_column}
-use Rattle.kf_hyper.proofs.Scaling.{total-cons, total-scaled, weight_at-scaled, total_positive, product_positive}
+use Rattle.kf_hyper.specs.Classes.{IsWhole}
+use Rattle.kf_hyper.proofs.ClassSums.{is_whole, class_column, class_sum}
+use Rattle.kf_hyper.proofs.Steps.{if_adds}
+use Rattle.kf_hyper.proofs.Weighing.{joint_column_weighs}
+use Rattle.kf_hyper.proofs.Weights.{Above, weight_at-cons, same_column, above_column, above_from, ascending_above, positive_above}
+use Rattle.kf_hyper.proofs.Scaling.{total-cons}
 use Rattle.kf_gain.specs.declared.table.GainEntry.{GainEntry}
 use Rattle.kf_gain.specs.Gains.{gain_at}
 use Rattle.kf_gain.specs.Worth.{gained}
 use Rattle.kf_gain.specs.Vulnerabilities.{IsAverage}
 
-values_tail : (x : ℕ) (xs : List ℕ) → IsStrictlyIncreasing (x ∷ xs) → IsStrictlyIncreasing xs
-values_tail x xs h k below = rw add-one (rw add-one at (h (suc k) (omega arith)))
-
--- values that ascend, each of some weight, by recursion
-pub above_from : (low : ℕ) (column : List Entry) → (0 < length column → low ≤ get_or (values column) 0 0) → IsStrictlyIncreasing (values column) → All (λ (e : Entry). 0 < e.weight) column → Above low column
-above_from low [] from ascending positive = tt
-above_from low (e ∷ es) from ascending positive = (
-  from (omega arith),
-  All-head (λ (e : Entry). 0 < e.weight) e es positive,
-  above_from (e.value + 1) es (λ some. first e es ascending some) (values_tail e.value (values es) ascending) (All-tail (λ (e : Entry). 0 < e.weight) e es positive),
-)
-  where
-    first : (e : Entry) (es : List Entry) → IsStrictlyIncreasing (values (e ∷ es)) → 0 < length es → e.value + 1 ≤ get_or (values es) 0 0
-    first e [] ascending some = absurd (omega (arith, some))
-    first e (f ∷ es) ascending some = omega (arith, ascending 0 (omega arith))
-
-ascending_above : (low : ℕ) (column : List Entry) → Above low column → IsStrictlyIncreasing (values column)
-ascending_above low [] above k below = absurd (omega arith)
-ascending_above low (e ∷ []) above k below = absurd (omega arith)
-ascending_above low (e ∷ f ∷ es) (from, some, rest) zero below = omega (arith, rest.0)
-ascending_above low (e ∷ f ∷ es) (from, some, rest) (suc k) below = rw add-one (rw add-one at (ascending_above (e.value + 1) (f ∷ es) rest k (omega arith)))
-
-positive_above : (low : ℕ) (column : List Entry) → Above low column → All (λ (e : Entry). 0 < e.weight) column
-positive_above low [] above = All-nil (λ (e : Entry). 0 < e.weight)
-positive_above low (e ∷ es) (from, some, rest) = All-cons (λ (e : Entry). 0 < e.weight) e es some (positive_above (e.value + 1) es rest)
-
 abbrev pub at_value : ℕ → ℕ → ℕ → ℕ
 at_value v w x = if v == x then w else 0
-
-shares : (b : Bool) (m n : ℕ) → (if b then m + n else 0) ≡ (if b then m else 0) + (if b then n else 0)
-shares b m n = grind arith
 
 -- a column with a weight added at a value
 pub record Added (low v w : ℕ) (column : List Entry) : Type 0 where
@@ -77,7 +51,7 @@ add low v w (e ∷ es) from some (here, positive, rest) =
     record {
       sum = f ∷ es;
       above = (from, omega (arith, some), subst (λ (n : ℕ). Above (n + 1) es) (sym same) rest);
-      weights = λ x. omega (arith, weight_at-cons f es x, weight_at-cons e es x, shares (v == x) w e.weight, same_at v e.value e.weight x same);
+      weights = λ x. omega (arith, weight_at-cons f es x, weight_at-cons e es x, if_adds (v == x) w e.weight, same_at v e.value e.weight x same);
       total = omega (arith, total-cons f es, total-cons e es);
       longer = omega arith;
       gains = λ rest gains.
@@ -164,31 +138,16 @@ abbrev pub ArePairs : List Inner → Type 0
 ArePairs [] = Unit {0}
 ArePairs (i ∷ inners) = (IsColumn i.entries × Above 0 (joint_column i) × (total (joint_column i) ≡ i.total)) × ArePairs inners
 
-above_scaled : (k low : ℕ) (c : List Entry) → 0 < k → Above low c → Above low (map (scaled k) c)
-above_scaled k low [] some above = tt
-above_scaled k low (e ∷ es) some (from, positive, rest) = (from, product_positive k e.weight some positive, above_scaled k (e.value + 1) es some rest)
-
-module _ (i : Inner) (is : IsInner i.entries) (used : 0 < i.total) (divides : total i.entries ∣ i.total) where
-  pub whole_times : (i.total / total i.entries) * total i.entries ≡ i.total
-  whole_times = div-mul_cancel (total i.entries) divides
-
-  pub times_positive : 0 < i.total / total i.entries
-  times_positive =
-      ⊎_elim (λ (none : i.total / total i.entries ≡ 0). absurd (omega (arith, used, whole_times, ap (λ (n : ℕ). n * total i.entries) none)))
-      (λ (h : 0 < i.total / total i.entries). h)
-      (eq-zero-or-pos (i.total / total i.entries))
-
-  pub is_pair : IsColumn i.entries × Above 0 (joint_column i) × (total (joint_column i) ≡ i.total)
-  is_pair = (
-    is.column,
-    above_scaled (i.total / total i.entries) 0 i.entries times_positive (above_column i.entries is.column),
-    total-scaled (i.total / total i.entries) i.entries ∙ whole_times,
-  )
+-- an inner is such a one
+pair_of : (i : Inner) → IsInner i.entries → 0 < i.total → total i.entries ∣ i.total → IsColumn i.entries × Above 0 (joint_column i) × (total (joint_column i) ≡ i.total)
+pair_of i is used divides =
+    let whole : IsWhole (i.entries, i.total) = is_whole (i.entries, i.total) is used divides in
+    (is.column, above_column (joint_column i) (class_column (i.entries, i.total) whole), class_sum (i.entries, i.total) whole)
 
 pairs_from : (inners : List Inner) → All (λ (i : Inner). IsInner i.entries) inners → All (λ (i : Inner). 0 < i.total) inners → All (λ (i : Inner). total i.entries ∣ i.total) inners → ArePairs inners
 pairs_from [] inner used multiple = tt
 pairs_from (i ∷ inners) inner used multiple = (
-  is_pair i (All-head (λ (i : Inner). IsInner i.entries) i inners inner) (All-head (λ (i : Inner). 0 < i.total) i inners used) (All-head (λ (i : Inner). total i.entries ∣ i.total) i inners multiple),
+  pair_of i (All-head (λ (i : Inner). IsInner i.entries) i inners inner) (All-head (λ (i : Inner). 0 < i.total) i inners used) (All-head (λ (i : Inner). total i.entries ∣ i.total) i inners multiple),
   pairs_from inners (All-tail (λ (i : Inner). IsInner i.entries) i inners inner) (All-tail (λ (i : Inner). 0 < i.total) i inners used) (All-tail (λ (i : Inner). total i.entries ∣ i.total) i inners multiple),
 )
 
@@ -217,9 +176,6 @@ pub record Averaged (inners : List Inner) : Type 0 where
   pub total : total sum ≡ sum_by (λ (i : Inner). total (joint_column i)) inners
   pub gains : (rest : ℤ) (gains : List GainEntry) → gained rest gains sum ≡ gained_all rest gains inners
 
-pub joint_weights : (i : Inner) (x : ℕ) → weight_at (joint_column i) x ≡ joint_weight x i
-joint_weights i x = omega (arith, weight_at-scaled (i.total / total i.entries) i.entries x)
-
 pub averaged : (inners : List Inner) → Averaged inners
 averaged [] = record { sum = []; above = tt; weights = λ x. refl; total = refl; gains = λ rest gains. refl }
 averaged (i ∷ inners) =
@@ -228,7 +184,7 @@ averaged (i ∷ inners) =
     record {
       sum = j.sum;
       above = j.above;
-      weights = λ x. omega (arith, j.weights x, r.weights x, joint_weights i x, sum_by-cons (joint_weight x) i inners);
+      weights = λ x. omega (arith, j.weights x, r.weights x, joint_column_weighs i x, sum_by-cons (joint_weight x) i inners);
       total = omega (arith, j.total, r.total, sum_by-cons (λ (i : Inner). total (joint_column i)) i inners);
       gains = λ rest gains. omega (arith, ints, j.gains rest gains, r.gains rest gains);
     }

@@ -1,5 +1,5 @@
 -- The entries of an action beside the gains that it names.
-use Rattle.std.proofs.Common.{◌≡◌, ◌<◌, ◌≤◌, ◌↔◌, ℕ, zero, suc, ℤ, pos, List, [], ◌∷◌, map, length, get_or, Bor, Contains, Some, Bool, true, false, not, ◌&&◌, ◌||◌, refl, sym, ap, ◌∙◌, subst, arith, ◌⊎◌, ⊎_elim, inl, inr, true≢false}
+use Rattle.std.proofs.Common.{◌≡◌, ◌<◌, ℕ, zero, suc, ℤ, pos, List, [], ◌∷◌, map, length, Bor, Contains, Some, Bool, true, false, not, ◌&&◌, ◌||◌, refl, sym, ap, ◌∙◌, subst, arith, ◌⊎◌, ⊎_elim, inl, inr, true≢false}
 use lib.Dec.{eqb}
 use Rattle.std.specs.List.{AllZip, AllByRecursion, IsDistinct, list_any, list_all}
 use Rattle.std.specs.List.Sorted.{IsStrictlyIncreasing, IsPermutation, IsNonDecreasingBy, IsNonDecreasing}
@@ -15,8 +15,9 @@ use Rattle.kf_value.specs.Targets.{Item, target_values, target_value_text}
 use Rattle.kf_value.specs.Numbers.{target_size}
 use Rattle.kf_gain.specs.declared.table.Action.{Action}
 use Rattle.kf_gain.specs.declared.table.GainEntry.{GainEntry}
-use Rattle.kf_gain.specs.Json.{members, at_place, text_of, whole_of}
-use Rattle.kf_gain.specs.Tables.{name_at, gains_at, value_texts, are_distinct, is_value_text, Names}
+use Rattle.kf_json.specs.Json.{members, at_place, text_of, whole_of}
+use Rattle.kf_json.specs.Rules.{are_distinct}
+use Rattle.kf_gain.specs.Tables.{name_at, gains_at, value_texts, is_value_text}
 use Rattle.kf_gain.specs.Reading.{IsEntry, IsRead}
 use Rattle.kf_gain.proofs.TargetTexts.{target_count}
 

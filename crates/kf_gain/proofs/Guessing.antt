@@ -1,6 +1,6 @@
 -- Guesses in turn: the order of descending weights costs least.
-use Rattle.std.proofs.Common.{◌≡◌, ℕ, ◌+◌, ◌*◌, ◌<◌, ◌≤◌, List, [], ◌∷◌, map, sum_by, refl, sym, ◌∙◌, ap, subst, arith, suc, zero, length, get_or, drop, drop-cons, add-one}
-use Rattle.std.specs.Prelude.{ℤ, pos, ◌≤ℤ◌, IsPermutation}
+use Rattle.std.proofs.Common.{◌≡◌, ℕ, ◌+◌, ◌*◌, ◌<◌, ◌≤◌, List, [], ◌∷◌, map, sum_by, refl, sym, ◌∙◌, ap, arith, length, get_or, drop, drop-cons, add-one}
+use Rattle.std.specs.Prelude.{ℤ, pos, IsPermutation}
 use Rattle.std.proofs.lemmas.Int.{ints}
 use Rattle.std.proofs.lemmas.List.{length-map, drop_all}
 use Rattle.std.proofs.lemmas.List.Sums.{sum_by-cons}
@@ -9,10 +9,13 @@ use Rattle.kf_hyper.specs.declared.entry.Entry.{Entry}
 use Rattle.kf_hyper.specs.Columns.{weight_at, total, values}
 use Rattle.kf_hyper.proofs.Weights.{Above, weight_at_other}
 use Rattle.kf_hyper.proofs.Posteriors.{weight_of_head}
-use Rattle.kf_gain.specs.Gains.{GainOf, Guessing, TableTree}
-use Rattle.kf_gain.specs.Worth.{cost_from, Reaches, IsVulnerability}
+use Rattle.kf_hyper.proofs.Averaging.{sum-mapped}
+use Rattle.kf_hyper.proofs.Rising.{Rises}
+use Rattle.kf_hyper.proofs.Searching.{values_rise}
+use Rattle.kf_gain.specs.Gains.{Guessing}
+use Rattle.kf_gain.specs.Worth.{cost_from, IsVulnerability}
 use Rattle.kf_gain.proofs.Falling.{Falls, all, costs, costs_least, Sorted, sort}
-use Rattle.kf_gain.proofs.Trying.{Rises, rises_values, sum-map, tried_total}
+use Rattle.kf_gain.proofs.Trying.{tried_total}
 
 pub cost_is : (c : List Entry) (n : ℕ) (xs : List ℕ) → cost_from c n xs ≡ costs n (map (weight_at c) xs)
 cost_is c n [] = refl
@@ -53,7 +56,7 @@ weights_are low [] above = refl
 weights_are low (e ∷ es) above =
     let here : weight_at (e ∷ es) e.value ≡ e.weight = weight_of_head low e es above in
     let later : map (weight_at (e ∷ es)) (values es) ≡ map (λ (e : Entry). e.weight) es =
-    weights_past e es (e.value + 1) (values es) (rises_values (e.value + 1) es above.2) (omega arith) ∙ weights_are (e.value + 1) es above.2 in
+    weights_past e es (e.value + 1) (values es) (values_rise (e.value + 1) es above.2) (omega arith) ∙ weights_are (e.value + 1) es above.2 in
     λ i. here i ∷ later i
 
 -- no order costs more than the last place for all
@@ -66,7 +69,7 @@ pub costs_fit : (c : List Entry) (ws : List ℕ) → IsPermutation (map (λ (e :
 costs_fit c ws moved =
     let weight : Entry → ℕ = λ (e : Entry). e.weight in
     let lengths : length ws ≡ length c = let same : length (map weight c) ≡ length c = length-map c weight in length_permutation (map weight c) ws moved ∙ same in
-    let whole : all ws ≡ total c = sum_by-IsPermutation (λ (n : ℕ). n) (map weight c) ws moved ∙ sum-map weight (λ (n : ℕ). n) c in
+    let whole : all ws ≡ total c = sum_by-IsPermutation (λ (n : ℕ). n) (map weight c) ws moved ∙ sum-mapped weight (λ (n : ℕ). n) c in
     omega (arith, costs_within 1 ws, ap (λ (n : ℕ). length ws * n) whole, ap (λ (n : ℕ). n * total c) lengths)
 
 -- a guess in its turn
@@ -84,7 +87,7 @@ pub cost_within : (c : List Entry) (xs : List ℕ) → Above 0 c → IsPermutati
 cost_within c xs above order =
     let ws : List ℕ = map (weight_at c) xs in
     let few : all ws ≤ total c =
-    let moved = sum_by-IsPermutation (weight_at c) (values c) xs order in omega (arith, sum-map (weight_at c) (λ (n : ℕ). n) xs, moved, tried_total c (values c) above (rises_values 0 c above)) in
+    let moved = sum_by-IsPermutation (weight_at c) (values c) xs order in omega (arith, sum-mapped (weight_at c) (λ (n : ℕ). n) xs, moved, tried_total c (values c) above (values_rise 0 c above)) in
     let lengths : length ws ≡ length c =
     let moved : length xs ≡ length (values c) = length_permutation (values c) xs order in
     let same : length ws ≡ length xs = length-map xs (weight_at c) in

@@ -1,6 +1,6 @@
 -- From the rules that a value keeps to its table, and from the first broken one to the answer.
-use Rattle.std.proofs.Common.{◌≡◌, ◌<◌, ◌≤◌, ℕ, zero, suc, ℤ, pos, negsuc, int_le, unsigned_abs, List, [], ◌∷◌, ◌++◌, map, drop, length, Contains, All, Bool, true, false, not, ◌&&◌, ◌==◌, get_or, Option, None, Some, Ok, Err, Result, refl, sym, ap, ◌∙◌, subst, arith, ⊎_elim}
-use Rattle.std.specs.Prelude.{flat_map, nat_le, ◌≢◌, if◌then◌else◌}
+use Rattle.std.proofs.Common.{◌≡◌, ◌<◌, ◌≤◌, ℕ, zero, suc, ℤ, pos, negsuc, int_le, unsigned_abs, List, [], ◌∷◌, map, drop, length, Contains, All, Bool, true, false, not, ◌&&◌, ◌==◌, get_or, Option, None, Some, Ok, Err, Result, refl, sym, ap, ◌∙◌, subst, arith, ⊎_elim}
+use Rattle.std.specs.Prelude.{flat_map, ◌≢◌}
 use Rattle.std.specs.List.{AllZip, list_all}
 use Rattle.std.proofs.lemmas.Bool.{leb-true}
 use Rattle.std.proofs.lemmas.List.Elements.{All-nil, All-cons, All-append, All-map, Contains-get_or}
@@ -9,14 +9,13 @@ use Rattle.serde_json.specs.Data.{Data}
 use Rattle.kf_frac.specs.Fractions.{limit}
 use Rattle.kf_value.specs.Targets.{Item, target_value_text}
 use Rattle.kf_gain.specs.declared.table.Action.{Action}
-use Rattle.kf_gain.specs.declared.table.GainEntry.{GainEntry}
 use Rattle.kf_gain.specs.declared.error.TableError.{TableError}
 use Rattle.kf_gain.specs.declared.error.TableError.TheVariants as broken
 use Rattle.kf_gain.specs.Gains.{TableTree}
 use Rattle.kf_gain.specs.Shapes.{IsTableShape}
-use Rattle.kf_gain.specs.Vulnerabilities.{gains_of}
-use Rattle.kf_gain.specs.Json.{json_of, members, at_place, text_of, whole_of, is_whole}
-use Rattle.kf_gain.specs.Tables.{over_at, rest_at, actions_at, gains_at, action_names, named, value_texts, form_1, form_2, form_3, form_4, form_5, form_6, narrow, some_action, is_narrow, are_distinct, all_known, all_once, form_rules, value_rules, first_broken, fault_in, IsAction, IsTableOf, IsAnswerFor, IsTable}
+use Rattle.kf_json.specs.Json.{json_of, members, at_place, text_of, whole_of, is_whole}
+use Rattle.kf_json.specs.Rules.{are_distinct, first_broken}
+use Rattle.kf_gain.specs.Tables.{over_at, rest_at, actions_at, gains_at, action_names, value_texts, form_1, form_2, form_3, form_4, form_5, form_6, narrow, some_action, is_narrow, all_known, all_once, form_rules, value_rules, fault_in, IsAction, IsTableOf, IsAnswerFor, IsTable}
 use Rattle.kf_gain.specs.Reading.{IsRead}
 use Rattle.kf_gain.proofs.Entries.{contains_cases, contains_none, split_and}
 

@@ -1,7 +1,5 @@
 pub mod Acting
 pub mod Adding
-pub mod Carrying
-pub mod Distinct
 pub mod Entries
 pub mod Falling
 pub mod Finding
@@ -15,4 +13,3 @@ pub mod TableSome
 pub mod TargetTexts
 pub mod Trying
 pub mod Turning
-pub mod Viewing

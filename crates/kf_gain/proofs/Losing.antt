@@ -1,6 +1,6 @@
 -- No program leaks less than nothing: what is best before anything is seen can be done as well afterwards.
-use Rattle.std.proofs.Common.{◌≡◌, ◌≢◌, ℕ, ◌+◌, ◌*◌, ◌-◌, ◌<◌, ◌≤◌, List, [], ◌∷◌, map, sum_by, refl, sym, ◌∙◌, ap, subst, arith, suc, zero, length, ⊎_elim}
-use Rattle.std.specs.Prelude.{ℤ, pos, ◌+ℤ◌, ◌*ℤ◌, ◌≤ℤ◌, Contains, IsPermutation}
+use Rattle.std.proofs.Common.{◌≡◌, ℕ, ◌+◌, ◌*◌, ◌-◌, ◌<◌, ◌≤◌, List, [], ◌∷◌, map, sum_by, refl, sym, ◌∙◌, ap, subst, arith, length, ⊎_elim}
+use Rattle.std.specs.Prelude.{ℤ, pos, ◌*ℤ◌, ◌≤ℤ◌, Contains, IsPermutation}
 use Rattle.std.specs.List.Sorted.{IsStrictlyIncreasing}
 use Rattle.std.proofs.Math.IntN.{zero-*ℤ}
 use Rattle.std.proofs.lemmas.Bool.{cases_order, cases_eq}
@@ -14,13 +14,16 @@ use Rattle.kf_hyper.specs.Shapes.{IsShape}
 use Rattle.kf_hyper.specs.Averages.{joint_weight, joint_column, average_weight}
 use Rattle.kf_hyper.proofs.Weights.{Above, weight_at_head, weight_at_other, weight_below}
 use Rattle.kf_hyper.proofs.Scaling.{total-cons}
+use Rattle.kf_hyper.proofs.Averaging.{sum-mapped}
+use Rattle.kf_hyper.proofs.Weighing.{joint_column_weighs}
+use Rattle.kf_hyper.proofs.Searching.{values_rise}
 use Rattle.kf_gain.specs.declared.table.Action.{Action}
 use Rattle.kf_gain.specs.Gains.{GainOf, Bayes, Tries, Guessing, Table, TableTree}
 use Rattle.kf_gain.specs.Worth.{gained, NoBetter, IsVulnerability}
-use Rattle.kf_gain.specs.Vulnerabilities.{IsAverage, IsPrior, IsPosterior}
-use Rattle.kf_gain.proofs.Adding.{ArePairs, pairs, Averaged, averaged, the_average, above_average, gained_all, joint_weights}
-use Rattle.kf_gain.proofs.Falling.{Falls, all, front, excess, front_within, Threshold, threshold, costs, cheaper, Sorted, sort}
-use Rattle.kf_gain.proofs.Trying.{Rises, rises_values, sum_two, same_sums, zero_sum, sum-map, spread, past_head}
+use Rattle.kf_gain.specs.Vulnerabilities.{IsPrior, IsPosterior}
+use Rattle.kf_gain.proofs.Adding.{ArePairs, pairs, Averaged, averaged, the_average, above_average, gained_all}
+use Rattle.kf_gain.proofs.Falling.{all, front, front_within, Threshold, threshold, costs, cheaper, Sorted, sort}
+use Rattle.kf_gain.proofs.Trying.{sum_two, same_sums, zero_sum, spread, past_head}
 use Rattle.kf_gain.proofs.Guessing.{cost_is, guesses_are, weights_are}
 use Rattle.kf_gain.proofs.Measures.{one, once_more}
 
@@ -31,7 +34,7 @@ tries_kept k xs [] z ascending few is = omega (arith, ints, is, zero_sum (averag
 tries_kept k xs (i ∷ inners) z ascending few (a, b, v, p, is) =
     let here : pos (sum_by (weight_at (joint_column i)) xs) ≤ℤ a = v.best (pos (sum_by (weight_at (joint_column i)) xs)) (xs, ascending, few, refl) in
     let both : sum_by (average_weight (i ∷ inners)) xs ≤ sum_by (weight_at (joint_column i)) xs + sum_by (average_weight inners) xs =
-    sum_two (average_weight (i ∷ inners)) (weight_at (joint_column i)) (average_weight inners) xs (λ x. omega (arith, sum_by-cons (joint_weight x) i inners, joint_weights i x)) in
+    sum_two (average_weight (i ∷ inners)) (weight_at (joint_column i)) (average_weight inners) xs (λ x. omega (arith, sum_by-cons (joint_weight x) i inners, joint_column_weighs i x)) in
     omega (arith, ints, is, here, both, tries_kept k xs inners b ascending few p)
 
 as_tries : (inners : List Inner) (z : ℤ) → IsPosterior Bayes inners z → IsPosterior (Tries 1) inners z
@@ -57,7 +60,7 @@ covered low (e ∷ es) (f ∷ fs) (from, some, rest) (from', some', rest') less 
     (λ (same : e.value ≡ f.value).
     let more : Above (e.value + 1) fs = subst (λ (n : ℕ). Above (n + 1) fs) (sym same) rest' in
     let tails : total es ≤ sum_by (weight_at es) (values fs) = covered (e.value + 1) es fs rest more (λ x. tail x same) in
-    omega (arith, first, tails, total-cons e es, weight_at_head e es f.value same, past_head e es (e.value + 1) (values fs) (rises_values (e.value + 1) fs more) (omega arith)))
+    omega (arith, first, tails, total-cons e es, weight_at_head e es f.value same, past_head e es (e.value + 1) (values fs) (values_rise (e.value + 1) fs more) (omega arith)))
     (⊎_elim
     (λ (early : e.value < f.value).
     absurd (omega (arith, less e.value, weight_at_head e es e.value refl, weight_below f.value (f ∷ fs) e.value (omega arith, some', rest') early)))
@@ -90,12 +93,12 @@ order_kept c d xs z above above' less order v =
     let m : ℕ = sum_by (weight_at c) (values c) in
     let is : z ≡ pos (costs 1 ns) = one Guessing c z (pos (costs 1 ns)) v (guesses_are c m ns moved s.falls) in
     let spare : (f : ℕ → ℕ) → sum_by f ns ≡ sum_by (λ (e : Entry). f e.weight) c =
-    λ f. sum_by-IsPermutation f (map (weight_at c) (values c)) ns moved ∙ ap (λ (ws : List ℕ). sum_by f ws) (weights_are 0 c above) ∙ sum-map (λ (e : Entry). e.weight) f c in
+    λ f. sum_by-IsPermutation f (map (weight_at c) (values c)) ns moved ∙ ap (λ (ws : List ℕ). sum_by f ws) (weights_are 0 c above) ∙ sum-mapped (λ (e : Entry). e.weight) f c in
     let whole : all ns ≤ all (map (weight_at c) xs) =
     omega (
       arith,
       spare (λ (n : ℕ). n),
-      sum-map (weight_at c) (λ (n : ℕ). n) xs,
+      sum-mapped (weight_at c) (λ (n : ℕ). n) xs,
       sum_by-IsPermutation (weight_at c) (values d) xs order,
       covered 0 c d above above' less,
     ) in
@@ -106,9 +109,9 @@ order_kept c d xs z above above' less order v =
       arith,
       r.is,
       front_within r.t k (map (weight_at c) xs),
-      sum-map (weight_at c) (λ (n : ℕ). n - r.t) xs,
+      sum-mapped (weight_at c) (λ (n : ℕ). n - r.t) xs,
       sum_by-IsPermutation (λ (x : ℕ). weight_at c x - r.t) (values d) xs order,
-      spread r.t 0 0 c (values d) above (rises_values 0 d above'),
+      spread r.t 0 0 c (values d) above (values_rise 0 d above'),
       spare (λ (n : ℕ). n - r.t),
     ) in
     omega (arith, ints, is, cheaper (map (weight_at c) xs) ns whole fronts)
@@ -121,7 +124,7 @@ orders_kept : (d : List Entry) (xs : List ℕ) (inners : List Inner) (z : ℤ) �
     → IsPosterior Guessing inners z → z ≤ℤ pos (costs 1 (map (average_weight inners) xs))
 orders_kept d xs [] z above order pairs less is = omega (arith, ints, is)
 orders_kept d xs (i ∷ inners) z above order (pair, rest) less (a, b, v, p, is) =
-    let parts : (x : ℕ) → average_weight (i ∷ inners) x ≡ weight_at (joint_column i) x + average_weight inners x = λ x. omega (arith, sum_by-cons (joint_weight x) i inners, joint_weights i x) in
+    let parts : (x : ℕ) → average_weight (i ∷ inners) x ≡ weight_at (joint_column i) x + average_weight inners x = λ x. omega (arith, sum_by-cons (joint_weight x) i inners, joint_column_weighs i x) in
     let here : a ≤ℤ pos (costs 1 (map (weight_at (joint_column i)) xs)) =
     order_kept (joint_column i) d xs a pair.1 above (λ x. omega (arith, parts x, less x)) order v in
     let others : b ≤ℤ pos (costs 1 (map (average_weight inners) xs)) = orders_kept d xs inners b above order rest (λ x. omega (arith, parts x, less x)) p in
@@ -161,7 +164,7 @@ guesses_bounded : (d : List Entry) (y : ℤ) (inners : List Inner) (z : ℤ) →
     → z ≤ℤ (pos (length inners) *ℤ y)
 guesses_bounded d y [] z w less is = omega (arith, ints, is, zero-*ℤ y)
 guesses_bounded d y (i ∷ inners) z w less (a, b, v, p, is) =
-    let parts : (x : ℕ) → average_weight (i ∷ inners) x ≡ weight_at (joint_column i) x + average_weight inners x = λ x. omega (arith, sum_by-cons (joint_weight x) i inners, joint_weights i x) in
+    let parts : (x : ℕ) → average_weight (i ∷ inners) x ≡ weight_at (joint_column i) x + average_weight inners x = λ x. omega (arith, sum_by-cons (joint_weight x) i inners, joint_column_weighs i x) in
     let (xs, ascending, few, reached) = v.reached in
     let here : sum_by (weight_at (joint_column i)) xs ≤ sum_by (weight_at d) xs =
     omega (arith, sum_two (weight_at (joint_column i)) (weight_at d) (λ (x : ℕ). 0) xs (λ x. omega (arith, parts x, less x)), zero_sum (λ (x : ℕ). 0) xs (λ x. refl)) in

@@ -1,7 +1,6 @@
 -- The vulnerability of a column: there is one, and no other; it grows with the weights; and how great it can be.
-use Rattle.std.proofs.Common.{◌≡◌, ◌≢◌, ℕ, ◌+◌, ◌*◌, ◌<◌, ◌≤◌, List, [], ◌∷◌, map, sum_by, max, refl, sym, ◌∙◌, ap, subst, arith, suc, zero, length}
-use Rattle.std.specs.Prelude.{ℤ, pos, ◌+ℤ◌, ◌*ℤ◌, ◌-ℤ◌, ◌≤ℤ◌, unsigned_abs, Contains, IsPermutation}
-use Rattle.std.specs.List.Sorted.{IsStrictlyIncreasing}
+use Rattle.std.proofs.Common.{◌≡◌, ℕ, ◌+◌, ◌*◌, ◌≤◌, List, [], ◌∷◌, map, sum_by, refl, sym, ◌∙◌, ap, subst, arith, suc, zero, length}
+use Rattle.std.specs.Prelude.{ℤ, pos, ◌+ℤ◌, ◌*ℤ◌, ◌≤ℤ◌, unsigned_abs, IsPermutation}
 use Rattle.std.proofs.Math.IntN.{zero-*ℤ}
 use Rattle.std.proofs.lemmas.Int.{ints}
 use Rattle.std.proofs.lemmas.List.Sums.{sum_by-cons}
@@ -11,13 +10,13 @@ use Rattle.kf_hyper.specs.Columns.{weight_at, total, values, IsColumn}
 use Rattle.kf_hyper.specs.Averages.{scaled}
 use Rattle.kf_hyper.proofs.Weights.{Above, above_column}
 use Rattle.kf_hyper.proofs.Scaling.{weight_at-scaled}
-use Rattle.kf_gain.specs.declared.table.Action.{Action}
+use Rattle.kf_hyper.proofs.Rising.{rises}
 use Rattle.kf_gain.specs.declared.table.GainEntry.{GainEntry}
 use Rattle.kf_gain.specs.Gains.{GainOf, Bayes, Tries, Guessing, Table, TableTree, gain_at}
 use Rattle.kf_gain.specs.Worth.{gained, cost_from, IsTried, Reaches, NoBetter, IsVulnerability}
 use Rattle.kf_gain.specs.Vulnerabilities.{greatest, gains_of, width}
 use Rattle.kf_gain.specs.Laws.{HasActions}
-use Rattle.kf_gain.proofs.Trying.{rises, tried_total, some_tries, bayes_is}
+use Rattle.kf_gain.proofs.Trying.{tried_total, some_tries, bayes_is}
 use Rattle.kf_gain.proofs.Guessing.{some_guesses, cost_within}
 use Rattle.kf_gain.proofs.Acting.{some_action, action_within}
 

@@ -1,6 +1,6 @@
 -- Prior and posterior vulnerabilities: there is one of each, and no other, and no number of them passes the width.
-use Rattle.std.proofs.Common.{◌≡◌, ◌≢◌, ℕ, ◌+◌, ◌*◌, ◌/◌, ◌<◌, ◌≤◌, List, [], ◌∷◌, map, sum_by, max, refl, sym, ◌∙◌, ap, subst, arith, suc, zero, length}
-use Rattle.std.specs.Prelude.{ℤ, pos, ◌+ℤ◌, ◌-ℤ◌, ◌≤ℤ◌, unsigned_abs}
+use Rattle.std.proofs.Common.{◌≡◌, ℕ, ◌+◌, ◌*◌, ◌/◌, ◌<◌, ◌≤◌, List, [], ◌∷◌, sum_by, refl, sym, ◌∙◌, ap, subst, arith, length}
+use Rattle.std.specs.Prelude.{ℤ, pos, ◌+ℤ◌, ◌-ℤ◌, unsigned_abs}
 use Rattle.std.proofs.lemmas.Int.{ints}
 use Rattle.std.proofs.lemmas.List.Sums.{sum_by-cons}
 use Rattle.kf_hyper.specs.declared.entry.Entry.{Entry}
@@ -10,7 +10,7 @@ use Rattle.kf_hyper.specs.Shapes.{IsShape}
 use Rattle.kf_hyper.specs.Averages.{joint_column}
 use Rattle.kf_gain.specs.Gains.{GainOf, Bayes, Tries, Guessing, Table, TableTree, over_of}
 use Rattle.kf_gain.specs.Worth.{IsVulnerability}
-use Rattle.kf_gain.specs.Vulnerabilities.{IsAverage, IsPrior, IsPosterior, IsWidth, greatest, gains_of, width}
+use Rattle.kf_gain.specs.Vulnerabilities.{IsPrior, IsPosterior, IsWidth, greatest, gains_of, width}
 use Rattle.kf_gain.specs.Laws.{HasActions}
 use Rattle.kf_gain.proofs.Adding.{ArePairs, AreShorter, Averaged, averaged, is_average, one_average, the_average, pairs, shorter, totals, joint_length}
 use Rattle.kf_gain.proofs.Acting.{abs_sum}

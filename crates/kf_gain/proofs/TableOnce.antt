@@ -1,8 +1,7 @@
 -- Bytes have one answer at most as a gain table.
-use Rattle.std.proofs.Common.{◌≡◌, ◌<◌, ℕ, zero, suc, List, [], ◌∷◌, map, length, get_or, Contains, Option, None, Some, Ok, Err, Result, unsigned_abs, nat_cmp, refl, sym, ap, ◌∙◌, subst, arith, ◌⊎◌, ⊎_elim, inl, inr}
-use Rattle.std.specs.Prelude.{◌↔◌}
+use Rattle.std.proofs.Common.{◌≡◌, ◌<◌, zero, suc, List, [], ◌∷◌, map, Contains, Option, None, Some, Ok, Err, Result, unsigned_abs, nat_cmp, refl, sym, ap, ◌∙◌, arith, ⊎_elim}
 use Rattle.std.specs.List.{AllZip}
-use Rattle.std.specs.List.Sorted.{IsStrictlyIncreasing, IsStrictlySortedBy}
+use Rattle.std.specs.List.Sorted.{IsStrictlySortedBy}
 use Rattle.std.proofs.lemmas.List.{length-map, get_or-map}
 use Rattle.std.proofs.lemmas.Map.Keys.{sorted_from_strictly_increasing, below_from_sorted, sorted_tail}
 use Rattle.serde_json.specs.Data.{Data}
@@ -10,9 +9,8 @@ use Rattle.kf_value.specs.Targets.{Item}
 use Rattle.kf_gain.specs.declared.table.Action.{Action}
 use Rattle.kf_gain.specs.declared.table.GainEntry.{GainEntry}
 use Rattle.kf_gain.specs.declared.error.TableError.{TableError}
-use Rattle.kf_gain.specs.declared.error.TableError.TheVariants as broken
 use Rattle.kf_gain.specs.Gains.{TableTree}
-use Rattle.kf_gain.specs.Json.{json_of, members}
+use Rattle.kf_json.specs.Json.{json_of, members}
 use Rattle.kf_gain.specs.Tables.{actions_at, fault_in, IsAction, IsTableOf, IsAnswerFor}
 use Rattle.kf_gain.specs.TableLaws.{OneTable}
 use Rattle.kf_gain.proofs.Entries.{contains_cases, contains_first, contains_later, contains_none}

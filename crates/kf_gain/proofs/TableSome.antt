@@ -1,22 +1,23 @@
 -- All bytes have an answer as a gain table, and a table has an action.
-use Rattle.std.proofs.Common.{◌≡◌, ◌<◌, ◌≤◌, ◌+◌, ℕ, zero, suc, ℤ, pos, int_le, List, [], ◌∷◌, map, length, Contains, Bool, true, false, not, ◌&&◌, ◌||◌, Option, None, Some, Ok, Err, Result, unsigned_abs, refl, sym, ap, ◌∙◌, subst, arith, ◌⊎◌, ⊎_elim}
+use Rattle.std.proofs.Common.{◌≡◌, ◌<◌, ◌≤◌, ◌+◌, ℕ, zero, suc, ℤ, List, [], ◌∷◌, map, length, Contains, Bool, true, false, not, ◌||◌, Option, None, Some, Ok, Err, Result, unsigned_abs, refl, sym, ap, ◌∙◌, subst, arith, ⊎_elim}
 use Rattle.std.specs.Prelude.{◌↔◌, ◌≢◌, bytes_eq, if◌then◌else◌}
 use Rattle.std.specs.List.{AllZip, list_all, list_any}
 use Rattle.std.proofs.lemmas.Bool.{cases_eq, cases_lt}
 use Rattle.std.proofs.lemmas.Slice.Eq.{bytes_eq-Decides}
 use Rattle.serde_json.specs.Data.{Data}
 use Rattle.kf_value.specs.Targets.{Item, target_values, target_value_text}
+use Rattle.kf_hyper.proofs.Rising.{Rises, rises_less, increasing}
 use Rattle.kf_gain.specs.declared.table.Action.{Action}
 use Rattle.kf_gain.specs.declared.table.GainEntry.{GainEntry}
 use Rattle.kf_gain.specs.declared.error.TableError.{TableError}
 use Rattle.kf_gain.specs.declared.error.TableError.TheVariants as broken
 use Rattle.kf_gain.specs.Gains.{TableTree}
-use Rattle.kf_gain.specs.Json.{json_of, members, at_place, text_of, whole_of}
-use Rattle.kf_gain.specs.Tables.{actions_at, gains_at, name_at, over_at, rest_at, value_texts, are_distinct, some_action, fault_in, IsAction, IsTableOf, IsAnswerFor}
+use Rattle.kf_json.specs.Json.{json_of, members, at_place, text_of, whole_of}
+use Rattle.kf_json.specs.Rules.{are_distinct}
+use Rattle.kf_gain.specs.Tables.{actions_at, gains_at, name_at, over_at, rest_at, value_texts, fault_in, IsAction, IsTableOf, IsAnswerFor}
 use Rattle.kf_gain.specs.TableLaws.{SomeTable, TablesHaveActions}
 use Rattle.kf_gain.proofs.Entries.{contains_cases, contains_first, contains_later, contains_none, split_and}
 use Rattle.kf_gain.proofs.Judging.{judged, rules_kept, pos_abs, some_made}
-use Rattle.kf_gain.proofs.Trying.{Rises, rises_less, increasing}
 
 -- ---- the entries of the values from one on, each with what is sought at its value
 

@@ -12,7 +12,7 @@ use Rattle.kf_value.specs.Numbers.{target_size, IsNumberOf}
 use Rattle.kf_value.proofs.Ascending.{length-values}
 use Rattle.kf_value.proofs.Places.{length-combinations}
 use Rattle.serde_json.specs.Data.{Data}
-use Rattle.kf_gain.specs.Json.{at_place, text_of}
+use Rattle.kf_json.specs.Json.{at_place, text_of}
 use Rattle.kf_gain.specs.Tables.{is_value_text}
 
 counts : (ts : List TypeTree) → map length (map values ts) ≡ map count ts

@@ -1,48 +1,21 @@
 -- Sets of values that are tried at once: the greatest weights come to most.
-use Rattle.std.proofs.Common.{◌≡◌, ℕ, ◌+◌, ◌*◌, ◌-◌, ◌<◌, ◌≤◌, ◌==◌, List, [], ◌∷◌, Bool, map, sum_by, refl, sym, ◌∙◌, ap, subst, arith, add-one, suc, zero, length, get_or, if◌then◌else◌, ◌⊎◌, ⊎_elim, eq-eqb}
-use Rattle.std.specs.Prelude.{ℤ, pos, ◌≤ℤ◌, IsPermutation}
-use Rattle.std.specs.List.Sorted.{IsStrictlyIncreasing}
+use Rattle.std.proofs.Common.{◌≡◌, ℕ, ◌+◌, ◌*◌, ◌-◌, ◌<◌, ◌≤◌, List, [], ◌∷◌, Bool, map, sum_by, refl, sym, ◌∙◌, ap, arith, suc, zero, length, if◌then◌else◌, ◌⊎◌, ⊎_elim, eq-eqb}
+use Rattle.std.specs.Prelude.{ℤ, pos, IsPermutation}
 use Rattle.std.proofs.lemmas.Bool.{cases_eq, ne_eqb}
 use Rattle.std.proofs.lemmas.Int.{ints}
 use Rattle.std.proofs.lemmas.List.Sums.{sum_by-cons}
 use Rattle.std.proofs.lemmas.List.Sorted.{IsPermutation-refl, IsPermutation-cons, IsPermutation-trans, IsPermutation-sym, IsPermutation-map, sum_by-IsPermutation}
 use Rattle.kf_hyper.specs.declared.entry.Entry.{Entry}
-use Rattle.kf_hyper.specs.Columns.{weight_at, total, values}
-use Rattle.kf_hyper.proofs.Weights.{Above, weight_at-cons, weight_at_head, weight_at_other, weight_below}
+use Rattle.kf_hyper.specs.Columns.{weight_at, total}
+use Rattle.kf_hyper.proofs.Weights.{Above, weight_at_head, weight_at_other, weight_below}
 use Rattle.kf_hyper.proofs.Posteriors.{weight_of_head}
+use Rattle.kf_hyper.proofs.Averaging.{sum-mapped}
+use Rattle.kf_hyper.proofs.Rising.{Rises, rises, increasing, rises_less}
 use Rattle.kf_hyper.proofs.Scaling.{total-cons}
-use Rattle.kf_gain.specs.Gains.{GainOf, Bayes, Tries, TableTree}
+use Rattle.kf_gain.specs.Gains.{Bayes, Tries}
 use Rattle.kf_gain.specs.Worth.{IsTried, IsVulnerability}
 use Rattle.kf_gain.proofs.Adding.{at_value, Joined, join}
 use Rattle.kf_gain.proofs.Falling.{Falls, falls_more, front, excess, Threshold, threshold, front_most, Put, put}
-
--- ---- values in ascending order, by recursion
-
-abbrev pub Rises : ℕ → List ℕ → Type 0
-Rises low [] = Unit {0}
-Rises low (x ∷ xs) = (low ≤ x) × Rises (x + 1) xs
-
-rises_from : (low : ℕ) (xs : List ℕ) → (0 < length xs → low ≤ get_or xs 0 0) → IsStrictlyIncreasing xs → Rises low xs
-rises_from low [] from ascending = tt
-rises_from low (x ∷ xs) from ascending =
-    (from (omega arith), rises_from (x + 1) xs (λ some. omega (arith, ascending 0 (omega (arith, some)))) (λ k within. rw add-one (rw add-one at (ascending (suc k) (omega (arith, within))))))
-
-pub rises : (xs : List ℕ) → IsStrictlyIncreasing xs → Rises 0 xs
-rises xs ascending = rises_from 0 xs (λ some. omega arith) ascending
-
-pub increasing : (low : ℕ) (xs : List ℕ) → Rises low xs → IsStrictlyIncreasing xs
-increasing low [] rises k below = absurd (omega arith)
-increasing low (x ∷ []) rises k below = absurd (omega arith)
-increasing low (x ∷ y ∷ ys) (from, rest) zero below = omega (arith, rest.0)
-increasing low (x ∷ y ∷ ys) (from, rest) (suc k) below = rw add-one (rw add-one at (increasing (x + 1) (y ∷ ys) rest k (omega arith)))
-
-pub rises_less : (low high : ℕ) (xs : List ℕ) → low ≤ high → Rises high xs → Rises low xs
-rises_less low high [] order rises = tt
-rises_less low high (x ∷ xs) order (from, rest) = (omega (arith, from, order), rest)
-
-pub rises_values : (low : ℕ) (c : List Entry) → Above low c → Rises low (values c)
-rises_values low [] above = tt
-rises_values low (e ∷ es) (from, some, rest) = (from, rises_values (e.value + 1) es rest)
 
 -- ---- sums over values
 
@@ -53,10 +26,6 @@ same_sums f g (x ∷ xs) same = omega (arith, sum_by-cons f x xs, sum_by-cons g 
 pub sum_two : {X : Type 0} (f g h : X → ℕ) (xs : List X) → ((x : X) → f x ≤ g x + h x) → sum_by f xs ≤ sum_by g xs + sum_by h xs
 sum_two f g h [] within = omega arith
 sum_two f g h (x ∷ xs) within = omega (arith, sum_by-cons f x xs, sum_by-cons g x xs, sum_by-cons h x xs, within x, sum_two f g h xs within)
-
-pub sum-map : {X Y : Type 0} (shown : X → Y) (f : Y → ℕ) (xs : List X) → sum_by f (map shown xs) ≡ sum_by (λ (x : X). f (shown x)) xs
-sum-map shown f [] = refl
-sum-map shown f (x ∷ xs) = omega (arith, sum_by-cons f (shown x) (map shown xs), sum_by-cons (λ x. f (shown x)) x xs, sum-map shown f xs)
 
 pub zero_sum : {X : Type 0} (f : X → ℕ) (xs : List X) → ((x : X) → f x ≡ 0) → sum_by f xs ≡ 0
 zero_sum f [] none = refl
@@ -186,7 +155,7 @@ tries_are k m c ns above moved falls =
     let ge : front k ms ≤ front k ns = front_most k m ms ns (IsPermutation-trans ms (map weight c) ns (IsPermutation-sym (map weight c) ms moved') moved) falls in
     let p : Picked 0 k c (front k ms) = t.reached k in
     let r : Threshold k m ns = threshold k m ns falls in
-    let spare : excess r.t ns ≡ sum_by (λ (e : Entry). e.weight - r.t) c = sum_by-IsPermutation (λ (n : ℕ). n - r.t) (map weight c) ns moved ∙ sum-map weight (λ (n : ℕ). n - r.t) c in
+    let spare : excess r.t ns ≡ sum_by (λ (e : Entry). e.weight - r.t) c = sum_by-IsPermutation (λ (n : ℕ). n - r.t) (map weight c) ns moved ∙ sum-mapped weight (λ (n : ℕ). n - r.t) c in
     record {
       reached = (p.0, increasing 0 p.0 p.1, p.2, ap pos (let same : front k ns ≡ front k ms = omega (arith, le, ge) in same ∙ p.3));
       best = λ y (xs, ascending, few, is). omega (arith, ints, is, r.is, spare, tried_within r.t k c xs above (rises xs ascending) few);

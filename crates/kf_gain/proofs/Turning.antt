@@ -1,12 +1,13 @@
 -- One inner after the other: what each adds to the posterior, and that every sum stays within the width.
-use Rattle.std.proofs.Common.{◌≡◌, ℕ, ◌+◌, ◌*◌, ◌/◌, ◌<◌, ◌≤◌, List, [], ◌∷◌, map, sum_by, refl, sym, ◌∙◌, ap, subst, arith, suc, zero, length, get_or, take, drop, drop-cons, add-one}
+use Rattle.std.proofs.Common.{◌≡◌, ℕ, ◌+◌, ◌*◌, ◌/◌, ◌<◌, ◌≤◌, List, [], ◌∷◌, sum_by, refl, sym, ◌∙◌, ap, subst, arith, suc, zero, length, get_or, take, drop, drop-cons, add-one}
 use Rattle.std.specs.Prelude.{ℤ, pos, ◌+ℤ◌, ◌*ℤ◌, unsigned_abs}
 use Rattle.std.specs.Int.{◌∣◌}
+use Rattle.std.proofs.Math.Nat.{div-mul_cancel}
 use Rattle.std.proofs.lemmas.Int.{ints, unsigned_abs-mul}
 use Rattle.std.proofs.lemmas.List.Sums.{get_or-le-sum_by, sum_by_more, sum_by-take-le}
 use Rattle.std.proofs.lemmas.Nat.Gcd.{le_of_dvd}
 use Rattle.kf_hyper.specs.declared.entry.Entry.{Entry}
-use Rattle.kf_hyper.specs.Columns.{total, IsColumn}
+use Rattle.kf_hyper.specs.Columns.{total}
 use Rattle.kf_hyper.specs.Hypers.{Inner, IsInner}
 use Rattle.kf_hyper.specs.Shapes.{IsShape}
 use Rattle.kf_hyper.specs.Averages.{joint_column}
@@ -16,7 +17,7 @@ use Rattle.kf_gain.specs.Gains.{GainOf, TableTree}
 use Rattle.kf_gain.specs.Worth.{IsVulnerability}
 use Rattle.kf_gain.specs.Vulnerabilities.{IsAverage, IsPosterior, IsPrior, IsWidth, width}
 use Rattle.kf_gain.proofs.Acting.{abs_sum}
-use Rattle.kf_gain.proofs.Adding.{ArePairs, AreShorter, Averaged, averaged, the_average, above_average, one_average, pairs, shorter, whole_times}
+use Rattle.kf_gain.proofs.Adding.{ArePairs, AreShorter, averaged, the_average, above_average, pairs, shorter}
 use Rattle.kf_gain.proofs.Measures.{scales, within_width, wider, longer_total, reach, reach_width}
 use Rattle.kf_gain.proofs.Reports.{posterior_within}
 
@@ -71,7 +72,7 @@ module _ (size scale : ℕ) (g : GainOf TableTree) (inners : List Inner) (shape 
 
   -- how many times the inner goes into its total
   whole : ((get_or inners i d).total / total (get_or inners i d).entries) * total (get_or inners i d).entries ≡ (get_or inners i d).total
-  whole = whole_times (get_or inners i d) is_inner used divides
+  whole = div-mul_cancel (total (get_or inners i d).entries) divides
 
   at_most_all : (k t n : ℕ) → 0 < t → k * t ≡ n → k ≤ n
   at_most_all k (suc t) n some is = omega (arith, is)

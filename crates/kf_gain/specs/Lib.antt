@@ -2,7 +2,6 @@
 pub mod Gains
 pub mod Worth
 pub mod Vulnerabilities
-pub mod Json
 pub mod Tables
 -- For bodies
 pub mod Falling

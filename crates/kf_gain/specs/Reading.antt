@@ -1,20 +1,14 @@
 -- For bodies: what the steps of reading a gain table give.
-use Rattle.std.specs.Prelude.{◌≡◌, ◌↔◌, List, map, Contains, true, Option, Some, unwrap_or, option_map}
+use Rattle.std.specs.Prelude.{◌≡◌, ◌↔◌, List, map, Contains, true, Some}
 use Rattle.std.specs.List.Sorted.{IsStrictlyIncreasing}
-use denote.Ref.{Bor}
-use Rattle.serde_json.specs.Data.{Data, null}
-use Rattle.serde_json.specs.View.{view}
-use Rattle.serde_json.specs.declared.value.Value.{Value}
+use Rattle.serde_json.specs.Data.{Data}
 use Rattle.kf_value.specs.Targets.{Item}
 use Rattle.kf_value.specs.Numbers.{IsNumberOf}
 use Rattle.kf_gain.specs.declared.table.GainEntry.{GainEntry}
 use Rattle.kf_gain.specs.declared.table.Action.{Action}
-use Rattle.kf_gain.specs.Tables.{name_at, value_texts, are_distinct, Names}
-use Rattle.kf_gain.specs.Json.{at_place, text_of, whole_of}
-
--- what was found; `null` where nothing was
-abbrev pub seen : Option (Bor Value) → Data
-seen found = unwrap_or (option_map (λ v. view v.now) found) null
+use Rattle.kf_json.specs.Rules.{are_distinct}
+use Rattle.kf_gain.specs.Tables.{name_at, value_texts, Names}
+use Rattle.kf_json.specs.Json.{at_place, text_of, whole_of}
 
 -- the entry of a gain: the number of its value, and the gain
 pub record IsEntry (items : List Item) (g : Data) (e : GainEntry) : Type 0 where

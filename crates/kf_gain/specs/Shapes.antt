@@ -1,5 +1,5 @@
 -- For bodies: what a gain table keeps.
-use Rattle.std.specs.Prelude.{◌≢◌, ℕ, ◌<◌, ◌≤◌, List, [], map, All, unsigned_abs}
+use Rattle.std.specs.Prelude.{◌≢◌, ◌<◌, ◌≤◌, [], map, All, unsigned_abs}
 use Rattle.std.specs.List.Sorted.{IsStrictlyIncreasing}
 use Rattle.kf_frac.specs.Fractions.{limit}
 use Rattle.kf_gain.specs.Gains.{TableTree}

@@ -1,5 +1,5 @@
 -- Believed: gain tables as JSON files: which bytes are one, what it says, and the first rule that other bytes break.
-use Rattle.std.specs.Prelude.{◌≡◌, ℕ, ◌<◌, ◌↔◌, ◌&&◌, ◌||◌, ◌==◌, nat_le, ℤ, pos, int_le, unsigned_abs, List, [], ◌∷◌, map, flat_map, length, Contains, Bool, true, false, not, Option, None, Some, Result, Ok, Err, codes, bytes_eq, if◌then◌else◌, is_some}
+use Rattle.std.specs.Prelude.{◌≡◌, ℕ, ◌<◌, ◌↔◌, ◌&&◌, ◌==◌, nat_le, ℤ, pos, int_le, unsigned_abs, List, [], ◌∷◌, map, length, Contains, Bool, not, Option, None, Some, Result, Ok, Err, codes, bytes_eq}
 use Rattle.std.specs.List.{AllZip, list_all, list_any}
 use Rattle.std.specs.List.Sorted.{IsStrictlyIncreasing}
 use Rattle.serde_json.specs.Data.{Data}
@@ -9,7 +9,8 @@ use Rattle.kf_gain.specs.declared.table.GainEntry.{GainEntry}
 use Rattle.kf_gain.specs.declared.error.TableError.{TableError}
 use Rattle.kf_gain.specs.declared.error.TableError.TheVariants as broken
 use Rattle.kf_gain.specs.Gains.{TableTree}
-use Rattle.kf_gain.specs.Json.{json_of, has_keys, at_key, is_list, members, at_place, is_text, text_of, is_the_text, as_whole, is_whole, whole_of}
+use Rattle.kf_json.specs.Rules.{is_name, are_distinct, first_broken}
+use Rattle.kf_json.specs.Json.{json_of, has_keys, at_key, is_list, members, at_place, is_text, text_of, is_the_text, is_whole, whole_of}
 
 -- ---- what stands where in a table
 
@@ -61,14 +62,6 @@ is_action a = has_keys (codes "gains" ∷ codes "name" ∷ []) a
 abbrev pub form_4 : Data → Bool
 form_4 d = is_list (actions_at d) && list_all is_action (members (actions_at d))
 
--- ASCII letters and digits, `_` and `-`
-abbrev pub is_name_byte : ℕ → Bool
-is_name_byte b = (nat_le 48 b && nat_le b 57) || (nat_le 65 b && nat_le b 90) || (nat_le 97 b && nat_le b 122) || (b == 95) || (b == 45)
-
--- a text of 1 to 64 of these
-abbrev pub is_name : Data → Bool
-is_name d = is_text d && nat_le 1 (length (text_of d)) && nat_le (length (text_of d)) 64 && list_all is_name_byte (text_of d)
-
 -- Form 5: each action's name is a name
 abbrev pub form_5 : Data → Bool
 form_5 d = list_all (λ a. is_name (name_at a)) (members (actions_at d))
@@ -106,11 +99,6 @@ is_value_text items bytes = list_any (λ vs. bytes_eq (shown vs) bytes) (target_
 abbrev pub all_known : List Item → Data → Bool
 all_known items d = list_all (λ a. list_all (is_value_text items) (value_texts a)) (members (actions_at d))
 
--- no two of the texts are equal
-abbrev pub are_distinct : List (List ℕ) → Bool
-are_distinct [] = true
-are_distinct (t ∷ ts) = not (list_any (bytes_eq t) ts) && are_distinct ts
-
 -- Twice is broken where an action names a value twice, or two actions have one name; a value has one text
 abbrev pub all_once : Data → Bool
 all_once d = list_all (λ a. are_distinct (value_texts a)) (members (actions_at d)) && are_distinct (action_names d)
@@ -126,11 +114,6 @@ form_rules d =
 -- those on the values that it names
 abbrev pub value_rules : List Item → Data → List (Bool × TableError)
 value_rules items d = (all_known items d, broken.Unknown) ∷ (all_once d, broken.Twice) ∷ []
-
--- the first that is broken; none where all hold, and then what comes next
-abbrev pub first_broken : List (Bool × TableError) → Option TableError → Option TableError
-first_broken [] next = next
-first_broken (rule ∷ rules) next = if rule.0 then first_broken rules next else Some rule.1
 
 abbrev pub fault_in : List Item → Data → Option TableError
 fault_in items d = first_broken (form_rules d) (first_broken (value_rules items d) None)

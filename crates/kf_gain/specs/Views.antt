@@ -1,7 +1,6 @@
 -- For bodies: what contracts see of gains, of tables and of fractions.
-use Rattle.std.specs.Prelude.{◌≡◌, ◌≢◌, ℕ, ◌≤◌, ℤ, List, [], map, All, unsigned_abs}
-use Rattle.std.specs.List.Sorted.{IsStrictlyIncreasing}
-use Rattle.kf_frac.specs.Fractions.{limit, reduced_num, reduced_den}
+use Rattle.std.specs.Prelude.{◌≡◌, ℕ, ℤ}
+use Rattle.kf_frac.specs.Fractions.{reduced_num, reduced_den}
 use Rattle.kf_frac.specs.Views.{num_of, den_of}
 use Rattle.kf_frac.specs.declared.frac.Frac.{Frac}
 use Rattle.kf_gain.specs.declared.gain.Gain.{Gain}

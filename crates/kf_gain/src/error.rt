@@ -1,3 +1,4 @@
+use kf_json::JsonError;
 use kf_value::Mem;
 use std::alloc::{AllocError, AllocFailed};
 
@@ -18,6 +19,21 @@ pub enum TableError {
     Empty,
     /// Want of memory.
     Mem,
+}
+
+impl From<JsonError> for TableError {
+    ghost use Rattle.std.specs.Prelude.{◌≡◌};
+    ghost use Rattle.kf_json.specs.declared.parsing.JsonError.TheVariants as json;
+    ghost use Rattle.kf_gain.specs.declared.error.TableError.TheVariants as broken;
+
+    ghost from_gives = { λ found e. elim found [ json.Malformed ↦ e ≡ broken.Json | json.Mem ↦ e ≡ broken.Mem ] };
+
+    fn from(error: JsonError) -> Self {
+        match error {
+            JsonError::Malformed => TableError::Json,
+            JsonError::Mem => TableError::Mem,
+        }
+    }
 }
 
 impl From<Mem> for TableError {

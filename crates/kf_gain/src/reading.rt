@@ -4,36 +4,20 @@ ghost use Rattle.std.specs.Prelude.{◌≡◌, ◌≢◌, Ok, Err, Some, None, I
 ghost use Rattle.serde_json.specs.View.{view};
 ghost use Rattle.kf_value.specs.Views.{items_of};
 ghost use Rattle.kf_gain.specs.declared.error.TableError.TheVariants as broken;
-ghost use Rattle.kf_gain.specs.Json.{json_of};
+ghost use Rattle.kf_json.specs.Json.{json_of};
 ghost use Rattle.kf_gain.specs.Tables.{IsTable};
 ghost use Rattle.kf_gain.specs.Shapes.{IsTableShape};
 ghost use Rattle.kf_gain.specs.Views.{table_tree};
 
-mod json;
 mod making;
 mod rules;
 
 use crate::{Action, ActionList, GainTable, TableError};
-use json::whole_or_zero;
+use kf_json::{parse, whole_or_zero};
 use kf_value::Target;
 use making::{actions, is_once};
 use rules::broken_form;
-use serde_json::{Category, Value};
 use std::alloc::Global;
-
-/// The JSON value of the bytes.
-fn parsed(alloc: Global, bytes: &[u8]) -> Result<Value, TableError>
-    ensures ok { IfOk result (λ v. json_of bytes.now ≡ Some (view v)) }
-    ensures err { IfErr result (λ e. e ≢ broken.Mem → (e ≡ broken.Json) × (json_of bytes.now ≡ None)) }
-{
-    match Value::from_slice(alloc, bytes) {
-        Ok(value) => Ok(value),
-        Err(e) => match e.classify() {
-            Category::Memory => Err(TableError::Mem),
-            _ => Err(TableError::Json),
-        },
-    }
-}
 
 /// The table with these numbers and actions.
 fn table(over: u128, rest: i128, actions: Vec<Action>) -> GainTable
@@ -57,7 +41,7 @@ pub fn read_table(alloc: Global, bytes: &[u8], target: &Target) -> Result<GainTa
     ensures is { IfOk result (λ t. IsTable (items_of target.now) bytes.now (Ok (table_tree t))) }
     ensures err { IfErr result (λ e. e ≢ broken.Mem → IsTable (items_of target.now) bytes.now (Err e)) }
 {
-    let value = parsed(alloc, bytes)?;
+    let value = parse(alloc, bytes)?;
     if let Some(fault) = broken_form(&value) {
         return Err(fault);
     }

@@ -5,16 +5,16 @@ ghost use Rattle.std.specs.List.{AllZip, list_all};
 ghost use Rattle.serde_json.specs.View.{view};
 ghost use Rattle.kf_value.specs.Views.{items_of};
 ghost use Rattle.kf_gain.specs.declared.error.TableError.TheVariants as broken;
-ghost use Rattle.kf_gain.specs.Json.{members as member_list, at_place, whole_of};
-ghost use Rattle.kf_gain.specs.Tables.{actions_at, gains_at, value_texts, action_names, is_value_text, all_known, all_once, are_distinct as distinct};
+ghost use Rattle.kf_json.specs.Json.{members as member_list, at_place, whole_of};
+ghost use Rattle.kf_gain.specs.Tables.{actions_at, gains_at, value_texts, action_names, is_value_text, all_known, all_once};
+ghost use Rattle.kf_json.specs.Rules.{are_distinct as distinct};
 ghost use Rattle.kf_gain.specs.Reading.{IsEntry, IsRead};
 
-use crate::reading::json::{members, text, whole_or_zero};
 use crate::{Action, GainEntry, GainEntryList, TableError};
+use kf_json::{are_distinct, members, text, whole_or_zero};
 use kf_value::{Mem, Name, Target, number_of};
 use serde_json::Value;
 use std::alloc::Global;
-use std::collections::BTreeSet;
 
 /// The entry of a gain at a value.
 fn entry(value: u64, gain: &Value) -> GainEntry
@@ -74,19 +74,6 @@ pub(crate) fn actions(
         actions.push(action(alloc, target, value)?)?;
     }
     Ok(actions)
-}
-
-/// Whether no two of the texts are equal.
-fn are_distinct(alloc: Global, texts: Vec<&str>) -> Result<bool, Mem>
-    ensures { IfOk result (λ b. b ≡ distinct (map (λ t. t.now) texts.entry.items)) }
-{
-    let mut seen = BTreeSet::new(alloc);
-    for text in texts {
-        if !seen.insert(text)? {
-            return Ok(false);
-        }
-    }
-    Ok(true)
 }
 
 /// Whether an action names no value twice.

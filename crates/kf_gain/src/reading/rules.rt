@@ -3,26 +3,14 @@
 ghost use Rattle.std.specs.Prelude.{◌≡◌, None, codes, bytes_eq};
 ghost use Rattle.std.specs.List.{list_all};
 ghost use Rattle.serde_json.specs.View.{view};
-ghost use Rattle.kf_gain.specs.Json.{is_the_text, members as member_list, at_place, whole_of};
+ghost use Rattle.kf_json.specs.Json.{members as member_list, at_place, whole_of};
+ghost use Rattle.kf_json.specs.Rules.{is_name as is_a_name, first_broken};
 ghost use Rattle.kf_gain.specs.Tables as rule;
-ghost use Rattle.kf_gain.specs.Reading.{seen};
+ghost use Rattle.kf_json.specs.Seen.{seen};
 
 use crate::TableError;
-use crate::reading::json::{has_keys, is_list, is_text, members, text, whole, whole_or_zero};
+use kf_json::{has_keys, is_list, is_name, is_text, is_the_text, members, whole, whole_or_zero};
 use serde_json::Value;
-
-/// Whether the text was found.
-fn is_the_text(found: Option<&Value>, wanted: &str) -> bool
-    ensures { result ≡ is_the_text wanted.now (seen found.entry) }
-{
-    match found {
-        Some(value) => match value.as_str() {
-            Some(text) => text == wanted,
-            None => false,
-        },
-        None => false,
-    }
-}
 
 /// Whether `over` and `rest` are whole numbers, and `over` is at least 1.
 fn has_numbers(value: &Value) -> bool
@@ -49,27 +37,11 @@ fn has_actions(value: &Value) -> bool
     is_list(found) && members(found).iter().all(|action| is_action(action))
 }
 
-/// Whether the byte may stand in a name.
-fn is_name_byte(b: u8) -> bool
-    ensures { result ≡ rule.is_name_byte b }
-{
-    b.is_ascii_alphanumeric() || b == b'_' || b == b'-'
-}
-
-/// Whether the bytes may all stand in a name.
-fn are_name_bytes(bytes: &[u8]) -> bool
-    ensures { result ≡ list_all rule.is_name_byte bytes.now }
-{
-    bytes.iter().all(|b| is_name_byte(*b))
-}
-
 /// Whether the action has a name.
 fn is_named(action: &Value) -> bool
-    ensures { result ≡ rule.is_name (rule.name_at (view action.now)) }
+    ensures { result ≡ is_a_name (rule.name_at (view action.now)) }
 {
-    let found = action.get("name");
-    let name = text(found);
-    is_text(found) && 1 <= name.len() && name.len() <= 64 && are_name_bytes(name.as_bytes())
+    is_name(action.get("name"))
 }
 
 /// Whether all actions have names.
@@ -143,7 +115,7 @@ fn is_narrow_table(value: &Value) -> bool
 
 /// The first rule on the file alone that the value breaks.
 pub(crate) fn broken_form(value: &Value) -> Option<TableError>
-    ensures { result ≡ rule.first_broken (rule.form_rules (view value.now)) None }
+    ensures { result ≡ first_broken (rule.form_rules (view value.now)) None }
 {
     if !has_keys(value, &["actions", "format", "over", "rest"]) {
         Some(TableError::Form { rule: 1 })

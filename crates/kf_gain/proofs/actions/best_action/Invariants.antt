@@ -1,5 +1,5 @@
 use Rattle.std.proofs.Common.{◌≡◌, ℕ, ◌<◌, get_or}
-use Rattle.std.specs.Prelude.{ℤ, ◌≤ℤ◌, Contains, ℤ}
+use Rattle.std.specs.Prelude.{◌≤ℤ◌, Contains}
 use Rattle.kf_gain.specs.declared.table.Action.{Action}
 use Rattle.kf_gain.specs.Worth.{gained}
 use Rattle.kf_gain.proofs.actions.best_action.Given as goal

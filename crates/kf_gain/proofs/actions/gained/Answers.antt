@@ -1,7 +1,7 @@
-use Rattle.std.proofs.Common.{rules, ◌≡◌, ℕ, ◌*◌, ◌≤◌, ◌<◌, ◌^◌, ◌+◌, pos, map, max, to_z, of_z, arith, ap, sym, ◌∙◌, take, drop, slice_index_or}
+use Rattle.std.proofs.Common.{rules, ◌≡◌, ℕ, ◌*◌, ◌≤◌, ◌+◌, pos, map, max, to_z, of_z, arith, ap, ◌∙◌, drop, slice_index_or}
 use Rattle.std.specs.Prelude.{ℤ, ◌+ℤ◌, ◌*ℤ◌, unsigned_abs, FitsSigned}
 use Rattle.std.specs.Int.{w128}
-use Rattle.std.proofs.lemmas.Int.{ints, to_z-of_z, fits_signed_from_abs}
+use Rattle.std.proofs.lemmas.Int.{to_z-of_z, fits_signed_from_abs}
 use Rattle.kf_frac.specs.Fractions.{limit}
 use Rattle.kf_hyper.specs.declared.entry.Entry.{Entry}
 use Rattle.kf_hyper.specs.Columns.{total}
@@ -9,7 +9,7 @@ use Rattle.kf_gain.specs.declared.table.GainEntry.{GainEntry}
 use Rattle.kf_gain.specs.Gains.{gain_at}
 use Rattle.kf_gain.specs.Worth.{gained}
 use Rattle.kf_gain.specs.Vulnerabilities.{greatest}
-use Rattle.kf_gain.proofs.Acting.{weight_fits, product_fits, next_within, next_fits, next_gained}
+use Rattle.kf_gain.proofs.Acting.{product_fits, next_within, next_fits, next_gained}
 use Rattle.kf_gain.proofs.actions.gained.Goals as goal
 
 pub times-sum-requires-clause-fits : goal.times-sum-requires-clause-fits

@@ -3,10 +3,11 @@ use Rattle.std.proofs.lemmas.Int.{to_z-of_z}
 use mir.Syntax.{w128}
 use Rattle.serde_json.specs.View.{view}
 use Rattle.kf_value.specs.Views.{items_of}
-use Rattle.kf_gain.specs.Json.{whole_of}
-use Rattle.kf_gain.specs.Tables.{IsTable, first_broken, form_rules, all_once}
+use Rattle.kf_json.specs.Json.{whole_of}
+use Rattle.kf_json.specs.Rules.{first_broken}
+use Rattle.kf_gain.specs.Tables.{IsTable, form_rules, all_once}
 use Rattle.kf_gain.proofs.Judging.{table_shaped, table_told, answer_table, fault_none}
-use Rattle.kf_gain.proofs.Viewing.{seen_at}
+use Rattle.kf_json.proofs.Viewing.{seen_at}
 use Rattle.kf_gain.proofs.reading.read_table.Goals as goal
 
 pub table-requires : goal.table-requires

@@ -1,6 +1,6 @@
-use Rattle.std.proofs.Common.{refl, ◌∙◌}
+use Rattle.std.proofs.Common.{refl}
 use Rattle.kf_hyper.specs.Views.{inners_of}
-use Rattle.kf_gain.proofs.Adding.{Averaged, averaged, is_average}
+use Rattle.kf_gain.proofs.Adding.{averaged, is_average}
 use Rattle.kf_gain.proofs.widths.width.Goals as goal
 
 pub returns-in-Bayes : goal.returns-in-Bayes

@@ -1,16 +1,14 @@
-use Rattle.std.proofs.Common.{rules, ◌≡◌, ◌∙◌, sym, ap, refl, subst, codes, map, drop, arith, true, List, ℕ, Bor}
-use Rattle.std.specs.Prelude.{IfOk}
+use Rattle.std.proofs.Common.{◌≡◌, ◌∙◌, sym, ap, subst, codes, List}
 use Rattle.std.proofs.lemmas.Result.{err_from_is_err_and}
 use Rattle.std.specs.List.{AllZip, list_all}
 use Rattle.serde_json.specs.Data.{Data}
 use Rattle.serde_json.specs.View.{view}
 use Rattle.kf_value.specs.Views.{items_of}
-use Rattle.kf_gain.specs.Json.{members, at_place, text_of, whole_of}
-use Rattle.kf_gain.specs.Tables.{actions_at, gains_at, name_at, value_texts, action_names, are_distinct}
-use Rattle.kf_gain.specs.Reading.{IsEntry, IsRead}
-use Rattle.kf_gain.proofs.Carrying.{Carries, carries_first, carries_more, carries_out, carries_bad, tests_more, tests_bad, tests_out, StillTests, zip_map}
-use Rattle.kf_gain.proofs.Entries.{action_read, action_known, text_shown}
-use Rattle.kf_gain.proofs.Viewing.{seen_at, place_at, both}
+use Rattle.kf_json.specs.Json.{members}
+use Rattle.kf_gain.specs.Reading.{IsRead}
+use Rattle.kf_json.proofs.Carrying.{Carries, carries_first, carries_more, carries_out, carries_bad}
+use Rattle.kf_gain.proofs.Entries.{action_known}
+use Rattle.kf_json.proofs.Viewing.{seen_at}
 use Rattle.kf_gain.specs.declared.error.TableError.TheVariants as broken
 use Rattle.kf_gain.proofs.reading.making.actions.Goals as goal
 

@@ -1,16 +1,16 @@
-use Rattle.std.proofs.Common.{rules, ◌≡◌, ◌∙◌, sym, ap, refl, subst, codes, map, drop, arith, Some, List, ℕ}
+use Rattle.std.proofs.Common.{rules, ◌∙◌, sym, ap, refl, subst, codes, Some, List, ℕ}
 use Rattle.std.specs.List.{AllZip, list_all}
 use Rattle.std.proofs.lemmas.List.Folds.{list_all-map}
 use Rattle.serde_json.specs.Data.{Data}
 use Rattle.serde_json.specs.View.{view}
 use Rattle.kf_value.specs.Numbers.{IsNumberOf}
 use Rattle.kf_value.specs.Views.{items_of}
-use Rattle.kf_gain.specs.Json.{members, at_place, text_of, whole_of}
-use Rattle.kf_gain.specs.Tables.{gains_at, value_texts, is_value_text}
+use Rattle.kf_json.specs.Json.{members, at_place, text_of}
+use Rattle.kf_gain.specs.Tables.{gains_at, is_value_text}
 use Rattle.kf_gain.specs.Reading.{IsEntry}
-use Rattle.kf_gain.proofs.Carrying.{Carries, carries_first, carries_more, carries_out, carries_bad}
+use Rattle.kf_json.proofs.Carrying.{Carries, carries_first, carries_more, carries_out, carries_bad}
 use Rattle.kf_gain.proofs.TargetTexts.{gain_known, text_known, text_unknown}
-use Rattle.kf_gain.proofs.Viewing.{seen_at, place_at}
+use Rattle.kf_json.proofs.Viewing.{seen_at, place_at}
 use Rattle.kf_gain.proofs.reading.making.entries.Goals as goal
 
 pub loop-gain-init : goal.loop-gain-init

@@ -2,7 +2,7 @@ use Rattle.std.proofs.Common.{map, drop}
 use Rattle.serde_json.specs.View.{view}
 use Rattle.kf_value.specs.Views.{items_of}
 use Rattle.kf_gain.specs.Reading.{IsEntry}
-use Rattle.kf_gain.proofs.Carrying.{Carries}
+use Rattle.kf_json.proofs.Carrying.{Carries}
 use Rattle.kf_gain.proofs.TargetTexts.{gain_known}
 use Rattle.kf_gain.proofs.reading.making.entries.Given as goal
 

@@ -1,12 +1,10 @@
-use Rattle.std.proofs.Common.{rules, ◌≡◌, ◌∙◌, sym, ap, refl, codes, is_some}
+use Rattle.std.proofs.Common.{rules, ◌∙◌, sym, ap, codes}
 use borrow.Author.Tests.{tests}
-use Rattle.std.specs.List.{list_all}
 use Rattle.std.proofs.lemmas.Iterator.{YieldsList-from_slice}
 use Rattle.serde_json.specs.View.{view}
-use Rattle.serde_json.specs.Find.{get}
-use Rattle.kf_gain.specs.Json.{is_list, members, at_place, whole_of}
+use Rattle.kf_json.specs.Json.{is_list, members}
 use Rattle.kf_gain.specs.Tables as rule
-use Rattle.kf_gain.proofs.Viewing.{all_seen, both, seen_at, json_read, json_refused, has_keys_found, has_keys_many}
+use Rattle.kf_json.proofs.Viewing.{all_seen, both, seen_at}
 use Rattle.kf_gain.proofs.reading.rules.is_gaining.Goals as goal
 
 pub returns-then-is_list : goal.returns-then-is_list

@@ -1,14 +1,14 @@
-//! The words on JSON values in which rules on files are stated.
+//! What stands in a JSON value, and what a look-up into one found.
 
 ghost use Rattle.std.specs.Prelude.{◌≡◌, map};
 ghost use Rattle.serde_json.specs.View.{view};
-ghost use Rattle.kf_gain.specs.Json.{has_keys as has_these, is_list as is_a_list, is_text as is_a_text, members as member_list, text_of, as_whole, whole_of};
-ghost use Rattle.kf_gain.specs.Reading.{seen};
+ghost use Rattle.kf_json.specs.Json.{has_keys as has_these, is_list as is_a_list, is_text as is_a_text, is_the_text as is_this_text, members as member_list, text_of, as_whole, whole_of};
+ghost use Rattle.kf_json.specs.Seen.{seen};
 
 use serde_json::{Number, Value};
 
 /// Whether the value is an object with these keys, which differ, and no others.
-pub(crate) fn has_keys(value: &Value, keys: &[&str]) -> bool
+pub fn has_keys(value: &Value, keys: &[&str]) -> bool
     ensures { result ≡ has_these (map (λ k. k.now) keys.now) (view value.now) }
 {
     match value.as_object() {
@@ -20,7 +20,7 @@ pub(crate) fn has_keys(value: &Value, keys: &[&str]) -> bool
 }
 
 /// Whether a list was found.
-pub(crate) fn is_list(found: Option<&Value>) -> bool
+pub fn is_list(found: Option<&Value>) -> bool
     ensures { result ≡ is_a_list (seen found.entry) }
 {
     match found {
@@ -31,7 +31,7 @@ pub(crate) fn is_list(found: Option<&Value>) -> bool
 
 /// The members of the list that was found; none where there is no list.
 #[tactic(auto, using(crate::proofs::Viewing::members_listed))]
-pub(crate) fn members(found: Option<&Value>) -> &[Value]
+pub fn members(found: Option<&Value>) -> &[Value]
     ensures { map view result.now ≡ member_list (seen found.entry) }
 {
     match found {
@@ -44,7 +44,7 @@ pub(crate) fn members(found: Option<&Value>) -> &[Value]
 }
 
 /// Whether a text was found.
-pub(crate) fn is_text(found: Option<&Value>) -> bool
+pub fn is_text(found: Option<&Value>) -> bool
     ensures { result ≡ is_a_text (seen found.entry) }
 {
     match found {
@@ -54,7 +54,7 @@ pub(crate) fn is_text(found: Option<&Value>) -> bool
 }
 
 /// The text that was found; the empty one where there is none.
-pub(crate) fn text(found: Option<&Value>) -> &str
+pub fn text(found: Option<&Value>) -> &str
     ensures { result.now ≡ text_of (seen found.entry) }
 {
     match found {
@@ -64,7 +64,7 @@ pub(crate) fn text(found: Option<&Value>) -> &str
 }
 
 /// The whole number that was found.
-pub(crate) fn whole(found: Option<&Value>) -> Option<i128>
+pub fn whole(found: Option<&Value>) -> Option<i128>
     ensures { result ≡ as_whole (seen found.entry) }
 {
     match found {
@@ -77,8 +77,21 @@ pub(crate) fn whole(found: Option<&Value>) -> Option<i128>
 }
 
 /// The whole number that was found; 0 where there is none.
-pub(crate) fn whole_or_zero(found: Option<&Value>) -> i128
+pub fn whole_or_zero(found: Option<&Value>) -> i128
     ensures { result ≡ whole_of (seen found.entry) }
 {
     whole(found).unwrap_or(0)
+}
+
+/// Whether the text was found.
+pub fn is_the_text(found: Option<&Value>, wanted: &str) -> bool
+    ensures { result ≡ is_this_text wanted.now (seen found.entry) }
+{
+    match found {
+        Some(value) => match value.as_str() {
+            Some(text) => text == wanted,
+            None => false,
+        },
+        None => false,
+    }
 }

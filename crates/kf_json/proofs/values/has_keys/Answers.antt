@@ -1,13 +1,11 @@
-use Rattle.std.proofs.Common.{rules, ◌≡◌, ◌∙◌, sym, ap, refl, codes, is_some}
+use Rattle.std.proofs.Common.{rules, refl, is_some}
 use borrow.Author.Tests.{tests}
 use Rattle.std.proofs.lemmas.Bool.{eq-eqb, ne_eqb}
 use Rattle.std.proofs.lemmas.Iterator.{YieldsList-from_slice}
 use Rattle.serde_json.specs.View.{view}
 use Rattle.serde_json.specs.Find.{get}
-use Rattle.kf_gain.specs.Json.{is_list, members, at_place, whole_of}
-use Rattle.kf_gain.specs.Tables as rule
-use Rattle.kf_gain.proofs.Viewing.{all_seen, both, seen_at, json_read, json_refused, has_keys_found, has_keys_many}
-use Rattle.kf_gain.proofs.reading.json.has_keys.Goals as goal
+use Rattle.kf_json.proofs.Viewing.{all_seen, has_keys_found, has_keys_many}
+use Rattle.kf_json.proofs.values.has_keys.Goals as goal
 
 pub returns-then-len-keys : goal.returns-then-len-keys
 returns-then-len-keys c = has_keys_found _ _ _ _ c.in-Some.ensures c.len.ensures.len _ (eq-eqb _ _ c.if-len-keys.true)

@@ -19,8 +19,8 @@ use Rattle.std.proofs.lemmas.List.{length-map}
 use Rattle.std.specs.Str.{is_utf8, IsUtf8}
 use Rattle.std.proofs.lemmas.Str.{IsUtf8-from_is_utf8, is_utf8-from_IsUtf8}
 use Rattle.std.specs.declared.alloc.Global.{Global}
-use Rattle.kf_gain.specs.Json.{at_key, at_place, listed, members, json_of, has_keys}
-use Rattle.kf_gain.specs.Reading.{seen}
+use Rattle.kf_json.specs.Json.{at_key, at_place, listed, members, json_of, has_keys}
+use Rattle.kf_json.specs.Seen.{seen}
 
 listed_items : (ds : List Data) → listed (items_of ds) ≡ ds
 listed_items [] = refl

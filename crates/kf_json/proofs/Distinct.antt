@@ -5,7 +5,7 @@ use Rattle.std.specs.Ordering.{is_eq}
 use Rattle.std.specs.Cmp.Lexicographic.{slice_cmp}
 use Rattle.std.specs.Prelude.{bytes_eq}
 use Rattle.std.proofs.lemmas.Map.Text.{is_eq-slice_cmp}
-use Rattle.kf_gain.specs.Tables.{are_distinct}
+use Rattle.kf_json.specs.Rules.{are_distinct}
 
 mix : (a b c d : Bool) → (not (cond a true b) && (not c && d)) ≡ (not (a || c) && (not b && d))
 mix true b c d = refl

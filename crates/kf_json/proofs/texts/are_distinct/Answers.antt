@@ -1,11 +1,10 @@
-use Rattle.std.proofs.Common.{rules, ◌≡◌, ◌∙◌, sym, ap, refl, [], arith}
+use Rattle.std.proofs.Common.{rules, ◌≡◌, ◌∙◌, sym, ap, [], arith}
 use Rattle.std.specs.BTreeSet.{contains}
 use Rattle.std.specs.Vec.Iter.{into_iter_items}
 use Rattle.std.specs.List.{list_any}
 use Rattle.std.specs.BTreeMap.{is_at}
-use Rattle.kf_gain.specs.Tables.{are_distinct}
-use Rattle.kf_gain.proofs.Distinct.{none_left, fresh, fresh_first, fresh_step, fresh_stop, differ_texts, text_cmp, text_eq}
-use Rattle.kf_gain.proofs.reading.making.are_distinct.Goals as goal
+use Rattle.kf_json.proofs.Distinct.{none_left, fresh, fresh_first, fresh_step, fresh_stop, differ_texts, text_cmp, text_eq}
+use Rattle.kf_json.proofs.texts.are_distinct.Goals as goal
 
 pub loop-text-init : goal.loop-text-init
 loop-text-init c =

@@ -1,0 +1,5 @@
+-- Believed
+pub mod Json
+pub mod Rules
+-- For bodies
+pub mod Seen

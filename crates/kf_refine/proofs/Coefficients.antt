@@ -1,0 +1,112 @@
+-- The coefficients of equations, written one after the other.
+use Rattle.std.proofs.Common.{◌≡◌, ◌≢◌, ℕ, ◌+◌, ◌-◌, ◌*◌, ◌/◌, ◌^◌, ◌<◌, ◌≤◌, ◌⊎◌, inl, inr, ⊎_elim, sym, ap, ◌∙◌, subst, arith, unsigned_abs, List, All, length, set, get_or-set_same, get_or-set_other, length-set}
+use Rattle.std.proofs.Math.IntN.{ℤ, pos}
+use Rattle.std.proofs.Math.Nat.{mul-le-mul_right, mod-lt}
+use Rattle.std.proofs.lemmas.Nat.{div-mul-add, mod-mul-add, div-add-mod'}
+use Rattle.std.proofs.lemmas.Bool.{cases_eq, cases_lt}
+use Rattle.std.proofs.lemmas.Bool.Decides.{nat_tests}
+use Rattle.std.proofs.lemmas.List.Elements.{All-set}
+use Rattle.kf_simplex.specs.Base.{at}
+use Rattle.kf_refine.specs.Built.{AreCoefficients, HasWide, weight_number, sum_number}
+
+same_at : (xs : List ℤ) (k : ℕ) (v : ℤ) → k < length xs → at (set xs k v) k ≡ v
+same_at xs k v l = get_or-set_same xs k v (pos 0) l
+
+other_at : (xs : List ℤ) (k j : ℕ) (v : ℤ) → j ≢ k → at (set xs k v) j ≡ at xs j
+other_at xs k j v d = get_or-set_other xs k j v (pos 0) d
+
+-- a place in the rows before the m-th
+pub within : (m n i j : ℕ) → i < m → j < n → i * n + j < m * n
+within m n i j l k = let next : (i + 1) * n ≤ m * n = mul-le-mul_right n (omega arith) in omega arith
+
+-- ---- the numbers at a row and a place in it
+
+pub weight_here : (n : ℕ) (u : ℕ → ℕ) (j i : ℕ) → j < n → weight_number n u j (i * n + j) ≡ pos (u i)
+unfolding weight_number
+weight_here n u j i l = rw (div-mul-add i n j l) (let e = mod-mul-add i n j l in grind (arith, nat_tests))
+
+pub weight_elsewhere : (n : ℕ) (u : ℕ → ℕ) (j i l : ℕ) → l < n → l ≢ j → weight_number n u j (i * n + l) ≡ pos 0
+unfolding weight_number
+weight_elsewhere n u j i l m d = let e = mod-mul-add i n l m in grind (arith, nat_tests)
+
+pub sum_here : (n p l : ℕ) → l < n → sum_number n p (p * n + l) ≡ pos 1
+unfolding sum_number
+sum_here n p l m = let e = div-mul-add p n l m in grind (arith, nat_tests)
+
+pub sum_elsewhere : (n p i l : ℕ) → l < n → i ≢ p → sum_number n p (i * n + l) ≡ pos 0
+unfolding sum_number
+sum_elsewhere n p i l m d = let e = div-mul-add i n l m in grind (arith, nat_tests)
+
+-- a place before row p, or behind it
+sum_outside : (n p c : ℕ) → 0 < n → (c < p * n) ⊎ (p * n + n ≤ c) → sum_number n p c ≡ pos 0
+unfolding sum_number
+sum_outside n p c some outside =
+    let whole = div-add-mod' c n in
+    let rest = mod-lt c some in
+    let other : c / n ≢ p = λ e. let row : c / n * n ≡ p * n = ap (λ (q : ℕ). q * n) e in
+    ⊎_elim (λ (l : c < p * n). omega arith) (λ (l : p * n + n ≤ c). omega arith) outside in
+    grind (arith, nat_tests)
+
+-- ---- the weights of an inner after the other
+
+pub record WeightsTo (m n : ℕ) (u : ℕ → ℕ) (j i : ℕ) (xs : List ℤ) : Type 0 where
+  pub many : length xs ≡ m * n
+  pub before : (c : ℕ) → c < i * n → at xs c ≡ weight_number n u j c
+  pub after : (c : ℕ) → i * n ≤ c → at xs c ≡ pos 0
+  pub narrow : All (λ z. unsigned_abs z ≤ 2 ^ 62) xs
+
+pub weights_more : (m n : ℕ) (u : ℕ → ℕ) (j i : ℕ) (xs : List ℤ) (v : ℤ) → i < m → j < n → v ≡ pos (u i) → u i ≤ 2 ^ 62
+    → WeightsTo m n u j i xs → WeightsTo m n u j (i + 1) (set xs (i * n + j) v)
+weights_more m n u j i xs v l k is small had =
+    let inside : i * n + j < length xs = rw had.many (within m n i j l k) in
+    record {
+      many = length-set xs (i * n + j) v ∙ had.many;
+      before = λ c low. ⊎_elim
+          (λ (e : c ≡ i * n + j). subst (λ (d : ℕ). at (set xs (i * n + j) v) d ≡ weight_number n u j d) (sym e)
+          (same_at xs (i * n + j) v inside ∙ is ∙ sym (weight_here n u j i k)))
+          (λ (e : c ≢ i * n + j). other_at xs (i * n + j) c v e ∙ ⊎_elim
+          (λ (q : c < i * n). had.before c q)
+          (λ (q : i * n ≤ c). had.after c q ∙ sym (placed c q (omega arith) e))
+          (cases_lt c (i * n)))
+          (cases_eq c (i * n + j));
+      after = λ c q. other_at xs (i * n + j) c v (omega arith) ∙ had.after c (omega arith);
+      narrow = All-set (λ (z : ℤ). unsigned_abs z ≤ 2 ^ 62) xs (i * n + j) v (rw is small) had.narrow;
+    }
+  where
+    placed : (c : ℕ) → i * n ≤ c → c < i * n + n → c ≢ i * n + j → weight_number n u j c ≡ pos 0
+    placed c q r e =
+        let at' : i * n + (c - i * n) ≡ c = omega arith in
+        subst (λ (d : ℕ). weight_number n u j d ≡ pos 0) at' (weight_elsewhere n u j i (c - i * n) (omega arith) (omega arith))
+
+-- a weight past 2^62 is a wide coefficient
+pub wide_weight : (m n : ℕ) (u : ℕ → ℕ) (j i : ℕ) → i < m → j < n → 2 ^ 62 < u i → HasWide (m * n) (weight_number n u j)
+wide_weight m n u j i l k wide = (i * n + j, within m n i j l k, rw (weight_here n u j i k) wide)
+
+-- ---- a row of ones
+
+pub record OnesTo (m n p l : ℕ) (xs : List ℤ) : Type 0 where
+  pub many : length xs ≡ m * n
+  pub ones : (c : ℕ) → p * n ≤ c → c < p * n + l → at xs c ≡ pos 1
+  pub others : (c : ℕ) → (c < p * n) ⊎ (p * n + l ≤ c) → at xs c ≡ pos 0
+  pub narrow : All (λ z. unsigned_abs z ≤ 2 ^ 62) xs
+
+pub ones_all : (m n p l : ℕ) (xs : List ℤ) → n ≤ l → l ≤ n → p < m → OnesTo m n p l xs → AreCoefficients (m * n) (sum_number n p) xs
+ones_all m n p l xs past top inside had = record {
+  many = had.many;
+  each = λ c q. ⊎_elim
+      (λ (r : c < p * n). had.others c (inl r) ∙ sym (sum_outside n p c (some c q) (inl r)))
+      (λ (r : p * n ≤ c). ⊎_elim
+      (λ (s : c < p * n + n). had.ones c r (omega arith) ∙ sym (row c r s))
+      (λ (s : p * n + n ≤ c). had.others c (inr (omega arith)) ∙ sym (sum_outside n p c (some c q) (inr s)))
+      (cases_lt c (p * n + n)))
+      (cases_lt c (p * n));
+  narrow = had.narrow;
+}
+  where
+    some : (c : ℕ) → c < m * n → 0 < n
+    some c q = ⊎_elim (λ (z : 0 < n). z) (λ (z : n ≤ 0). let e : n ≡ 0 = omega arith in let none : m * n ≡ m * 0 = ap (λ (k : ℕ). m * k) e in omega arith) (cases_lt 0 n)
+
+    row : (c : ℕ) → p * n ≤ c → c < p * n + n → sum_number n p c ≡ pos 1
+    row c r s =
+        let at' : p * n + (c - p * n) ≡ c = omega arith in
+        subst (λ (d : ℕ). sum_number n p d ≡ pos 1) at' (sum_here n p (c - p * n) (omega arith))

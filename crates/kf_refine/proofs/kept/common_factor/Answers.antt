@@ -1,0 +1,11 @@
+use Rattle.kf_hyper.proofs.Factors.{factor_none, factor_more, factor_all}
+use Rattle.kf_refine.proofs.kept.common_factor.Goals as goal
+
+pub loop-entry-init : goal.loop-entry-init
+loop-entry-init c = factor_none c.args.entries.now
+
+pub loop-entry-preserved : goal.loop-entry-preserved
+loop-entry-preserved c = factor_more c.args.entries.now c.loop-entry.entry-index c.loop-entry.factor c.gcd-factor.result _ c.loop-entry-test.true c.loop-entry.invariant c.gcd-factor.ensures
+
+pub returns : goal.returns
+returns c = factor_all c.args.entries.now c.loop-entry.entry-index c.loop-entry.factor c.loop-entry-test.false c.loop-entry.invariant

@@ -1,0 +1,11 @@
+use Rattle.std.proofs.Common.{sym, ◌∙◌, true≢false, arith}
+use Rattle.kf_value.specs.TypeViews.{item_of}
+use Rattle.kf_refine.proofs.Alike.{apart}
+use Rattle.kf_refine.proofs.targets.same_items.Goals as goal
+
+pub returns-then-not-same_item : goal.returns-then-not-same_item
+returns-then-not-same_item c = (
+  λ yes. absurd (true≢false (sym yes)),
+  λ same. absurd (apart item_of c.args.xs.now c.args.ys.now c.loop-i.i c.index-xs-i.result c.index-ys-i.result (omega arith) c.index-xs-i.is (omega arith) c.index-ys-i.is
+      (λ alike. true≢false (sym (c.same_item.ensures.1 alike) ∙ c.if-not-same_item.true)) same),
+)

@@ -1,0 +1,21 @@
+//! Refinement of hypers: whether one leaks no more than another, with the matrix or the gain table that proves it.
+#![tactic(auto)]
+
+mod cells;
+mod deciding;
+mod equations;
+mod kept;
+mod laws;
+mod matrix;
+mod multipliers;
+mod scalings;
+mod targets;
+mod verdict;
+
+pub use deciding::refine;
+pub use laws::{one_verdict, refine_laws, verdict_laws};
+pub use targets::same_target;
+pub use verdict::{FracRowList, Matrix, RefineError, Verdict};
+
+#[cfg(test)]
+mod tests;

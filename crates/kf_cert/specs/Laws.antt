@@ -1,0 +1,54 @@
+-- For bodies: laws of certificates.
+use Rattle.std.specs.Prelude.{◌≡◌, ◌⊎◌, ℕ, ◌*◌, ◌≤◌, All, List, Result, Ok, Err, None}
+use Rattle.kf_frac.specs.Fractions.{limit}
+use Rattle.kf_value.specs.Sizes.{fault_of}
+use Rattle.kf_value.specs.Targets.{Item}
+use Rattle.kf_refine.specs.Refinements.{HyperTree, Fraction, Carries}
+use Rattle.kf_refine.specs.Verdicts.{VerdictTree, Yes, No, IsVerdict}
+use Rattle.kf_refine.specs.Views.{IsProper}
+use Rattle.kf_cert.specs.Certificates.{CertTree, cert_of}
+use Rattle.kf_cert.specs.CertTexts.{cert_text}
+use Rattle.kf_cert.specs.Marks.{IsMarked, IsSeparating, denominator}
+use Rattle.kf_cert.specs.Views.{read_back, IsPrintable, IsSound}
+use Rattle.kf_cert.specs.declared.mark.Mark.{Mark}
+use Rattle.kf_cert.specs.declared.mark.Mark.TheVariants.{Accepted}
+use Rattle.kf_cert.specs.declared.mark.CheckError.{CheckError}
+use Rattle.kf_cert.specs.declared.mark.CheckError.TheVariants as error
+
+-- what a certificate proves: its matrix carries the one hyper to the other, or its table separates them
+abbrev pub Shows : HyperTree → HyperTree → CertTree → Type 0
+Shows a b (Yes rows) = Carries a b rows
+Shows a b (No t) = IsSeparating a b t
+
+-- what is accepted proves
+abbrev pub AcceptedShows : Type 0
+AcceptedShows = (a b : HyperTree) (c : CertTree) → IsProper a → IsProper b → IsSound c → IsMarked a b c (Ok Accepted) → Shows a b c
+
+-- a matrix that proves is accepted, if the check isn't too wide
+abbrev pub CarryingAccepted : Type 0
+CarryingAccepted = (a b : HyperTree) (rows : List (List Fraction)) → IsProper a → IsProper b → Carries a b rows
+    → a.scale * denominator rows ≤ limit → IsMarked a b (Yes rows) (Ok Accepted)
+
+-- there is a mark, or the check is too wide
+abbrev pub SomeMark : Type 0
+SomeMark = (a b : HyperTree) (c : CertTree) → IsProper a → IsProper b → a.target ≡ b.target → IsSound c
+    → (r : Result Mark CheckError) × IsMarked a b c r
+
+-- and only one
+abbrev pub OneMark : Type 0
+OneMark = (a b : HyperTree) (c : CertTree) (r q : Result Mark CheckError) → IsMarked a b c r → IsMarked a b c q → r ≡ q
+
+-- what is written of a verdict is read back
+abbrev pub ReadsBack : Type 0
+ReadsBack = (target : List Item) (v : VerdictTree) → IsPrintable target v → cert_of (cert_text target v) ≡ Ok (read_back target v)
+
+-- what is written of a verdict, on hypers whose types have a size, is accepted for them, or the check is too wide
+abbrev pub WrittenAccepted : Type 0
+WrittenAccepted = (a b : HyperTree) (pivots : ℕ) (v : VerdictTree) (c : CertTree) (r : Result Mark CheckError) → IsProper a → IsProper b
+    → All (λ i. fault_of i.ty ≡ None) a.target
+    → IsVerdict a b pivots (Ok v) → cert_of (cert_text a.target v) ≡ Ok c → IsMarked a b c r
+    → (r ≡ Ok Accepted) ⊎ (r ≡ Err error.Wide)
+
+-- what is read has its bounds
+abbrev pub ReadSound : Type 0
+ReadSound = (bytes : List ℕ) (c : CertTree) → cert_of bytes ≡ Ok c → IsSound c

@@ -1,0 +1,12 @@
+-- Believed
+pub mod Numbers
+pub mod Certificates
+pub mod Marks
+pub mod CertTexts
+-- For bodies
+pub mod Cells
+pub mod Laws
+pub mod Naming
+pub mod Reading
+pub mod Rows
+pub mod Views

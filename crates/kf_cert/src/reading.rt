@@ -1,0 +1,31 @@
+//! The reading of certificates.
+
+ghost use Rattle.std.specs.Prelude.{◌≡◌, ◌≢◌, Ok, Err, IfOk, IfErr};
+ghost use Rattle.kf_cert.specs.declared.cert.CertError.TheVariants as broken;
+ghost use Rattle.kf_cert.specs.Certificates.{cert_of};
+ghost use Rattle.kf_cert.specs.Views.{cert_tree, IsSound};
+
+mod making;
+
+use crate::forms::broken_form;
+use crate::{Cert, CertError};
+use kf_json::parse;
+use making::cert;
+use std::alloc::Global;
+
+/// The certificate that the bytes are.
+///
+/// Numbers are texts, of any length until they are found to be too wide. The error is that of the first broken rule, each rule being
+/// tested over the whole value before the next: `Json`, `Form` from 1 to 6, `Wide`; or `Mem`, want of memory.
+pub fn read_cert(alloc: Global, bytes: &[u8]) -> Result<Cert, CertError>
+    ensures is { IfOk result (λ c. cert_of bytes.now ≡ Ok (cert_tree c)) }
+    ensures sound { IfOk result (λ c. IsSound (cert_tree c)) }
+    ensures err { IfErr result (λ e. e ≢ broken.Mem → cert_of bytes.now ≡ Err e) }
+{
+    let value = parse(alloc, bytes)?;
+    if let Some(fault) = broken_form(&value) {
+        return Err(fault);
+    }
+    let cert = cert(alloc, &value)?;
+    Ok(cert)
+}

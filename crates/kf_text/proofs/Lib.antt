@@ -3,3 +3,4 @@ pub mod Printing
 mod Reporting
 mod Rows
 mod Summaries
+mod Verdicts

@@ -1,5 +1,6 @@
 -- Believed
 pub mod Texts
 pub mod ReportTexts
+pub mod VerdictTexts
 -- For bodies
 pub mod Views

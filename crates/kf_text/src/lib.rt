@@ -1,20 +1,24 @@
-//! Printed texts: hypers, tables of traces, channels, leakage reports and trails.
+//! Printed texts: hypers, tables of traces, channels, leakage reports, trails, verdicts and marks.
 #![tactic(auto)]
 
 mod channel;
 mod hyper;
 mod items;
 mod made;
+mod mark;
 mod report;
 mod traces;
 mod trail;
+mod verdict;
 
 pub use channel::channel_text;
 pub use hyper::hyper_text;
 pub use made::make_text;
+pub use mark::mark_text;
 pub use report::report_text;
 pub use traces::trace_text;
 pub use trail::trail_text;
+pub use verdict::verdict_text;
 
 #[cfg(test)]
 mod report_tests;

@@ -1,15 +1,19 @@
 -- Words that ask for nothing though their command is there.
-use Rattle.std.proofs.Common.{◌≡◌, ℕ, ◌-◌, ◌==◌, ◌&&◌, Bool, true, false, List, [], ◌∷◌, map, length, get_or, take, drop, Option, Some, None, Bor, if◌then◌else◌, refl, sym, ap, ◌∙◌, arith}
+use Rattle.std.proofs.Common.{◌≡◌, ℕ, ◌<◌, ◌-◌, ◌==◌, ◌&&◌, Bool, true, false, List, [], ◌∷◌, map, length, get_or, take, drop, Option, Some, None, Bor, if◌then◌else◌, refl, sym, ap, ◌∙◌, arith}
+use Rattle.std.proofs.lemmas.Bool.{eq-eqb}
+use Rattle.std.proofs.lemmas.List.{length-map, take_all}
 use Rattle.std.specs.Prelude.{option_map, option_and_then}
 use Rattle.kf_top.specs.Said.{Said}
 use Rattle.kf_top.specs.Task.{Row, Task, options_fit, row_of, row_task, task_of_values, task_said, turns_of}
 
--- a slice of two is its first, and what is left of it behind that
-two_are : (vs : List (Bor (List ℕ))) (d : Bor (List ℕ)) → length vs ≡ 2 → map (λ v. v.now) vs ≡ (get_or vs 0 d).now ∷ (get_or (take (length vs - 1) (drop 1 vs)) 0 d).now ∷ []
-two_are [] d two = absurd (omega (arith, two))
-two_are (v ∷ []) d two = absurd (omega (arith, two))
-two_are (v ∷ w ∷ []) d two = refl
-two_are (v ∷ w ∷ x ∷ vs) d two = absurd (omega (arith, two))
+-- the values behind the first
+abbrev pub behind : List (Bor (List ℕ)) → List (List ℕ)
+behind vs = map (λ v. v.now) (take (length vs - 1) (drop 1 vs))
+
+-- a slice is its first, and what is left of it behind that
+rest_of : (vs : List (Bor (List ℕ))) (d : Bor (List ℕ)) → 0 < length vs → map (λ v. v.now) vs ≡ (get_or vs 0 d).now ∷ behind vs
+rest_of [] d some = absurd (omega (arith, some))
+rest_of (v ∷ vs) d some = ap (λ (ws : List (Bor (List ℕ))). v.now ∷ map (λ w. w.now) ws) (sym (take_all (length (v ∷ vs) - 1) vs (omega arith)))
 
 nothing_then : {X Y : Type 0} (o : Option X) → option_and_then {T = X} {U = Y} (λ x. None) o ≡ None
 nothing_then None = refl
@@ -19,16 +23,24 @@ either_none : {Y : Type 0} (b : Bool) (o : Option Y) → o ≡ None → (if b th
 either_none true o none = none
 either_none false o none = refl
 
--- the row of a command asks for nothing with this value
-row_none : (values : List (List ℕ)) (said : Said) (row : Row) → row.task values said.gain ≡ None → row_task values said row ≡ None
+-- the row of a command asks for nothing with these values
+row_none : (values : List (List ℕ)) (said : Said) (row : Row) → row.task values said ≡ None → row_task values said row ≡ None
 row_none values said row none =
-    either_none (length values == row.values && options_fit row said) (option_and_then (λ turns. option_map (λ task. task turns) (row.task values said.gain)) (turns_of said.turns))
+    either_none (length values == row.values && options_fit row said) (option_and_then (λ turns. option_map (λ task. task turns) (row.task values said)) (turns_of said.turns))
     (ap (λ (o : Option (ℕ → Task)). option_and_then (λ turns. option_map (λ task. task turns) o) (turns_of said.turns)) none ∙ nothing_then (turns_of said.turns))
 
-pub unasked : (said : Said) (vs : List (Bor (List ℕ))) (d : Bor (List ℕ)) (row : Row) → said.values ≡ map (λ v. v.now) vs → length vs ≡ 2
-    → row_of (get_or vs 0 d).now ≡ Some row → row.task ((get_or (take (length vs - 1) (drop 1 vs)) 0 d).now ∷ []) said.gain ≡ None → task_said said ≡ None
-unasked said vs d row is two found none =
-    let word = (get_or vs 0 d).now in
-    let value = (get_or (take (length vs - 1) (drop 1 vs)) 0 d).now in
-    ap (λ (values : List (List ℕ)). task_of_values values said) (is ∙ two_are vs d two)
-    ∙ ap (option_and_then (row_task (value ∷ []) said)) found ∙ row_none (value ∷ []) said row none
+-- what is asked for by the row of the first value
+module _ (said : Said) (vs : List (Bor (List ℕ))) (d : Bor (List ℕ)) (row : Row) (is : said.values ≡ map (λ v. v.now) vs) (some : 0 < length vs) (found : row_of (get_or vs 0 d).now ≡ Some row) where
+  pub by_row : task_said said ≡ row_task (behind vs) said row
+  by_row = ap (λ (values : List (List ℕ)). task_of_values values said) (is ∙ rest_of vs d some) ∙ ap (option_and_then (row_task (behind vs) said)) found
+
+  pub unasked : row.task (behind vs) said ≡ None → task_said said ≡ None
+  unasked none = by_row ∙ row_none (behind vs) said row none
+
+  pub asked : (turns : ℕ) (task : Task) → length (take (length vs - 1) (drop 1 vs)) ≡ row.values → options_fit row said ≡ true → turns_of said.turns ≡ Some turns
+      → Some task ≡ option_map (λ ask. ask turns) (row.task (behind vs) said) → task_said said ≡ Some task
+  asked turns task many fit often is =
+      let alike : (length (behind vs) == row.values) ≡ true = eq-eqb (length (behind vs)) row.values (length-map (take (length vs - 1) (drop 1 vs)) (λ v. v.now) ∙ many) in
+      by_row
+      ∙ ap (λ b. if b then option_and_then (λ n. option_map (λ ask. ask n) (row.task (behind vs) said)) (turns_of said.turns) else None) (λ i. alike i && fit i)
+      ∙ ap (option_and_then (λ n. option_map (λ ask. ask n) (row.task (behind vs) said))) often ∙ sym is

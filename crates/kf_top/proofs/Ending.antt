@@ -35,6 +35,12 @@ refused_high (refusal.WideScale name) = omega arith
 refused_high refusal.NotInitial = omega arith
 refused_high (refusal.BadTable name error) = omega arith
 refused_high refusal.WideGain = omega arith
+refused_high refusal.OtherTarget = omega arith
+refused_high (refusal.ManyCells cells) = omega arith
+refused_high (refusal.WideTableau pivots) = omega arith
+refused_high refusal.ManyPivots = omega arith
+refused_high (refusal.BadCert name error) = omega arith
+refused_high refusal.WideCert = omega arith
 
 pub refused_other : (r : Refusal) → status_of (refused r) ≢ 12
 refused_other (refusal.TooLong name) = λ e. omega arith
@@ -44,6 +50,12 @@ refused_other (refusal.WideScale name) = λ e. omega arith
 refused_other refusal.NotInitial = λ e. omega arith
 refused_other (refusal.BadTable name error) = λ e. omega arith
 refused_other refusal.WideGain = λ e. omega arith
+refused_other refusal.OtherTarget = λ e. omega arith
+refused_other (refusal.ManyCells cells) = λ e. omega arith
+refused_other (refusal.WideTableau pivots) = λ e. omega arith
+refused_other refusal.ManyPivots = λ e. omega arith
+refused_other (refusal.BadCert name error) = λ e. omega arith
+refused_other refusal.WideCert = λ e. omega arith
 
 answered_refused : (words : List (List ℕ)) (contents : List ℕ → List ℕ) (r : Refused) (out err : Sunk) (status : ℕ) → Outcome words contents (Err r) → status ≡ status_of r → TookNothing out → TookLine err (line_of r)
     → Answered words contents out err status

@@ -10,3 +10,8 @@ mod Reading
 mod Numerals
 mod Asking
 pub mod Spelling
+mod SizedTargets
+mod ProperHypers
+mod ClearedPrograms
+mod WrittenCertificates
+mod Comparing

@@ -1,6 +1,7 @@
 -- Words and files have at most one defined answer.
-use Rattle.std.proofs.Common.{◌≡◌, ℕ, ◌*◌, nat_le, if◌then◌else◌, List, [], ◌∷◌, length, None, Some, Option, Result, Ok, Err, sym, ◌∙◌, ap, subst, ⊎_elim}
+use Rattle.std.proofs.Common.{◌≡◌, ◌≢◌, ℕ, Bool, ◌*◌, nat_le, if◌then◌else◌, List, [], ◌∷◌, length, None, Some, Option, Result, Ok, Err, sym, ◌∙◌, ap, subst, ⊎_elim}
 use Rattle.std.specs.declared.cmp.Ordering.TheVariants.{Less}
+use Rattle.std.specs.List.{AllByRecursion as Every}
 use Rattle.std.specs.Ordering.{nat_cmp, ordering_reverse}
 use Rattle.std.proofs.lemmas.Cmp.{nat_cmp_total}
 use Rattle.std.proofs.lemmas.Map.Keys.{sorted_from_strictly_increasing}
@@ -33,11 +34,18 @@ use Rattle.kf_gain.specs.TableLaws.{OneTable}
 use Rattle.kf_gain.specs.Vulnerabilities.{IsWidth, width}
 use Rattle.kf_report.specs.Reports.{Leakage, IsLeakage}
 use Rattle.kf_make.specs.Making.{make_source}
+use Rattle.kf_refine.specs.Refinements.{HyperTree}
+use Rattle.kf_refine.specs.Verdicts.{IsVerdict}
+use Rattle.kf_refine.specs.Laws.{OneVerdict}
+use Rattle.kf_cert.specs.Certificates.{CertTree, cert_of}
+use Rattle.kf_cert.specs.Laws.{OneMark}
 use Rattle.kf_run.specs.Laws.{OnlyOneTrail}
-use Rattle.kf_top.specs.Task.{Command, Hyper, Traces, Channel, Trail, Leak, Make, Task, task_of}
-use Rattle.kf_top.specs.Answer.{Shown, Statement, HyperOf, TracesOf, ChannelOf, ReportOf, TrailOf, MadeOf, IsText, States, Refused, Usage, BadTable, WideGain}
-use Rattle.kf_top.specs.Outcome.{Step, After, Gives, Each, Fault, Text, bad_text, token_fault, syntax_fault, type_fault, IsBad, TokensOf, SourceOf, ProgramOf, TypedOf, TextOf, cleared, ClearedOf, table_word, TableOf, TableIn, GainIn, HasWidth, ReportIn, channel_statement, MadeOutcome, CommandOutcome, TaskOutcome, SomeOutcome, source_of}
+use Rattle.kf_top.specs.Task.{Command, Hyper, Traces, Channel, Trail, Leak, Make, Refine, Check, Task, task_of}
+use Rattle.kf_top.specs.Answer.{Shown, Statement, HyperOf, TracesOf, ChannelOf, ReportOf, TrailOf, MadeOf, VerdictOn, MarkOf, IsText, States, Refused, Usage, BadTable, WideGain, OtherTarget}
+use Rattle.kf_top.specs.Outcome.{Step, After, Gives, Each, Fault, Text, bad_text, token_fault, syntax_fault, type_fault, IsBad, TokensOf, SourceOf, ProgramOf, TypedOf, TextOf, cleared, ClearedOf, table_word, TableOf, TableIn, GainIn, HasWidth, ReportIn, channel_statement, IsHyperTree, AreHypers, most_pivots, verdict_stated, RefineOutcome, cert_read, CertIn, mark_stated, MarkIn, CheckOutcome, MadeOutcome, CommandOutcome, TaskOutcome, SomeOutcome, source_of}
 use Rattle.kf_top.specs.Ends.{Answer, Settled, IsAnswer, showing}
+use Rattle.kf_top.proofs.ClearedPrograms.{AreClear}
+use Rattle.kf_top.proofs.ProperHypers.{AreProper, IsClear}
 use Rattle.kf_top.proofs.Steps.{some_syntax}
 
 -- ---- secrets
@@ -77,6 +85,8 @@ module _ (rows_are_one : RowsAreOne) (hypers_are_one : HypersAreOne) (reports_ar
       p.2.2 ∙ ap (report_text g) leakage ∙ sym q.2.2
   one_text (MadeOf count scale joint) xs ys p q = p.2 ∙ ap (make_text count scale) (hypers_are_one joint p.0 q.0 p.1 q.1) ∙ sym q.2
   one_text (TrailOf turns p) xs ys a b = a.2 ∙ ap trail_text (trails_are_one turns p a.0 b.0 a.1 b.1) ∙ sym b.2
+  one_text (VerdictOn json a b v) xs ys p q = p.1 ∙ sym q.1
+  one_text (MarkOf mark) xs ys p q = p ∙ sym q
 
   one_shown : (statement : Statement) (a b : Shown) → States a statement → States b statement → a ≡ b
   one_shown statement a b p q = same_shown a b (one_text statement a.bytes b.bytes p.text q.text) (p.yes ∙ sym q.yes)
@@ -87,10 +97,10 @@ module _ (rows_are_one : RowsAreOne) (hypers_are_one : HypersAreOne) (reports_ar
 
 -- ---- outcomes
 
-abbrev HasOne : {A : Type 0} → Step A → Type 0
+abbrev pub HasOne : {A : Type 0} → Step A → Type 0
 HasOne {A} step = (r s : Result A Refused) → step r → step s → r ≡ s
 
-module _ {A B : Type 0} (first : Step A) (next : A → Step B) (one_first : HasOne first) (one_next : (x : A) → HasOne (next x)) where
+module _ {A B : Type 0} (first : Step A) (next : A → Step B) (one_first : HasOne first) (one_next : (x : A) → first (Ok x) → HasOne (next x)) where
   apart : (x : A) (r : Refused) → first (Ok x) → first (Err r) → ⊥
   apart x r p q = let same : Ok x ≡ Err r = one_first (Ok x) (Err r) p q in absurd (cc)
 
@@ -98,7 +108,7 @@ module _ {A B : Type 0} (first : Step A) (next : A → Step B) (one_first : HasO
   from_next x y r s p q h k =
       let both : Ok x ≡ Ok y = one_first (Ok x) (Ok y) p q in
       let same : x ≡ y = cc in
-      one_next y r s (subst (λ (z : A). next z r) same h) k
+      one_next y q r s (subst (λ (z : A). next z r) same h) k
 
   one_after : HasOne (After first next)
   one_after (Ok y) (Ok z) p q = from_next p.0 q.0 (Ok y) (Ok z) p.1 q.1 p.2 q.2
@@ -109,6 +119,21 @@ module _ {A B : Type 0} (first : Step A) (next : A → Step B) (one_first : HasO
       (λ (h : first (Err r)). ⊎_elim (λ (k : first (Err s)). let same : Err r ≡ Err s = one_first (Err r) (Err s) h k in let e : r ≡ s = cc in ap Err e) (λ k. absurd (apart k.0 r k.1 h)) q)
       (λ h. ⊎_elim (λ (k : first (Err s)). absurd (apart h.0 s h.1 k)) (λ k. from_next h.0 k.0 (Err r) (Err s) h.1 k.1 h.2 k.2) q) p
 
+-- what comes of both where the first is done
+module _ {A B : Type 0} (first : Step A) (next : A → Step B) (one_first : HasOne first) (x : A) (done : first (Ok x)) where
+  not_stopped : (r : Refused) → first (Err r) → ⊥
+  not_stopped r h = let same : Ok x ≡ Err r = one_first (Ok x) (Err r) done h in absurd (cc)
+
+  goes_on : (y : A) (r : Result B Refused) → first (Ok y) → next y r → next x r
+  goes_on y r h k =
+      let both : Ok y ≡ Ok x = one_first (Ok y) (Ok x) h done in
+      let same : y ≡ x = cc in
+      subst (λ (z : A). next z r) same k
+
+  pub next_of : (r : Result B Refused) → After first next r → next x r
+  next_of (Ok y) h = goes_on h.0 (Ok y) h.1 h.2
+  next_of (Err r) h = ⊎_elim (λ (stopped : first (Err r)). absurd (not_stopped r stopped)) (λ later. goes_on later.0 (Err r) later.1 later.2) h
+
 one_given : {A : Type 0} (given : Result A Refused) → HasOne (Gives given)
 one_given given r s p q = p ∙ sym q
 
@@ -116,7 +141,7 @@ module _ {A B : Type 0} (step : A → Step B) (one_step : (x : A) → HasOne (st
   one_each : (xs : List A) → HasOne (Each step xs)
   one_each [] = one_given (Ok [])
   one_each (x ∷ xs) = one_after (step x) (λ y. After (Each step xs) (λ ys. Gives (Ok (y ∷ ys)))) (one_step x)
-      (λ y. one_after (Each step xs) (λ ys. Gives (Ok (y ∷ ys))) (one_each xs) (λ ys. one_given (Ok (y ∷ ys))))
+      (λ y _. one_after (Each step xs) (λ ys. Gives (Ok (y ∷ ys))) (one_each xs) (λ ys _. one_given (Ok (y ∷ ys))))
 
 abbrev text : List ℕ → List ℕ → ProgramTree → Text
 text name bytes p = record { name = name; bytes = bytes; program = p }
@@ -149,8 +174,8 @@ module _ (tables_are_one : OneTable) where
   one_gain contents target Guessing = one_given (Ok Guessing)
   one_gain contents target (Table name) =
       one_after (TableIn contents target name) (λ t. Gives (Ok (Table t)))
-      (one_after (Gives (source_of contents name)) (TableOf target name) (one_given (source_of contents name)) (one_table target name))
-      (λ t. one_given (Ok (Table t)))
+      (one_after (Gives (source_of contents name)) (TableOf target name) (one_given (source_of contents name)) (λ bytes _. one_table target name bytes))
+      (λ t _. one_given (Ok (Table t)))
 
 -- the laws of hypers and of their sums
 module _ (hypers_are_one : HypersAreOne) (averages_are_one : OneAverage) where
@@ -166,20 +191,68 @@ module _ (hypers_are_one : HypersAreOne) (averages_are_one : OneAverage) where
       let m : p.0 ≡ q.0 = one_width joint g p.0 q.0 p.1 q.1 in
       p.2 ∙ ap (λ (n : ℕ). if nat_le (scale * n) limit then Ok (ReportOf g scale joint) else Err WideGain) m ∙ sym q.2
 
+-- ---- verdicts and certificates
+
+same_tree : (a b : HyperTree) → a.target ≡ b.target → a.scale ≡ b.scale → a.inners ≡ b.inners → a ≡ b
+same_tree a b targets scales inners = λ i. record { target = targets i; scale = scales i; inners = inners i }
+
+-- a program has one hyper
+pub one_tree : HypersAreOne → (turns : ℕ) (p : ProgramTree) (a b : HyperTree) → IsHyperTree turns p a → IsHyperTree turns p b → a ≡ b
+one_tree hypers_are_one turns p a b x y =
+    same_tree a b (x.target ∙ sym y.target) (x.scale ∙ sym y.scale) (hypers_are_one (joint_of turns p) a.inners b.inners x.is_hyper y.is_hyper)
+
+one_refine : HypersAreOne → OneVerdict → AreProper → (json : Bool) (turns : ℕ) (p q : ProgramTree) → IsClear turns p → IsClear turns q → HasOne (RefineOutcome json turns p q)
+one_refine hypers_are_one verdicts_are_one are_proper json turns p q clear clear' r s h k =
+    let a : h.0 ≡ k.0 = one_tree hypers_are_one turns p h.0 k.0 h.2.first k.2.first in
+    let b : h.1 ≡ k.1 = one_tree hypers_are_one turns q h.1 k.1 h.2.second k.2.second in
+    let on_a : IsVerdict k.0 h.1 most_pivots h.3.0 = subst (λ (x : HyperTree). IsVerdict x h.1 most_pivots h.3.0) a h.3.1 in
+    let on_both : IsVerdict k.0 k.1 most_pivots h.3.0 = subst (λ (x : HyperTree). IsVerdict k.0 x most_pivots h.3.0) b on_a in
+    let verdict : h.3.0 ≡ k.3.0 =
+    verdicts_are_one k.0 k.1 most_pivots h.3.0 k.3.0 (are_proper turns p k.0 clear k.2.first) (are_proper turns q k.1 clear' k.2.second) on_both k.3.1 in
+    h.3.2 ∙ (λ i. verdict_stated json (a i) (b i) (verdict i)) ∙ sym k.3.2
+
+one_mark : OneMark → (a b : HyperTree) (c : CertTree) → HasOne (MarkIn a b c)
+one_mark marks_are_one a b c r s h k =
+    ⊎_elim
+    (λ (x : (a.target ≢ b.target) × (r ≡ Err OtherTarget)).
+    ⊎_elim (λ (y : (a.target ≢ b.target) × (s ≡ Err OtherTarget)). x.1 ∙ sym y.1) (λ y. absurd (x.0 y.0)) k)
+    (λ x.
+    ⊎_elim (λ (y : (a.target ≢ b.target) × (s ≡ Err OtherTarget)). absurd (y.0 x.0))
+    (λ y. x.1.2 ∙ ap mark_stated (marks_are_one a b c x.1.0 y.1.0 x.1.1 y.1.1) ∙ sym y.1.2) k)
+    h
+
+pub one_cert : (contents : List ℕ → List ℕ) (name : List ℕ) → HasOne (CertIn contents name)
+one_cert contents name =
+    one_after (Gives (source_of contents name)) (λ bytes. Gives (cert_read name (cert_of bytes))) (one_given (source_of contents name))
+    (λ bytes _. one_given (cert_read name (cert_of bytes)))
+
+one_marked : HypersAreOne → OneMark → (turns : ℕ) (p q : ProgramTree) (c : CertTree) → HasOne (λ result. (a b : HyperTree) × AreHypers turns p q a b × MarkIn a b c result)
+one_marked hypers_are_one marks_are_one turns p q c r s h k =
+    let a : h.0 ≡ k.0 = one_tree hypers_are_one turns p h.0 k.0 h.2.first k.2.first in
+    let b : h.1 ≡ k.1 = one_tree hypers_are_one turns q h.1 k.1 h.2.second k.2.second in
+    one_mark marks_are_one k.0 k.1 c r s (subst (λ (x : HyperTree). MarkIn k.0 x c r) b (subst (λ (x : HyperTree). MarkIn x h.1 c r) a h.3)) k.3
+
+one_check : HypersAreOne → OneMark → (contents : List ℕ → List ℕ) (name : List ℕ) (turns : ℕ) (p q : ProgramTree) → HasOne (CheckOutcome contents name turns p q)
+one_check hypers_are_one marks_are_one contents name turns p q =
+    one_after (CertIn contents name) (λ c result. (a b : HyperTree) × AreHypers turns p q a b × MarkIn a b c result) (one_cert contents name)
+    (λ c _. one_marked hypers_are_one marks_are_one turns p q c)
+
 -- ---- commands
 
 module _ (made_are_one : (count turns : ℕ) → HasOne (MadeOutcome count turns)) (tables_are_one : OneTable) (hypers_are_one : HypersAreOne) (averages_are_one : OneAverage)
-    (contents : List ℕ → List ℕ) (turns : ℕ) where
-  one_command : (command : Command) (ps : List ProgramTree) → HasOne (CommandOutcome contents command turns ps)
-  one_command Hyper (p ∷ []) = one_given (Ok (HyperOf p.target (run_scale turns p) (joint_of turns p)))
-  one_command Traces (p ∷ []) = one_given (Ok (TracesOf p.target (run_scale turns p) (joint_of turns p)))
-  one_command Channel (p ∷ []) = one_given (channel_statement turns p)
-  one_command (Make count) [] = made_are_one count turns
-  one_command Trail (p ∷ []) = one_given (Ok (TrailOf turns p))
-  one_command (Leak g) (p ∷ []) =
+    (verdicts_are_one : OneVerdict) (marks_are_one : OneMark) (are_proper : AreProper) (contents : List ℕ → List ℕ) (turns : ℕ) where
+  one_command : (command : Command) (ps : List ProgramTree) → Every (IsClear turns) ps → HasOne (CommandOutcome contents command turns ps)
+  one_command Hyper (p ∷ []) clear = one_given (Ok (HyperOf p.target (run_scale turns p) (joint_of turns p)))
+  one_command Traces (p ∷ []) clear = one_given (Ok (TracesOf p.target (run_scale turns p) (joint_of turns p)))
+  one_command Channel (p ∷ []) clear = one_given (channel_statement turns p)
+  one_command (Make count) [] clear = made_are_one count turns
+  one_command Trail (p ∷ []) clear = one_given (Ok (TrailOf turns p))
+  one_command (Leak g) (p ∷ []) clear =
       one_after (GainIn contents p.target g) (ReportIn (run_scale turns p) (joint_of turns p)) (one_gain tables_are_one contents p.target g)
-      (one_report hypers_are_one averages_are_one (run_scale turns p) (joint_of turns p))
-  one_command command ps = one_given (Err Usage)
+      (λ g _. one_report hypers_are_one averages_are_one (run_scale turns p) (joint_of turns p) g)
+  one_command (Refine json) (p ∷ q ∷ []) clear = one_refine hypers_are_one verdicts_are_one are_proper json turns p q clear.0 clear.1.0
+  one_command (Check name) (p ∷ q ∷ []) clear = one_check hypers_are_one marks_are_one contents name turns p q
+  one_command command ps clear = one_given (Err Usage)
 
 -- ---- texts
 
@@ -213,27 +286,31 @@ module _ (reading : IsOneReading) (one : OneProgram) (both : NotBoth) (refusal :
   one_typed : (name bytes : List ℕ) → HasOne (TypedOf name bytes)
   unfolding TypedOf
   one_typed name bytes = one_after (TokensOf name bytes) (λ tokens. After (SourceOf name bytes tokens) (ProgramOf name bytes)) (one_tokens name bytes)
-      (λ tokens. one_after (SourceOf name bytes tokens) (ProgramOf name bytes) (one_source name bytes tokens) (one_checked name bytes))
+      (λ tokens _. one_after (SourceOf name bytes tokens) (ProgramOf name bytes) (one_source name bytes tokens) (λ tree _. one_checked name bytes tree))
 
   one_made : (count turns : ℕ) → HasOne (MadeOutcome count turns)
   one_made count turns =
       one_after (TypedOf [] (make_source count)) (λ p. After (Gives (cleared turns (text [] (make_source count) p))) (λ q. Gives (Ok (MadeOf count (run_scale turns q) (joint_of turns q)))))
       (one_typed [] (make_source count))
-      (λ p. one_after (Gives (cleared turns (text [] (make_source count) p))) (λ q. Gives (Ok (MadeOf count (run_scale turns q) (joint_of turns q))))
-      (one_given (cleared turns (text [] (make_source count) p))) (λ q. one_given (Ok (MadeOf count (run_scale turns q) (joint_of turns q)))))
+      (λ p _. one_after (Gives (cleared turns (text [] (make_source count) p))) (λ q. Gives (Ok (MadeOf count (run_scale turns q) (joint_of turns q))))
+      (one_given (cleared turns (text [] (make_source count) p))) (λ q _. one_given (Ok (MadeOf count (run_scale turns q) (joint_of turns q)))))
 
   one_read : (contents : List ℕ → List ℕ) (name : List ℕ) → HasOne (TextOf contents name)
   one_read contents name =
       one_after (Gives (source_of contents name)) (λ bytes. After (TypedOf name bytes) (λ p. Gives (Ok (text name bytes p)))) (one_given (source_of contents name))
-      (λ bytes. one_after (TypedOf name bytes) (λ p. Gives (Ok (text name bytes p))) (one_typed name bytes) (λ p. one_given (Ok (text name bytes p))))
+      (λ bytes _. one_after (TypedOf name bytes) (λ p. Gives (Ok (text name bytes p))) (one_typed name bytes) (λ p _. one_given (Ok (text name bytes p))))
 
-  module _ (tables_are_one : OneTable) (rows_are_one : RowsAreOne) (hypers_are_one : HypersAreOne) (averages_are_one : OneAverage) where
+  pub one_cleared : (contents : List ℕ → List ℕ) (task : Task) → HasOne (ClearedOf contents task)
+  one_cleared contents task =
+      one_after (Each (TextOf contents) task.files) (Each (λ t. Gives (cleared task.turns t)))
+      (one_each (TextOf contents) (one_read contents) task.files) (λ ts _. one_each (λ t. Gives (cleared task.turns t)) (λ t. one_given (cleared task.turns t)) ts)
+
+  module _ (tables_are_one : OneTable) (rows_are_one : RowsAreOne) (hypers_are_one : HypersAreOne) (averages_are_one : OneAverage) (verdicts_are_one : OneVerdict) (marks_are_one : OneMark)
+      (are_clear : AreClear) (are_proper : AreProper) where
     one_task : (contents : List ℕ → List ℕ) (task : Task) → HasOne (TaskOutcome contents task)
     one_task contents task =
-        one_after (ClearedOf contents task) (CommandOutcome contents task.command task.turns)
-        (one_after (Each (TextOf contents) task.files) (Each (λ t. Gives (cleared task.turns t)))
-        (one_each (TextOf contents) (one_read contents) task.files) (one_each (λ t. Gives (cleared task.turns t)) (λ t. one_given (cleared task.turns t))))
-        (one_command one_made tables_are_one hypers_are_one averages_are_one contents task.turns task.command)
+        one_after (ClearedOf contents task) (CommandOutcome contents task.command task.turns) (one_cleared contents task)
+        (λ ps is. one_command one_made tables_are_one hypers_are_one averages_are_one verdicts_are_one marks_are_one are_proper contents task.turns task.command ps (are_clear contents task ps is))
 
     one_outcome : (contents : List ℕ → List ℕ) (task : Option Task) → HasOne (SomeOutcome contents task)
     one_outcome contents None = one_given (Err Usage)

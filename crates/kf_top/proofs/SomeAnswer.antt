@@ -1,5 +1,6 @@
 -- Words and files have some defined answer.
-use Rattle.std.proofs.Common.{◌≡◌, ◌⊎◌, ℕ, ◌*◌, nat_le, if◌then◌else◌, List, [], ◌∷◌, length, Bool, true, false, sym, subst, None, Some, Option, Result, Ok, Err, codes, refl, ⊎_elim, inl, inr}
+use Rattle.std.proofs.Common.{◌≡◌, ◌≢◌, ◌⊎◌, ℕ, ◌*◌, nat_le, if◌then◌else◌, List, [], ◌∷◌, length, Bool, true, false, sym, ap, subst, None, Some, Option, Result, Ok, Err, codes, refl, ⊎_elim, inl, inr}
+use Rattle.std.specs.List.{AllByRecursion as Every}
 use Rattle.kf_lex.specs.declared.token.Token.{Token}
 use Rattle.kf_lex.specs.declared.token.LexError.{LexError}
 use Rattle.kf_lex.specs.declared.token.LexError.TheVariants as lexing
@@ -30,12 +31,30 @@ use Rattle.kf_gain.specs.Vulnerabilities.{width}
 use Rattle.kf_report.specs.Reports.{Leakage}
 use Rattle.kf_make.specs.Making.{make_source}
 use Rattle.kf_run.specs.Laws.{SomeTrail}
-use Rattle.kf_top.specs.Answer.{Statement, HyperOf, TracesOf, ChannelOf, ReportOf, TrailOf, MadeOf, IsText, Shown, Refused, Usage, NotInitial, BadTable, WideGain}
+use Rattle.kf_refine.specs.Refinements.{HyperTree}
+use Rattle.kf_refine.specs.Verdicts.{VerdictTree, IsVerdict, Proves}
+use Rattle.kf_refine.specs.Laws.{SomeVerdict, VerdictsProve}
+use Rattle.kf_refine.specs.Views.{IsProper}
+use Rattle.kf_refine.specs.declared.verdict.RefineError.{RefineError}
+use Rattle.kf_refine.specs.declared.verdict.RefineError.TheVariants as refine
+use Rattle.kf_refine.proofs.SomeTargets.{same_targets}
+use Rattle.kf_cert.specs.Certificates.{CertTree, cert_of}
+use Rattle.kf_cert.specs.CertTexts.{cert_text}
+use Rattle.kf_cert.specs.Laws.{ReadSound, SomeMark}
+use Rattle.kf_cert.specs.Views.{IsSound}
+use Rattle.kf_cert.specs.declared.cert.CertError.{CertError}
+use Rattle.kf_cert.specs.declared.mark.Mark.{Mark}
+use Rattle.kf_cert.specs.declared.mark.CheckError.{CheckError}
+use Rattle.kf_cert.specs.declared.mark.CheckError.TheVariants as check
+use Rattle.kf_top.specs.Answer.{Statement, HyperOf, TracesOf, ChannelOf, ReportOf, TrailOf, MadeOf, VerdictOn, MarkOf, IsText, says_yes, Shown, Refused, Usage, NotInitial, BadTable, WideGain, OtherTarget}
 use Rattle.kf_top.specs.Ends.{Answer, Settled, IsAnswer, showing, refusing}
-use Rattle.kf_top.specs.Outcome.{Step, After, Gives, Each, Text, Fault, fault, bad_text, token_fault, syntax_fault, type_fault, IsBad, TokensOf, SourceOf, ProgramOf, TypedOf, TextOf, cleared, ClearedOf, table_word, TableOf, TableIn, GainIn, ReportIn, channel_statement, MadeOutcome, CommandOutcome, TaskOutcome, SomeOutcome, Outcome, source_of}
-use Rattle.kf_top.specs.Task.{Command, Hyper, Traces, Channel, Trail, Leak, Make, Task, task_of}
-use Rattle.kf_text.specs.Texts.{hyper_text, trace_text, channel_text, trail_text, make_text}
+use Rattle.kf_top.specs.Outcome.{Step, After, Gives, Each, Text, Fault, fault, bad_text, token_fault, syntax_fault, type_fault, IsBad, TokensOf, SourceOf, ProgramOf, TypedOf, TextOf, cleared, ClearedOf, table_word, TableOf, TableIn, GainIn, ReportIn, channel_statement, IsHyperTree, AreHypers, most_pivots, verdict_stated, RefineOutcome, cert_read, CertIn, mark_stated, MarkIn, CheckOutcome, MadeOutcome, CommandOutcome, TaskOutcome, SomeOutcome, Outcome, source_of}
+use Rattle.kf_top.specs.Task.{Command, Hyper, Traces, Channel, Trail, Leak, Make, Refine, Check, Task, task_of}
+use Rattle.kf_top.proofs.ClearedPrograms.{AreClear}
+use Rattle.kf_top.proofs.ProperHypers.{AreProper, IsClear}
+use Rattle.kf_text.specs.Texts.{line, hyper_text, trace_text, channel_text, trail_text, make_text}
 use Rattle.kf_text.specs.ReportTexts.{report_text}
+use Rattle.kf_text.specs.VerdictTexts.{verdict_text, mark_text}
 
 -- ---- steps
 
@@ -105,9 +124,10 @@ text name bytes p = record { name = name; bytes = bytes; program = p }
 
 -- ---- what is stated
 
--- where it is a report, its gain has an action
+-- where it is a report, its gain has an action; where it is a verdict, it proves itself
 abbrev HasText : Statement → Type 0
 HasText (ReportOf g scale joint) = HasActions g
+HasText (VerdictOn json a b v) = Proves a b v
 HasText statement = Unit {0}
 
 module _ (rows_exist : RowsExist) (hypers_exist : HypersExist) (secrets_exist : SomeSecrets) (reports_exist : SomeReport) (trails_exist : SomeTrail) where
@@ -125,12 +145,14 @@ module _ (rows_exist : RowsExist) (hypers_exist : HypersExist) (secrets_exist : 
       (report_text g l, (h.0, h.1, (l, record { prior = r.0.1; posterior = r.1.1; whole = refl }, refl)))
   some_text (MadeOf count scale joint) has = let h = hypers_exist joint in (make_text count scale h.0, (h.0, h.1, refl))
   some_text (TrailOf turns p) has = let counts = trails_exist turns p in (trail_text counts.0, (counts.0, counts.1, refl))
+  some_text (VerdictOn json a b v) has = ((if json then cert_text a.target v else verdict_text a.target v), (has, refl))
+  some_text (MarkOf mark) has = (line (mark_text mark), refl)
 
   -- each result whose statement has a text is that of some answer
   settled : (r : Result Statement Refused) → ((statement : Statement) → r ≡ Ok statement → HasText statement) → (answer : Answer) × Settled r answer
   settled (Ok statement) has =
       let text = some_text statement (has statement refl) in
-      let shown : Shown = record { yes = true; bytes = text.0 } in
+      let shown : Shown = record { yes = says_yes statement; bytes = text.0 } in
       (showing shown, (shown, record { text = text.1; yes = refl }, refl))
   settled (Err r) has = (refusing r, refl)
 
@@ -164,20 +186,70 @@ some_report hypers_exist averages_exist scale joint g =
       (m, record { inners = h.0; is_hyper = h.1; is_width = record { average = a.0; is_average = a.1; is = refl } }, refl),
     )
 
+-- ---- verdicts and certificates
+
+-- a program has a hyper
+some_tree : HypersExist → (turns : ℕ) (p : ProgramTree) → (h : HyperTree) × IsHyperTree turns p h
+some_tree hypers_exist turns p =
+    let h = hypers_exist (joint_of turns p) in
+    let tree : HyperTree = record { target = p.target; scale = run_scale turns p; inners = h.0 } in
+    (tree, record { target = refl; scale = refl; is_hyper = h.1 })
+
+some_refine : HypersExist → SomeVerdict → AreProper → (json : Bool) (turns : ℕ) (p q : ProgramTree) → IsClear turns p → IsClear turns q → HasSome (RefineOutcome json turns p q)
+some_refine hypers_exist verdicts_exist are_proper json turns p q clear clear' =
+    let a = some_tree hypers_exist turns p in
+    let b = some_tree hypers_exist turns q in
+    let v = verdicts_exist a.0 b.0 most_pivots (are_proper turns p a.0 clear a.1) (are_proper turns q b.0 clear' b.1) in
+    (verdict_stated json a.0 b.0 v.0, (a.0, b.0, record { first = a.1; second = b.1 }, (v.0, v.1, refl)))
+
+some_cert : (contents : List ℕ → List ℕ) (name : List ℕ) → HasSome (CertIn contents name)
+some_cert contents name =
+    some_after (Gives (source_of contents name)) (λ bytes. Gives (cert_read name (cert_of bytes)))
+    (λ bytes _. some_given (cert_read name (cert_of bytes))) (some_given (source_of contents name))
+
+-- what is read is a certificate
+pub reads : (name : List ℕ) (r : Result CertTree CertError) (c : CertTree) → Ok c ≡ cert_read name r → r ≡ Ok c
+reads name (Ok d) c is = let same : c ≡ d = cc in ap Ok (sym same)
+reads name (Err e) c is = absurd (cc)
+
+module _ (marks_exist : SomeMark) (a b : HyperTree) (c : CertTree) where
+  some_mark : IsProper a → IsProper b → IsSound c → HasSome (MarkIn a b c)
+  some_mark proper proper' sound =
+      ⊎_elim
+      (λ (same : a.target ≡ b.target). let m = marks_exist a b c proper proper' same sound in (mark_stated m.0, inr (same, (m.0, m.1, refl))))
+      (λ other. (Err OtherTarget, inl (other, refl)))
+      (same_targets a.target b.target)
+
+-- the laws of hypers, of what is read and of marks
+module _ (hypers_exist : HypersExist) (read_sound : ReadSound) (marks_exist : SomeMark) (are_proper : AreProper) where
+  some_marked : (turns : ℕ) (p q : ProgramTree) → IsClear turns p → IsClear turns q → (c : CertTree) → IsSound c → HasSome (λ result. (a b : HyperTree) × AreHypers turns p q a b × MarkIn a b c result)
+  some_marked turns p q clear clear' c sound =
+      let a = some_tree hypers_exist turns p in
+      let b = some_tree hypers_exist turns q in
+      let m = some_mark marks_exist a.0 b.0 c (are_proper turns p a.0 clear a.1) (are_proper turns q b.0 clear' b.1) sound in
+      (m.0, (a.0, b.0, record { first = a.1; second = b.1 }, m.1))
+
+  some_check : (contents : List ℕ → List ℕ) (name : List ℕ) (turns : ℕ) (p q : ProgramTree) → IsClear turns p → IsClear turns q → HasSome (CheckOutcome contents name turns p q)
+  some_check contents name turns p q clear clear' =
+      some_after (CertIn contents name) (λ c result. (a b : HyperTree) × AreHypers turns p q a b × MarkIn a b c result)
+      (λ c is. some_marked turns p q clear clear' c (read_sound is.0 c (reads name (cert_of is.0) c is.2))) (some_cert contents name)
+
 -- ---- commands
 
-module _ (made_exist : (count turns : ℕ) → HasSome (MadeOutcome count turns)) (tables_exist : SomeTable) (hypers_exist : HypersExist) (averages_exist : SomeAverage) (contents : List ℕ → List ℕ)
-    (turns : ℕ) where
-  some_command : (command : Command) (ps : List ProgramTree) → HasSome (CommandOutcome contents command turns ps)
-  some_command Hyper (p ∷ []) = some_given (Ok (HyperOf p.target (run_scale turns p) (joint_of turns p)))
-  some_command Traces (p ∷ []) = some_given (Ok (TracesOf p.target (run_scale turns p) (joint_of turns p)))
-  some_command Channel (p ∷ []) = some_given (channel_statement turns p)
-  some_command (Make count) [] = made_exist count turns
-  some_command Trail (p ∷ []) = some_given (Ok (TrailOf turns p))
-  some_command (Leak g) (p ∷ []) =
+module _ (made_exist : (count turns : ℕ) → HasSome (MadeOutcome count turns)) (tables_exist : SomeTable) (hypers_exist : HypersExist) (averages_exist : SomeAverage)
+    (verdicts_exist : SomeVerdict) (read_sound : ReadSound) (marks_exist : SomeMark) (are_proper : AreProper) (contents : List ℕ → List ℕ) (turns : ℕ) where
+  some_command : (command : Command) (ps : List ProgramTree) → Every (IsClear turns) ps → HasSome (CommandOutcome contents command turns ps)
+  some_command Hyper (p ∷ []) clear = some_given (Ok (HyperOf p.target (run_scale turns p) (joint_of turns p)))
+  some_command Traces (p ∷ []) clear = some_given (Ok (TracesOf p.target (run_scale turns p) (joint_of turns p)))
+  some_command Channel (p ∷ []) clear = some_given (channel_statement turns p)
+  some_command (Make count) [] clear = made_exist count turns
+  some_command Trail (p ∷ []) clear = some_given (Ok (TrailOf turns p))
+  some_command (Leak g) (p ∷ []) clear =
       some_after (GainIn contents p.target g) (ReportIn (run_scale turns p) (joint_of turns p))
       (λ read _. some_report hypers_exist averages_exist (run_scale turns p) (joint_of turns p) read) (some_gain tables_exist contents p.target g)
-  some_command command ps = some_given (Err Usage)
+  some_command (Refine json) (p ∷ q ∷ []) clear = some_refine hypers_exist verdicts_exist are_proper json turns p q clear.0 clear.1.0
+  some_command (Check name) (p ∷ q ∷ []) clear = some_check hypers_exist read_sound marks_exist are_proper contents name turns p q clear.0 clear.1.0
+  some_command command ps clear = some_given (Err Usage)
 
 -- what is stated where a test holds
 stated : (b : Bool) (given statement : Statement) (r : Refused) → HasText given → Ok statement ≡ (if b then Ok given else Err r) → HasText statement
@@ -187,7 +259,28 @@ stated false given statement r has is = absurd (cc)
 same_gain : (given g : GainOf TableTree) → HasActions given → Gives {A = GainOf TableTree} (Ok given) (Ok g) → HasActions g
 same_gain given g has is = let same : g ≡ given = cc in subst HasActions (sym same) has
 
-module _ (tables_have_actions : TablesHaveActions) (contents : List ℕ → List ℕ) where
+-- what is stated of a verdict is one
+pub verdict_of : (json : Bool) (a b : HyperTree) (r : Result VerdictTree RefineError) (statement : Statement) → Ok statement ≡ verdict_stated json a b r
+    → (v : VerdictTree) × (r ≡ Ok v) × (statement ≡ VerdictOn json a b v)
+verdict_of json a b (Ok v) statement is = (v, refl, (cc))
+verdict_of json a b (Err refine.Targets) statement is = absurd (cc)
+verdict_of json a b (Err (refine.Cells cells)) statement is = absurd (cc)
+verdict_of json a b (Err (refine.Wide pivots)) statement is = absurd (cc)
+verdict_of json a b (Err refine.Budget) statement is = absurd (cc)
+verdict_of json a b (Err refine.Mem) statement is = absurd (cc)
+
+mark_text_has : (r : Result Mark CheckError) (statement : Statement) → Ok statement ≡ mark_stated r → HasText statement
+mark_text_has (Ok mark) statement is = stated true (MarkOf mark) statement Usage tt is
+mark_text_has (Err check.Wide) statement is = absurd (cc)
+mark_text_has (Err check.Mem) statement is = absurd (cc)
+
+marked_text : (a b : HyperTree) (c : CertTree) (statement : Statement) → MarkIn a b c (Ok statement) → HasText statement
+marked_text a b c statement is =
+    ⊎_elim (λ (other : (a.target ≢ b.target) × (Ok statement ≡ Err OtherTarget)). let never : Ok statement ≡ Err OtherTarget = other.1 in absurd (cc))
+    (λ marked. mark_text_has marked.1.0 statement marked.1.2) is
+
+-- the laws of gain tables and of verdicts
+module _ (tables_have_actions : TablesHaveActions) (verdicts_prove : VerdictsProve) (are_proper : AreProper) (contents : List ℕ → List ℕ) where
   -- a gain that was read has an action
   read_gain : (target : List Item) (word : GainOf (List ℕ)) (g : GainOf TableTree) → GainIn contents target word (Ok g) → HasActions g
   read_gain target Bayes g is = same_gain Bayes g tt is
@@ -195,21 +288,29 @@ module _ (tables_have_actions : TablesHaveActions) (contents : List ℕ → List
   read_gain target Guessing g is = same_gain Guessing g tt is
   read_gain target (Table name) g is = same_gain (Table is.0) g (tables_have_actions target is.1.0 is.0 is.1.2) is.2
 
+  refine_text : (json : Bool) (turns : ℕ) (p q : ProgramTree) → IsClear turns p → IsClear turns q → (statement : Statement) → RefineOutcome json turns p q (Ok statement) → HasText statement
+  refine_text json turns p q clear clear' statement is =
+      let v = verdict_of json is.0 is.1 is.3.0 statement is.3.2 in
+      let verdict = subst (λ (r : Result VerdictTree RefineError). IsVerdict is.0 is.1 most_pivots r) v.1 is.3.1 in
+      subst HasText (sym v.2) (verdicts_prove is.0 is.1 most_pivots v.0 (are_proper turns p is.0 clear is.2.first) (are_proper turns q is.1 clear' is.2.second) verdict)
+
   -- what a command states has a text
-  command_text : (command : Command) (turns : ℕ) (ps : List ProgramTree) (statement : Statement) → CommandOutcome contents command turns ps (Ok statement) → HasText statement
-  command_text Hyper turns (p ∷ []) statement is = stated true (HyperOf p.target (run_scale turns p) (joint_of turns p)) statement Usage tt is
-  command_text Traces turns (p ∷ []) statement is = stated true (TracesOf p.target (run_scale turns p) (joint_of turns p)) statement Usage tt is
-  command_text Channel turns (p ∷ []) statement is = stated (all_initial p.target) (ChannelOf p.target (joint_of turns p)) statement NotInitial tt is
-  command_text (Make count) turns [] statement is = stated true (MadeOf count (run_scale turns is.2.0) (joint_of turns is.2.0)) statement Usage tt is.2.2
-  command_text Trail turns (p ∷ []) statement is = stated true (TrailOf turns p) statement Usage tt is
-  command_text (Leak word) turns (p ∷ []) statement is =
+  command_text : (command : Command) (turns : ℕ) (ps : List ProgramTree) → Every (IsClear turns) ps → (statement : Statement) → CommandOutcome contents command turns ps (Ok statement) → HasText statement
+  command_text Hyper turns (p ∷ []) clear statement is = stated true (HyperOf p.target (run_scale turns p) (joint_of turns p)) statement Usage tt is
+  command_text Traces turns (p ∷ []) clear statement is = stated true (TracesOf p.target (run_scale turns p) (joint_of turns p)) statement Usage tt is
+  command_text Channel turns (p ∷ []) clear statement is = stated (all_initial p.target) (ChannelOf p.target (joint_of turns p)) statement NotInitial tt is
+  command_text (Make count) turns [] clear statement is = stated true (MadeOf count (run_scale turns is.2.0) (joint_of turns is.2.0)) statement Usage tt is.2.2
+  command_text Trail turns (p ∷ []) clear statement is = stated true (TrailOf turns p) statement Usage tt is
+  command_text (Leak word) turns (p ∷ []) clear statement is =
       stated (nat_le (run_scale turns p * is.2.0) limit) (ReportOf is.0 (run_scale turns p) (joint_of turns p)) statement WideGain
       (read_gain p.target word is.0 is.1) is.2.2
-  command_text command turns ps statement is = absurd (cc)
+  command_text (Refine json) turns (p ∷ q ∷ []) clear statement is = refine_text json turns p q clear.0 clear.1.0 statement is
+  command_text (Check name) turns (p ∷ q ∷ []) clear statement is = marked_text is.2.0 is.2.1 is.0 statement is.2.3
+  command_text command turns ps clear statement is = absurd (cc)
 
-  task_text : (task : Option Task) (statement : Statement) → SomeOutcome contents task (Ok statement) → HasText statement
-  task_text None statement is = absurd (cc)
-  task_text (Some task) statement is = command_text task.command task.turns is.0 statement is.2
+  task_text : AreClear → (task : Option Task) (statement : Statement) → SomeOutcome contents task (Ok statement) → HasText statement
+  task_text are_clear None statement is = absurd (cc)
+  task_text are_clear (Some task) statement is = command_text task.command task.turns is.0 (are_clear contents task is.0 is.1) statement is.2
 
 -- ---- outcomes
 
@@ -245,11 +346,12 @@ module _ (read : (src : List ℕ) → ((ts : List Token) × IsTokens src ts) ⊎
       (λ bytes _. some_after (TypedOf name bytes) (λ p. Gives (Ok (text name bytes p))) (λ p _. some_given (Ok (text name bytes p))) (some_typed name bytes))
       (some_given (source_of contents name))
 
-  module _ (tables_exist : SomeTable) (hypers_exist : HypersExist) (averages_exist : SomeAverage) where
+  module _ (tables_exist : SomeTable) (hypers_exist : HypersExist) (averages_exist : SomeAverage) (verdicts_exist : SomeVerdict) (read_sound : ReadSound) (marks_exist : SomeMark) (are_clear : AreClear)
+      (are_proper : AreProper) where
     some_task : (contents : List ℕ → List ℕ) (task : Task) → HasSome (TaskOutcome contents task)
     some_task contents task =
         some_after (ClearedOf contents task) (CommandOutcome contents task.command task.turns)
-        (λ ps _. some_command some_made tables_exist hypers_exist averages_exist contents task.turns task.command ps)
+        (λ ps is. some_command some_made tables_exist hypers_exist averages_exist verdicts_exist read_sound marks_exist are_proper contents task.turns task.command ps (are_clear contents task ps is))
         (some_after (Each (TextOf contents) task.files) (Each (λ t. Gives (cleared task.turns t)))
         (λ ts _. some_each (λ t. Gives (cleared task.turns t)) (λ t. some_given (cleared task.turns t)) ts)
         (some_each (TextOf contents) (some_read contents) task.files))
@@ -258,9 +360,9 @@ module _ (read : (src : List ℕ) → ((ts : List Token) × IsTokens src ts) ⊎
     some_outcome contents None = some_given (Err Usage)
     some_outcome contents (Some task) = some_task contents task
 
-    pub some_answer : TablesHaveActions → RowsExist → SomeSecrets → SomeReport → SomeTrail → (words : List (List ℕ)) (contents : List ℕ → List ℕ) → (answer : Answer) × IsAnswer words contents answer
-    some_answer tables_have_actions rows_exist secrets_exist reports_exist trails_exist words contents =
+    pub some_answer : TablesHaveActions → VerdictsProve → RowsExist → SomeSecrets → SomeReport → SomeTrail → (words : List (List ℕ)) (contents : List ℕ → List ℕ) → (answer : Answer) × IsAnswer words contents answer
+    some_answer tables_have_actions verdicts_prove rows_exist secrets_exist reports_exist trails_exist words contents =
         let r = some_outcome contents (task_of words) in
         let s = settled rows_exist hypers_exist secrets_exist reports_exist trails_exist r.0
-        (λ statement is. task_text tables_have_actions contents (task_of words) statement (subst (λ (o : Result Statement Refused). Outcome words contents o) is r.1)) in
+        (λ statement is. task_text tables_have_actions verdicts_prove are_proper contents are_clear (task_of words) statement (subst (λ (o : Result Statement Refused). Outcome words contents o) is r.1)) in
         (s.0, record { result = r.0; outcome = r.1; settled = s.1 })

@@ -24,8 +24,8 @@ use Rattle.kf_channel.specs.Channels.{all_initial}
 use Rattle.kf_gain.specs.Gains.{Table}
 use Rattle.kf_top.specs.Answer.{Statement, Refused, ChannelOf, NotInitial, WideScale}
 use Rattle.kf_top.specs.Outcome.{Step, After, Each, Fault, Text, token_fault, syntax_fault, type_fault, bad_text, TokensOf, SourceOf, ProgramOf, TextOf, bad_run, narrow, cleared, ClearedOf, Gives, channel_statement, source_of, MadeOutcome, CommandOutcome, TaskOutcome}
-use Rattle.kf_top.specs.Stops.{Answers, is_bytes, is_text, is_cleared, is_alone}
-use Rattle.kf_top.specs.Task.{Command, Task, Leak, Make, on_file, on_files, named, tables_of}
+use Rattle.kf_top.specs.Stops.{Answers, is_bytes, is_text, is_cleared, is_alone, are_cleared}
+use Rattle.kf_top.specs.Task.{Command, Task, Leak, Make, Check, on_file, on_files, named, tables_of}
 use Rattle.kf_support.specs.declared.cleared.Cleared.{Cleared}
 use Rattle.kf_top.specs.Views.{ShowsStatement, gain_of}
 use Rattle.kf_top.specs.declared.gain_words.GainWord.{GainWord}
@@ -75,6 +75,51 @@ alone_cleared contents command name turns t (Err (stop.Refused r)) typed h = inr
 alone_cleared contents command name turns t (Err (stop.ReadFailed n)) typed h = tt
 alone_cleared contents command name turns t (Err stop.Mem) typed h = tt
 
+-- ---- two files
+
+-- what a step may have, where it is the same as what is known
+is_this : {A : Type 0} (step : Step A) (q : A) → ((y : A) × (q ≡ y) × step (Ok y)) → step (Ok q)
+is_this {A} step q way = subst (λ (y : A). step (Ok y)) (sym way.1) way.2
+
+-- the results of a step of which there are two
+each_pair : {A B : Type 0} (step : A → Step B) (x y : A) (u v : B) → step x (Ok u) → step y (Ok v) → Each step (x ∷ y ∷ []) (Ok (u ∷ v ∷ []))
+each_pair step x y u v h k = (u, h, (v ∷ [], each_alone step y (Ok v) k, refl))
+
+module _ (contents : List ℕ → List ℕ) (command : Command) (first second : List ℕ) (turns : ℕ) where
+  -- what stops the first text
+  pub no_first_text : (s : Stop) → Answers (is_text first) (Err s) (TextOf contents first) → Answers are_cleared (Err s) (ClearedOf contents (on_files command (first ∷ second ∷ []) turns))
+  no_first_text (stop.Refused r) h = inl (inl h)
+  no_first_text (stop.ReadFailed n) h = tt
+  no_first_text stop.Mem h = tt
+
+  module _ (t : Text) (typed : (y : Text) × (t ≡ y) × TextOf contents first (Ok y)) where
+    -- what stops the second text
+    pub no_second_text : (s : Stop) → Answers (is_text second) (Err s) (TextOf contents second) → Answers are_cleared (Err s) (ClearedOf contents (on_files command (first ∷ second ∷ []) turns))
+    no_second_text (stop.Refused r) h = inl (inr (t, is_this (TextOf contents first) t typed, inl (inl h)))
+    no_second_text (stop.ReadFailed n) h = tt
+    no_second_text stop.Mem h = tt
+
+    module _ (u : Text) (typed_too : (y : Text) × (u ≡ y) × TextOf contents second (Ok y)) where
+      texts : Each (TextOf contents) (first ∷ second ∷ []) (Ok (t ∷ u ∷ []))
+      texts = each_pair (TextOf contents) first second t u (is_this (TextOf contents first) t typed) (is_this (TextOf contents second) u typed_too)
+
+      -- what stops the first program
+      pub no_first_program : (s : Stop) → Answers is_cleared (Err s) (Gives (cleared turns t)) → Answers are_cleared (Err s) (ClearedOf contents (on_files command (first ∷ second ∷ []) turns))
+      no_first_program (stop.Refused r) h = inr (t ∷ u ∷ [], texts, inl h)
+      no_first_program (stop.ReadFailed n) h = tt
+      no_first_program stop.Mem h = tt
+
+      module _ (p : ProgramTree) (clear : (y : ProgramTree) × (p ≡ y) × Gives (cleared turns t) (Ok y)) where
+        -- what stops the second program
+        pub no_second_program : (s : Stop) → Answers is_cleared (Err s) (Gives (cleared turns u)) → Answers are_cleared (Err s) (ClearedOf contents (on_files command (first ∷ second ∷ []) turns))
+        no_second_program (stop.Refused r) h = inr (t ∷ u ∷ [], texts, inr (p, is_this (Gives (cleared turns t)) p clear, inl (inl h)))
+        no_second_program (stop.ReadFailed n) h = tt
+        no_second_program stop.Mem h = tt
+
+        pub both_cleared : (q : ProgramTree) → ((y : ProgramTree) × (q ≡ y) × Gives (cleared turns u) (Ok y)) → ClearedOf contents (on_files command (first ∷ second ∷ []) turns) (Ok (p ∷ q ∷ []))
+        both_cleared q clear_too =
+            (t ∷ u ∷ [], texts, each_pair (λ (x : Text). Gives (cleared turns x)) t u p q (is_this (Gives (cleared turns t)) p clear) (is_this (Gives (cleared turns u)) q clear_too))
+
 -- a file that isn't read has no text
 pub no_bytes : (contents : List ℕ → List ℕ) (name : List ℕ) (s : Stop) → Answers is_bytes (Err s) (Gives (source_of contents name)) → Answers (is_text name) (Err s) (TextOf contents name)
 no_bytes contents name (stop.Refused r) h = inl h
@@ -82,29 +127,47 @@ no_bytes contents name (stop.ReadFailed n) h = tt
 no_bytes contents name stop.Mem h = tt
 
 -- the result of the next step for what the first one has
-then_answers : {A : Type 0} (first : Step A) (next : A → Step Statement) (q : A) (r : Result Done Stop) → ((y : A) × (q ≡ y) × first (Ok y))
+pub then_answers : {A : Type 0} (first : Step A) (next : A → Step Statement) (q : A) (r : Result Done Stop) → ((y : A) × (q ≡ y) × first (Ok y))
     → Answers ShowsStatement r (next q) → Answers ShowsStatement r (After first next)
 then_answers {A} first next q r way answer = next_answers ShowsStatement first next r way.0 way.2 (subst (λ (p : A). Answers ShowsStatement r (next p)) way.1 answer)
 
 module _ (contents : List ℕ → List ℕ) (command : Command) (turns : ℕ) where
-  -- what stops the clearing of a task's one file stops the task
+  -- what stops the clearing of a task's files stops the task
+  files_stop : {A : Type 0} (Meets : A → List ProgramTree → Type 0) (files said : List (List ℕ)) → said ≡ files → (s : Stop)
+      → Answers Meets (Err s) (ClearedOf contents (on_files command said turns)) → Answers ShowsStatement (Err s) (TaskOutcome contents (on_files command files turns))
+  files_stop Meets files said same s h =
+      first_stops ShowsStatement (ClearedOf contents (on_files command files turns)) (CommandOutcome contents command turns) Meets s
+      (subst (λ (names : List (List ℕ)). Answers Meets (Err s) (ClearedOf contents (on_files command names turns))) same h)
+
+  -- what its command states of their programs is stated by the task
+  files_answer : (files said : List (List ℕ)) → said ≡ files → (ps : List ProgramTree) (n : ℕ) → n ≡ turns → (r : Result Done Stop)
+      → ((ys : List ProgramTree) × (ps ≡ ys) × ClearedOf contents (on_files command said turns) (Ok ys))
+      → Answers ShowsStatement r (CommandOutcome contents command n ps) → Answers ShowsStatement r (TaskOutcome contents (on_files command files turns))
+  files_answer files said same ps n often r way answer =
+      then_answers (ClearedOf contents (on_files command files turns)) (CommandOutcome contents command turns) ps r
+      (subst (λ (names : List (List ℕ)). (ys : List ProgramTree) × (ps ≡ ys) × ClearedOf contents (on_files command names turns) (Ok ys)) same way)
+      (subst (λ (k : ℕ). Answers ShowsStatement r (CommandOutcome contents command k ps)) often answer)
+
+  -- the same for a task on one file
   pub task_stops : (name said : List ℕ) → said ≡ name → (s : Stop) → Answers is_alone (Err s) (ClearedOf contents (on_file command said turns))
       → Answers ShowsStatement (Err s) (TaskOutcome contents (on_file command name turns))
-  task_stops name said same s h = stops s (subst (λ (n : List ℕ). Answers is_alone (Err s) (ClearedOf contents (on_file command n turns))) same h)
-    where
-      stops : (s : Stop) → Answers is_alone (Err s) (ClearedOf contents (on_file command name turns)) → Answers ShowsStatement (Err s) (TaskOutcome contents (on_file command name turns))
-      stops (stop.Refused r) h = inl h
-      stops (stop.ReadFailed n) h = tt
-      stops stop.Mem h = tt
+  task_stops name said same s h = files_stop is_alone (name ∷ []) (said ∷ []) (ap (λ (n : List ℕ). n ∷ []) same) s h
 
-  -- what its command states of its cleared program is stated by the task
   pub task_answers : (name said : List ℕ) → said ≡ name → (q : ProgramTree) (n : ℕ) → n ≡ turns → (r : Result Done Stop)
       → ((ys : List ProgramTree) × (q ∷ [] ≡ ys) × ClearedOf contents (on_file command said turns) (Ok ys))
       → Answers ShowsStatement r (CommandOutcome contents command n (q ∷ [])) → Answers ShowsStatement r (TaskOutcome contents (on_file command name turns))
-  task_answers name said same q n often r way answer =
-      then_answers (ClearedOf contents (on_file command name turns)) (CommandOutcome contents command turns) (q ∷ []) r
-      (subst (λ (m : List ℕ). (ys : List ProgramTree) × (q ∷ [] ≡ ys) × ClearedOf contents (on_file command m turns) (Ok ys)) same way)
-      (subst (λ (k : ℕ). Answers ShowsStatement r (CommandOutcome contents command k (q ∷ []))) often answer)
+  task_answers name said same q n often r way answer = files_answer (name ∷ []) (said ∷ []) (ap (λ (m : List ℕ). m ∷ []) same) (q ∷ []) n often r way answer
+
+  -- and for one on two files
+  module _ (a b said_a said_b : List ℕ) (same_a : said_a ≡ a) (same_b : said_b ≡ b) where
+    pub pair_stops : (s : Stop) → Answers are_cleared (Err s) (ClearedOf contents (on_files command (said_a ∷ said_b ∷ []) turns))
+        → Answers ShowsStatement (Err s) (TaskOutcome contents (on_files command (a ∷ b ∷ []) turns))
+    pair_stops s h = files_stop are_cleared (a ∷ b ∷ []) (said_a ∷ said_b ∷ []) (λ i. same_a i ∷ same_b i ∷ []) s h
+
+    pub pair_answers : (p q : ProgramTree) (n : ℕ) → n ≡ turns → (r : Result Done Stop)
+        → ((ys : List ProgramTree) × (p ∷ q ∷ [] ≡ ys) × ClearedOf contents (on_files command (said_a ∷ said_b ∷ []) turns) (Ok ys))
+        → Answers ShowsStatement r (CommandOutcome contents command n (p ∷ q ∷ [])) → Answers ShowsStatement r (TaskOutcome contents (on_files command (a ∷ b ∷ []) turns))
+    pair_answers p q n often r way answer = files_answer (a ∷ b ∷ []) (said_a ∷ said_b ∷ []) (λ i. same_a i ∷ same_b i ∷ []) (p ∷ q ∷ []) n often r way answer
 
 -- what a made text comes to is what its task comes to, which has no file
 pub made_answers : (contents : List ℕ → List ℕ) (count turns : ℕ) (r : Result Done Stop) → Answers ShowsStatement r (MadeOutcome count turns)
@@ -116,15 +179,27 @@ made_answers contents count turns r answer =
 pub named_alone : (name said : List ℕ) → said ≡ name → Contains (name ∷ []) said
 named_alone name said same = (0, omega arith, sym same)
 
+-- a task on two files names both
+pub named_first : (a b said : List ℕ) → said ≡ a → Contains (a ∷ b ∷ []) said
+named_first a b said same = (0, omega arith, sym same)
+
+pub named_second : (a b said : List ℕ) → said ≡ b → Contains (a ∷ b ∷ []) said
+named_second a b said same = (1, omega arith, sym same)
+
 -- a task names the files of its programs, and its gain's table
 pub names_file : (task : Task) (name : List ℕ) → Contains task.files name → Contains (named task) name
 names_file task name in' = Contains-append_left task.files (tables_of task.command) name in'
 
-pub has_table : (task : Task) (name : List ℕ) → task.command ≡ Leak (Table name) → Contains (tables_of task.command) name
+has_table : (task : Task) (name : List ℕ) → task.command ≡ Leak (Table name) → Contains (tables_of task.command) name
 has_table task name is = subst (λ (c : Command). Contains (tables_of c) name) (sym is) (0, omega arith, refl)
 
 pub names_table : (task : Task) (name : List ℕ) → task.command ≡ Leak (Table name) → Contains (named task) name
 names_table task name is = Contains-append_right task.files (tables_of task.command) name (has_table task name is)
+
+-- and a certificate
+pub names_cert : (task : Task) (name : List ℕ) → task.command ≡ Check name → Contains (named task) name
+names_cert task name is =
+    Contains-append_right task.files (tables_of task.command) name (subst (λ (c : Command). Contains (tables_of c) name) (sym is) (0, omega arith, refl))
 
 -- the table that a gain's word names
 pub reads_table : (task : Task) (w : GainWord) (name said : List ℕ) → w ≡ word.Table name → said ≡ name → task.command ≡ Leak (gain_of w) → task.command ≡ Leak (Table said)

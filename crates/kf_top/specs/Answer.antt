@@ -1,5 +1,5 @@
 -- Believed: what an answer states, and the words of a refusal.
-use Rattle.std.specs.Prelude.{◌≡◌, ℕ, List, [], ◌∷◌, ◌++◌, Bool, true, codes}
+use Rattle.std.specs.Prelude.{◌≡◌, ℕ, List, [], ◌∷◌, ◌++◌, Bool, true, false, codes, if◌then◌else◌}
 use Rattle.std.specs.Fmt.{decimal}
 use Rattle.kf_value.specs.Targets.{Item}
 use Rattle.kf_core.specs.Joint.{Cell}
@@ -11,8 +11,14 @@ use Rattle.kf_hyper.specs.Traces.{Row}
 use Rattle.kf_channel.specs.Channels.{AreSecrets}
 use Rattle.kf_gain.specs.Gains.{GainOf, TableTree}
 use Rattle.kf_report.specs.Reports.{Leakage, IsLeakage}
-use Rattle.kf_text.specs.Texts.{hyper_text, trace_text, channel_text, trail_text, make_text}
+use Rattle.kf_refine.specs.Refinements.{HyperTree}
+use Rattle.kf_refine.specs.Verdicts.{VerdictTree, No, Proves}
+use Rattle.kf_cert.specs.CertTexts.{cert_text}
+use Rattle.kf_cert.specs.declared.mark.Mark.{Mark}
+use Rattle.kf_cert.specs.declared.mark.Mark.TheVariants.{Rejected}
+use Rattle.kf_text.specs.Texts.{line, hyper_text, trace_text, channel_text, trail_text, make_text}
 use Rattle.kf_text.specs.ReportTexts.{report_text}
+use Rattle.kf_text.specs.VerdictTexts.{verdict_text, mark_text}
 
 -- what the bytes of an answer state
 pub data Statement : Type 0 where
@@ -28,6 +34,10 @@ pub data Statement : Type 0 where
   TrailOf : ℕ → ProgramTree → Statement
   -- the hyper of so many noisy observations, by its scale and joint
   MadeOf : ℕ → ℕ → List Cell → Statement
+  -- whether the second of two hypers leaks no more than the first, maybe as a certificate
+  VerdictOn : Bool → HyperTree → HyperTree → VerdictTree → Statement
+  -- what a check says of a certificate
+  MarkOf : Mark → Statement
 
 -- the bytes are the statement's text
 abbrev pub IsText : Statement → List ℕ → Type 0
@@ -41,7 +51,15 @@ IsText (ChannelOf target joint) bytes =
 IsText (ReportOf g scale joint) bytes =
     (inners : List Inner) × IsHyperOf joint inners × ((l : Leakage) × IsLeakage g scale inners l × (bytes ≡ report_text g l))
 IsText (MadeOf count scale joint) bytes = (inners : List Inner) × IsHyperOf joint inners × (bytes ≡ make_text count scale inners)
+IsText (VerdictOn json a b v) bytes = Proves a b v × (bytes ≡ (if json then cert_text a.target v else verdict_text a.target v))
+IsText (MarkOf mark) bytes = bytes ≡ line (mark_text mark)
 IsText (TrailOf turns p) bytes = (counts : List ℕ) × IsTrail turns p counts × (bytes ≡ trail_text counts)
+
+-- whether it is a yes: only a verdict may be a no, and a certificate rejected
+abbrev pub says_yes : Statement → Bool
+says_yes (VerdictOn json a b (No t)) = false
+says_yes (MarkOf (Rejected rule)) = false
+says_yes statement = true
 
 -- the bytes for out, and whether the answer is yes
 pub record Shown : Type 0 where
@@ -51,7 +69,7 @@ pub record Shown : Type 0 where
 -- what is shown states this
 pub record States (shown : Shown) (statement : Statement) : Type 0 where
   pub text : IsText statement shown.bytes
-  pub yes : shown.yes ≡ true
+  pub yes : shown.yes ≡ says_yes statement
 
 -- why there is no such answer, from the words and the files' bytes alone
 pub data Refused : Type 0 where
@@ -68,6 +86,18 @@ pub data Refused : Type 0 where
   BadTable : List ℕ → List ℕ → Refused
   -- the scale times the gain's width passes 2^127 - 1
   WideGain : Refused
+  -- two programs have different targets
+  OtherTarget : Refused
+  -- the tableau of a refinement has so many cells
+  ManyCells : ℕ → Refused
+  -- after so many pivots a number of it passes 2^62
+  WideTableau : ℕ → Refused
+  -- its run needs more pivots than there are
+  ManyPivots : Refused
+  -- a certificate's file, and the word of the rule that it breaks
+  BadCert : List ℕ → List ℕ → Refused
+  -- a scale times the certificate's denominator, or its width, passes 2^127 - 1
+  WideCert : Refused
 
 -- a line on standard error; `name` is the file's, or empty
 abbrev pub said : List ℕ → List ℕ → List ℕ
@@ -86,6 +116,12 @@ status_of (WideScale name) = 7
 status_of NotInitial = 10
 status_of (BadTable name word) = 9
 status_of WideGain = 7
+status_of OtherTarget = 10
+status_of (ManyCells cells) = 8
+status_of (WideTableau pivots) = 7
+status_of ManyPivots = 8
+status_of (BadCert name word) = 9
+status_of WideCert = 7
 
 abbrev pub line_of : Refused → List ℕ
 line_of Usage = said [] (codes "usage: kuifje COMMAND [FILES] [--gain G] [--turns N] [--json]")
@@ -96,3 +132,9 @@ line_of (WideScale name) = said name (codes ": scale passes 2^127 - 1")
 line_of NotInitial = said [] (codes "target is not initial")
 line_of (BadTable name word) = said name (codes ": " ++ word)
 line_of WideGain = said [] (codes "gain passes 2^127 - 1")
+line_of OtherTarget = said [] (codes "targets differ")
+line_of (ManyCells cells) = said [] (codes "tableau has " ++ (decimal cells ++ codes " cells"))
+line_of (WideTableau pivots) = said [] (codes "tableau passes 2^62 after " ++ (decimal pivots ++ codes " pivots"))
+line_of ManyPivots = said [] (codes "more than 20000 pivots")
+line_of (BadCert name word) = said name (codes ": " ++ word)
+line_of WideCert = said [] (codes "certificate passes 2^127 - 1")

@@ -1,14 +1,16 @@
 -- Believed: how a run ends: its status, and what it did to the sinks and to the counts of faults.
-use Rattle.std.specs.Prelude.{◌≡◌, ◌≢◌, ℕ, ◌≤◌, ◌<◌, List, [], length, Contains, codes, None, Some, Ok, Err, if◌then◌else◌}
+use Rattle.std.specs.Prelude.{◌≡◌, ◌≢◌, ◌⊎◌, ℕ, Bool, ◌≤◌, ◌<◌, List, [], length, Contains, codes, None, Some, Ok, Err, if◌then◌else◌}
 use Rattle.std.specs.declared.option.Option.{Option}
 use Rattle.std.specs.declared.result.Result.{Result}
 use Rattle.std.specs.Option.{ForSome}
 use Rattle.std.specs.Io.KnownBytes.{Appends, Keeps}
 use Rattle.kf_io.specs.Faults.{Rose}
 use Rattle.kf_io.specs.Writes.{AppendsSome}
-use Rattle.kf_gain.specs.Gains.{GainOf}
-use Rattle.kf_top.specs.Task.{Task, Channel, Leak, task_of, files_of, tables_of, named}
-use Rattle.kf_top.specs.Answer.{Statement, Shown, States, Refused, Usage, TooLong, BadText, BadRun, WideScale, NotInitial, BadTable, WideGain, said, line_of, status_of}
+use Rattle.kf_gain.specs.Gains.{GainOf, Table}
+use Rattle.kf_top.specs.Task.{Command, Task, Channel, Leak, Refine, Check, task_of, files_of, named}
+use Rattle.kf_top.specs.Answer.{Statement, Shown, States, Refused, said, line_of, status_of}
+use Rattle.kf_top.specs.Answer.{Usage, TooLong, BadText, BadRun, WideScale, NotInitial, BadTable, WideGain}
+use Rattle.kf_top.specs.Answer.{OtherTarget, ManyCells, WideTableau, ManyPivots, BadCert, WideCert}
 use Rattle.kf_top.specs.Outcome.{Outcome}
 
 -- ---- answers
@@ -95,6 +97,12 @@ pub record AnsweredInPart (words : List (List ℕ)) (contents : List ℕ → Lis
   pub front : TookFront out answer.out
   pub no_room : out.room_before < length answer.out
 
+abbrev pub IsRefining : Command → Type 0
+IsRefining command = (json : Bool) × (command ≡ Refine json)
+
+abbrev pub IsChecking : Command → Type 0
+IsChecking command = (name : List ℕ) × (command ≡ Check name)
+
 -- the refusal is one that the task can have: of a file that it names, or of its command
 abbrev pub CanRefuse : Task → Refused → Type 0
 CanRefuse task Usage = ⊥
@@ -103,8 +111,14 @@ CanRefuse task (BadText name line column word) = Contains task.files name
 CanRefuse task (BadRun name line column word) = Contains task.files name
 CanRefuse task (WideScale name) = Contains task.files name
 CanRefuse task NotInitial = task.command ≡ Channel
-CanRefuse task (BadTable name word) = Contains (tables_of task.command) name
+CanRefuse task (BadTable name word) = task.command ≡ Leak (Table name)
 CanRefuse task WideGain = (g : GainOf (List ℕ)) × (task.command ≡ Leak g)
+CanRefuse task OtherTarget = IsRefining task.command ⊎ IsChecking task.command
+CanRefuse task (ManyCells cells) = IsRefining task.command
+CanRefuse task (WideTableau pivots) = IsRefining task.command
+CanRefuse task ManyPivots = IsRefining task.command
+CanRefuse task (BadCert name word) = task.command ≡ Check name
+CanRefuse task WideCert = IsChecking task.command
 
 -- the status and the line are those of a refusal that these words can have
 pub record RefusedAs (words : List (List ℕ)) (err : Sunk) (status : ℕ) : Type 0 where

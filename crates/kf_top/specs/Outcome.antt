@@ -1,5 +1,5 @@
 -- Believed: the defined answer to words over files: the first refusal, or what is to be stated.
-use Rattle.std.specs.Prelude.{◌≡◌, ◌⊎◌, ℕ, ◌*◌, List, [], ◌∷◌, ◌++◌, length, nat_le, codes, if◌then◌else◌, Ok, Err, None, Some}
+use Rattle.std.specs.Prelude.{◌≡◌, ◌≢◌, ◌⊎◌, ℕ, Bool, ◌*◌, List, [], ◌∷◌, ◌++◌, length, nat_le, codes, if◌then◌else◌, Ok, Err, None, Some}
 use Rattle.std.specs.Fmt.{decimal}
 use Rattle.std.specs.declared.option.Option.{Option}
 use Rattle.std.specs.declared.result.Result.{Result}
@@ -33,9 +33,22 @@ use Rattle.kf_gain.specs.Gains.{GainOf, Bayes, Tries, Guessing, Table, TableTree
 use Rattle.kf_gain.specs.Tables.{IsTable}
 use Rattle.kf_gain.specs.Vulnerabilities.{IsWidth}
 use Rattle.kf_make.specs.Making.{make_source}
-use Rattle.kf_top.specs.Answer.{Statement, HyperOf, TracesOf, ChannelOf, ReportOf, TrailOf, MadeOf, Refused, Usage, TooLong, BadText, BadRun, WideScale, NotInitial, BadTable, WideGain}
+use Rattle.kf_refine.specs.Refinements.{HyperTree}
+use Rattle.kf_refine.specs.Verdicts.{VerdictTree, IsVerdict}
+use Rattle.kf_refine.specs.declared.verdict.RefineError.{RefineError}
+use Rattle.kf_refine.specs.declared.verdict.RefineError.TheVariants as refine
+use Rattle.kf_cert.specs.Certificates.{CertTree, cert_of}
+use Rattle.kf_cert.specs.Marks.{IsMarked}
+use Rattle.kf_cert.specs.declared.cert.CertError.{CertError}
+use Rattle.kf_cert.specs.declared.cert.CertError.TheVariants as cert
+use Rattle.kf_cert.specs.declared.mark.Mark.{Mark}
+use Rattle.kf_cert.specs.declared.mark.CheckError.{CheckError}
+use Rattle.kf_cert.specs.declared.mark.CheckError.TheVariants as check
+use Rattle.kf_top.specs.Answer.{Statement, HyperOf, TracesOf, ChannelOf, ReportOf, TrailOf, MadeOf, VerdictOn, MarkOf}
+use Rattle.kf_top.specs.Answer.{Refused, Usage, TooLong, BadText, BadRun, WideScale, NotInitial, BadTable, WideGain}
+use Rattle.kf_top.specs.Answer.{OtherTarget, ManyCells, WideTableau, ManyPivots, BadCert, WideCert}
 use Rattle.kf_top.specs.Place.{line_at, column_at}
-use Rattle.kf_top.specs.Task.{Command, Task, Hyper, Traces, Channel, Trail, Leak, Make, task_of}
+use Rattle.kf_top.specs.Task.{Command, Task, Hyper, Traces, Channel, Trail, Leak, Make, task_of, Refine, Check}
 
 -- a step towards an answer: which results it may have
 abbrev pub Step : Type 0 → Type 1
@@ -206,6 +219,69 @@ abbrev pub ReportIn : ℕ → List Cell → GainOf TableTree → Step Statement
 ReportIn scale joint g result =
     (m : ℕ) × HasWidth joint g m × (result ≡ (if nat_le (scale * m) limit then Ok (ReportOf g scale joint) else Err WideGain))
 
+-- the hyper of a program
+pub record IsHyperTree (turns : ℕ) (p : ProgramTree) (h : HyperTree) : Type 0 where
+  pub target : h.target ≡ p.target
+  pub scale : h.scale ≡ run_scale turns p
+  pub is_hyper : IsHyperOf (joint_of turns p) h.inners
+
+-- the hypers of two programs
+pub record AreHypers (turns : ℕ) (p q : ProgramTree) (a b : HyperTree) : Type 0 where
+  pub first : IsHyperTree turns p a
+  pub second : IsHyperTree turns q b
+
+-- how many pivots a run may have
+abbrev pub most_pivots : ℕ
+most_pivots = 20000
+
+-- what is stated of a verdict, or why there is none; want of memory is none of the causes
+abbrev pub verdict_stated : Bool → HyperTree → HyperTree → Result VerdictTree RefineError → Result Statement Refused
+verdict_stated json a b (Ok v) = Ok (VerdictOn json a b v)
+verdict_stated json a b (Err refine.Targets) = Err OtherTarget
+verdict_stated json a b (Err (refine.Cells cells)) = Err (ManyCells cells)
+verdict_stated json a b (Err (refine.Wide pivots)) = Err (WideTableau pivots)
+verdict_stated json a b (Err refine.Budget) = Err ManyPivots
+verdict_stated json a b (Err refine.Mem) = Err Usage
+
+-- the verdict on the hypers of two programs
+abbrev pub RefineOutcome : Bool → ℕ → ProgramTree → ProgramTree → Step Statement
+RefineOutcome json turns p q result =
+    (a b : HyperTree) × AreHypers turns p q a b
+    × ((r : Result VerdictTree RefineError) × IsVerdict a b most_pivots r × (result ≡ verdict_stated json a b r))
+
+-- the word of the first rule that a certificate breaks; want of memory is none
+abbrev pub cert_word : CertError → List ℕ
+cert_word cert.Json = codes "Json"
+cert_word (cert.Form rule) = codes "Form " ++ decimal rule
+cert_word cert.Wide = codes "Wide"
+cert_word cert.Mem = []
+
+-- the certificate that bytes are, or the first rule that they break
+abbrev pub cert_read : List ℕ → Result CertTree CertError → Result CertTree Refused
+cert_read name (Ok c) = Ok c
+cert_read name (Err e) = Err (BadCert name (cert_word e))
+
+-- the certificate in a file
+abbrev pub CertIn : (List ℕ → List ℕ) → List ℕ → Step CertTree
+CertIn contents name = After (Gives (source_of contents name)) (λ bytes. Gives (cert_read name (cert_of bytes)))
+
+-- what is stated of a certificate; want of memory is no cause why nothing is
+abbrev pub mark_stated : Result Mark CheckError → Result Statement Refused
+mark_stated (Ok mark) = Ok (MarkOf mark)
+mark_stated (Err check.Wide) = Err WideCert
+mark_stated (Err check.Mem) = Err Usage
+
+-- the mark of a certificate on two hypers, which must be about one target
+abbrev pub MarkIn : HyperTree → HyperTree → CertTree → Step Statement
+MarkIn a b c result =
+    ((a.target ≢ b.target) × (result ≡ Err OtherTarget))
+    ⊎ ((a.target ≡ b.target) × ((r : Result Mark CheckError) × IsMarked a b c r × (result ≡ mark_stated r)))
+
+-- the certificate is read now, and marked on the hypers of two programs
+abbrev pub CheckOutcome : (List ℕ → List ℕ) → List ℕ → ℕ → ProgramTree → ProgramTree → Step Statement
+CheckOutcome contents name turns p q =
+    After (CertIn contents name) (λ c result. (a b : HyperTree) × AreHypers turns p q a b × MarkIn a b c result)
+
 -- the made text is typed and cleared as any other, and stands in no file
 abbrev pub MadeOutcome : ℕ → ℕ → Step Statement
 MadeOutcome count turns =
@@ -221,6 +297,8 @@ CommandOutcome contents Channel turns (p ∷ []) = Gives (channel_statement turn
 CommandOutcome contents Trail turns (p ∷ []) = Gives (Ok (TrailOf turns p))
 CommandOutcome contents (Make count) turns [] = MadeOutcome count turns
 CommandOutcome contents (Leak g) turns (p ∷ []) = After (GainIn contents p.target g) (ReportIn (run_scale turns p) (joint_of turns p))
+CommandOutcome contents (Refine json) turns (p ∷ q ∷ []) = RefineOutcome json turns p q
+CommandOutcome contents (Check name) turns (p ∷ q ∷ []) = CheckOutcome contents name turns p q
 CommandOutcome contents command turns ps = Gives (Err Usage)
 
 abbrev pub TaskOutcome : (List ℕ → List ℕ) → Task → Step Statement

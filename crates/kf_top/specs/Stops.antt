@@ -18,9 +18,15 @@ use Rattle.kf_gain.specs.declared.gain.Gain.{Gain}
 use Rattle.kf_gain.specs.declared.table.GainTable.{GainTable}
 use Rattle.kf_top.specs.Answer as answer
 use Rattle.kf_top.specs.Ends.{CanRefuse}
-use Rattle.kf_top.specs.Outcome.{Step, Text, table_word}
+use Rattle.kf_top.specs.Answer.{Statement}
+use Rattle.kf_top.specs.Outcome.{Step, Text, table_word, cert_word, AreHypers, MarkIn}
+use Rattle.kf_refine.specs.Refinements.{HyperTree}
 use Rattle.kf_top.specs.Task.{Task, named}
 use Rattle.kf_top.specs.Views.{text_of}
+use Rattle.kf_cert.specs.Certificates.{CertTree}
+use Rattle.kf_cert.specs.Views.{cert_tree}
+use Rattle.kf_cert.specs.declared.cert.Cert.{Cert}
+use Rattle.kf_top.specs.declared.clearing.Pair.{Pair}
 use Rattle.kf_top.specs.declared.clearing.Text as code
 use Rattle.kf_top.specs.declared.stops.Refusal.{Refusal}
 use Rattle.kf_top.specs.declared.stops.Refusal.TheVariants as refusal
@@ -35,6 +41,12 @@ refused (refusal.WideScale name) = answer.WideScale name.now
 refused refusal.NotInitial = answer.NotInitial
 refused (refusal.BadTable name error) = answer.BadTable name.now (table_word error)
 refused refusal.WideGain = answer.WideGain
+refused refusal.OtherTarget = answer.OtherTarget
+refused (refusal.ManyCells cells) = answer.ManyCells cells
+refused (refusal.WideTableau pivots) = answer.WideTableau pivots
+refused refusal.ManyPivots = answer.ManyPivots
+refused (refusal.BadCert name error) = answer.BadCert name.now (cert_word error)
+refused refusal.WideCert = answer.WideCert
 
 -- the result is one that the step may have, or its cause isn't in the words and the files' bytes
 abbrev pub Answers : {A B : Type 0} → (A → B → Type 0) → Result A Stop → Step B → Type 0
@@ -73,12 +85,23 @@ is_text name text t = text_of name text ≡ t
 abbrev pub is_cleared : Cleared → ProgramTree → Type 0
 is_cleared cleared p = program_tree (program_of cleared) ≡ p
 
+-- the programs of two cleared ones
+abbrev pub are_cleared : Pair → List ProgramTree → Type 0
+are_cleared pair ps = program_tree (program_of pair.first) ∷ program_tree (program_of pair.second) ∷ [] ≡ ps
+
 -- the same as the only one
 abbrev pub is_alone : Cleared → List ProgramTree → Type 0
 is_alone cleared ps = program_tree (program_of cleared) ∷ [] ≡ ps
 
 abbrev pub is_table : GainTable → TableTree → Type 0
 is_table table t = table_tree table ≡ t
+
+abbrev pub is_cert : Cert → CertTree → Type 0
+is_cert c tree = cert_tree c ≡ tree
+
+-- the mark of a certificate on the hypers of two programs
+abbrev pub MarkOn : ℕ → ProgramTree → ProgramTree → CertTree → Step Statement
+MarkOn turns p q c result = (a b : HyperTree) × AreHypers turns p q a b × MarkIn a b c result
 
 abbrev pub is_gain : Gain → GainOf TableTree → Type 0
 is_gain gain g = gain_tree gain ≡ g

@@ -16,6 +16,10 @@ pub data Command : Type 0 where
   Leak : GainOf (List ℕ) → Command
   -- the text of so many noisy observations
   Make : ℕ → Command
+  -- whether the second program leaks no more than the first, maybe as a certificate
+  Refine : Bool → Command
+  -- whether the certificate in the file of this name proves its verdict on them
+  Check : List ℕ → Command
 
 -- a command, the files of its programs, and how often a loop may turn
 pub record Task : Type 0 where
@@ -32,12 +36,12 @@ abbrev pub on_file : Command → List ℕ → ℕ → Task
 on_file command file turns = on_files command (file ∷ []) turns
 
 -- what stands behind a command's word: how many values, whether `--gain`, and whether `--json` may; and which task it is, by these values
--- and that gain, once its turns are known
+-- and what else was read, once its turns are known
 pub record Row : Type 0 where
   pub values : ℕ
   pub needs_gain : Bool
   pub takes_json : Bool
-  pub task : List (List ℕ) → Option (List ℕ) → Option (ℕ → Task)
+  pub task : List (List ℕ) → Said → Option (ℕ → Task)
 
 -- a row of a command on so many files, with neither `--gain` nor `--json`
 abbrev pub plain : Command → ℕ → Row
@@ -45,7 +49,7 @@ plain command files = record {
   values = files;
   needs_gain = false;
   takes_json = false;
-  task = λ names gain. Some (on_files command names);
+  task = λ names said. Some (on_files command names);
 }
 
 -- a row of a command on so many files, with the gain that `--gain` names
@@ -54,7 +58,7 @@ with_gain command files = record {
   values = files;
   needs_gain = true;
   takes_json = false;
-  task = λ names gain. option_map (λ g. on_files (command g) names) (option_and_then gain_said gain);
+  task = λ names said. option_map (λ g. on_files (command g) names) (option_and_then gain_said said.gain);
 }
 
 -- a number of observations, from 1 to 60
@@ -71,14 +75,38 @@ making = record {
   values = 1;
   needs_gain = false;
   takes_json = false;
-  task = λ words gain. option_map (λ n. on_files (Make n) []) (option_and_then observations_said (first_of words));
+  task = λ words said. option_map (λ n. on_files (Make n) []) (option_and_then observations_said (first_of words));
+}
+
+-- the row of `refine`, which takes `--json`
+abbrev pub refining : Row
+refining = record {
+  values = 2;
+  needs_gain = false;
+  takes_json = true;
+  task = λ names said. Some (on_files (Refine said.json) names);
+}
+
+-- all words but the first
+abbrev pub others_of : List (List ℕ) → List (List ℕ)
+others_of [] = []
+others_of (word ∷ words) = words
+
+-- the row of `check`, whose first file is the certificate
+abbrev pub checking : Row
+checking = record {
+  values = 3;
+  needs_gain = false;
+  takes_json = false;
+  task = λ names said. option_map (λ cert. on_files (Check cert) (others_of names)) (first_of names);
 }
 
 -- the table of commands, by their words
 abbrev pub commands : List (List ℕ × Row)
 commands =
     (codes "hyper", plain Hyper 1) ∷ (codes "traces", plain Traces 1) ∷ (codes "channel", plain Channel 1)
-    ∷ (codes "leak", with_gain Leak 1) ∷ (codes "trail", plain Trail 1) ∷ (codes "make", making) ∷ []
+    ∷ (codes "leak", with_gain Leak 1) ∷ (codes "trail", plain Trail 1) ∷ (codes "make", making)
+    ∷ (codes "refine", refining) ∷ (codes "check", checking) ∷ []
 
 -- the row of a command's word
 abbrev pub row_of : List ℕ → Option Row
@@ -101,7 +129,7 @@ turns_of (Some word) = number_said word
 abbrev pub row_task : List (List ℕ) → Said → Row → Option Task
 row_task values said row =
     if length values == row.values && options_fit row said
-    then option_and_then (λ turns. option_map (λ task. task turns) (row.task values said.gain)) (turns_of said.turns)
+    then option_and_then (λ turns. option_map (λ task. task turns) (row.task values said)) (turns_of said.turns)
     else None
 
 -- the first value is the command's word, the others are its files or its number
@@ -120,6 +148,7 @@ task_of words = option_and_then task_said (said_by words)
 -- the files that a command reads beside its programs
 abbrev pub tables_of : Command → List (List ℕ)
 tables_of (Leak (Table name)) = name ∷ []
+tables_of (Check name) = name ∷ []
 tables_of command = []
 
 -- all files that a task names

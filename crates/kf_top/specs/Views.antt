@@ -1,5 +1,5 @@
 -- For bodies: what the code's values show.
-use Rattle.std.specs.Prelude.{ℕ, List, [], ◌≤◌}
+use Rattle.std.specs.Prelude.{ℕ, List, [], ◌∷◌, ◌≤◌}
 use Rattle.kf_core.specs.Views.{program_tree}
 use Rattle.kf_top.specs.Answer.{Shown, Statement, States}
 use Rattle.kf_gain.specs.Gains.{GainOf, Bayes, Tries, Guessing, Table}
@@ -28,6 +28,8 @@ task_of_job (job.Channel file turns) = task.on_file task.Channel file turns
 task_of_job (job.Trail file turns) = task.on_file task.Trail file turns
 task_of_job (job.Make count turns) = task.on_files (task.Make count) [] turns
 task_of_job (job.Leak file gain turns) = task.on_file (task.Leak (gain_of gain)) file turns
+task_of_job (job.Refine a b json turns) = task.on_files (task.Refine json) (a ∷ b ∷ []) turns
+task_of_job (job.Check cert a b turns) = task.on_files (task.Check cert) (a ∷ b ∷ []) turns
 
 -- a file's text, by its name
 abbrev pub text_of : List ℕ → Text → outcome.Text

@@ -16,14 +16,23 @@ said_shown s = record {
   json = s.json;
 }
 
--- which task a kind is, by the values behind its word and what `--gain` says
-abbrev pub task_shown : Kind → List (List ℕ) → Option (List ℕ) → Option (ℕ → task.Task)
-task_shown kind.Hyper names gain = Some (task.on_files task.Hyper names)
-task_shown kind.Traces names gain = Some (task.on_files task.Traces names)
-task_shown kind.Channel names gain = Some (task.on_files task.Channel names)
-task_shown kind.Trail names gain = Some (task.on_files task.Trail names)
-task_shown kind.Leak names gain = option_map (λ g. task.on_files (task.Leak g) names) (option_and_then gain_said gain)
-task_shown kind.Make words gain = option_map (λ n. task.on_files (task.Make n) []) (option_and_then task.observations_said (task.first_of words))
+-- how many values stand behind a command's word
+abbrev pub values_of : Kind → ℕ
+values_of kind.Refine = 2
+values_of kind.Check = 3
+values_of command = 1
+
+-- which task a kind is, by the values behind its word and what else was read
+abbrev pub task_shown : Kind → List (List ℕ) → spec.Said → Option (ℕ → task.Task)
+task_shown kind.Hyper names said = Some (task.on_files task.Hyper names)
+task_shown kind.Traces names said = Some (task.on_files task.Traces names)
+task_shown kind.Channel names said = Some (task.on_files task.Channel names)
+task_shown kind.Trail names said = Some (task.on_files task.Trail names)
+task_shown kind.Leak names said = option_map (λ g. task.on_files (task.Leak g) names) (option_and_then gain_said said.gain)
+task_shown kind.Make words said =
+    option_map (λ n. task.on_files (task.Make n) []) (option_and_then task.observations_said (task.first_of words))
+task_shown kind.Refine names said = Some (task.on_files (task.Refine said.json) names)
+task_shown kind.Check names said = option_map (λ cert. task.on_files (task.Check cert) (task.others_of names)) (task.first_of names)
 
 abbrev pub row_shown : Row → task.Row
 row_shown row = record {

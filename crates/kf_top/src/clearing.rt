@@ -1,6 +1,6 @@
 //! A program's file: read, typed and cleared.
 
-ghost use Rattle.std.specs.Prelude.{◌≡◌, ◌≤◌, ℕ, List, length, vec_len, Contains, IfOk};
+ghost use Rattle.std.specs.Prelude.{◌≡◌, ◌≤◌, ◌∷◌, [], ℕ, List, length, vec_len, Contains, IfOk};
 ghost use Rattle.std.specs.Option.{ForSome};
 ghost use Rattle.kf_ast.specs.Views.{source_tree};
 ghost use Rattle.kf_check.specs.Laws.{IsWellBuilt};
@@ -12,8 +12,8 @@ ghost use Rattle.kf_support.specs.Answers.{cause_of};
 ghost use Rattle.kf_support.specs.Cleared.{turns_of};
 ghost use Rattle.kf_top.specs.Outcome.{Gives, TokensOf, SourceOf, ProgramOf, TypedOf, TextOf, cause_word, cleared as whether_cleared, ClearedOf, source_of};
 ghost use Rattle.kf_top.specs.Place.{line_at, column_at};
-ghost use Rattle.kf_top.specs.Task.{Command, Task, named, on_file};
-ghost use Rattle.kf_top.specs.Stops.{Answers, Causes, is_bytes, is_tokens, is_source, is_program, is_text, is_cleared, is_alone};
+ghost use Rattle.kf_top.specs.Task.{Command, Task, named, on_file, on_files};
+ghost use Rattle.kf_top.specs.Stops.{Answers, Causes, is_bytes, is_tokens, is_source, is_program, is_text, is_cleared, is_alone, are_cleared};
 ghost use Rattle.kf_top.specs.declared.stops.Refusal.TheVariants as refusal;
 ghost use Rattle.kf_top.specs.declared.stops.Stop.TheVariants as stop;
 ghost use Rattle.kf_top.specs.Views.{text_of};
@@ -208,4 +208,39 @@ pub fn file<'a, F: Files>(
 {
     let text = text_of_file(alloc, files, name)?;
     cleared(alloc, name, text, turns)
+}
+
+/// Two cleared programs.
+#[derive(Drop)]
+pub struct Pair {
+    pub first: Cleared,
+    pub second: Cleared,
+}
+
+/// The cleared programs of the two files of a command: both are read and typed before the first is cleared.
+pub fn two_files<'a, F: Files>(
+    alloc: Global,
+    files: &mut F,
+    first: &'a str,
+    second: &'a str,
+    turns: u32,
+) -> Result<Pair, Stop<'a>>
+    requires some_turns { 1 ≤ turns }
+    requires few_turns { turns ≤ 65535 }
+    ensures answer { (command : Command) → ForSome (F.contents files.old)
+        (λ c. Answers are_cleared result (ClearedOf c (on_files command (first.now ∷ second.now ∷ []) turns))) }
+    ensures unchanged { F.contents files.new ≡ F.contents files.old }
+    ensures first_turns { IfOk result (λ pair. turns_of pair.first ≡ turns) }
+    ensures second_turns { IfOk result (λ pair. turns_of pair.second ≡ turns) }
+    ensures causes { (task : Task) → Contains task.files first.now → Contains task.files second.now
+        → Causes task (F.faults files.old) (F.faults files.new) result }
+{
+    let first_text = text_of_file(alloc, files, first)?;
+    let second_text = text_of_file(alloc, files, second)?;
+    let first_cleared = cleared(alloc, first, first_text, turns)?;
+    let second_cleared = cleared(alloc, second, second_text, turns)?;
+    Ok(Pair {
+        first: first_cleared,
+        second: second_cleared,
+    })
 }

@@ -1,6 +1,6 @@
-ghost use Rattle.std.specs.Prelude.{◌≡◌, false, option_map};
+ghost use Rattle.std.specs.Prelude.{◌≡◌, false, option_map, IfSome};
 ghost use Rattle.kf_top.specs.Task.{options_fit as fit, row_of as row_of_word};
-ghost use Rattle.kf_top.specs.WordViews.{row_shown, said_shown};
+ghost use Rattle.kf_top.specs.WordViews.{row_shown, said_shown, values_of};
 
 use crate::said::Said;
 
@@ -13,6 +13,8 @@ pub(crate) enum Kind {
     Trail,
     Leak,
     Make,
+    Refine,
+    Check,
 }
 
 /// What stands behind a command's word.
@@ -41,7 +43,8 @@ fn plain(command: Kind, values: usize) -> Row
 
 /// The row of a command's word in the table of commands.
 pub(crate) fn row_of(word: &str) -> Option<Row>
-    ensures { option_map row_shown result ≡ row_of_word word.now }
+    ensures row { option_map row_shown result ≡ row_of_word word.now }
+    ensures values { IfSome result (λ row. row.values ≡ values_of row.command) }
 {
     match word {
         "hyper" => Some(plain(Kind::Hyper, 1)),
@@ -53,6 +56,11 @@ pub(crate) fn row_of(word: &str) -> Option<Row>
             ..plain(Kind::Leak, 1)
         }),
         "make" => Some(plain(Kind::Make, 1)),
+        "refine" => Some(Row {
+            takes_json: true,
+            ..plain(Kind::Refine, 2)
+        }),
+        "check" => Some(plain(Kind::Check, 3)),
         _ => None,
     }
 }

@@ -7,6 +7,7 @@ mod gain_words;
 mod law;
 mod leaking;
 mod places;
+mod refining;
 mod said;
 mod stops;
 mod telling;
@@ -17,7 +18,7 @@ mod words;
 mod work;
 
 pub use gain_words::GainWord;
-pub use law::exactly_one_answer;
+pub use law::{certificates_accepted, exactly_one_answer};
 pub use places::place;
 pub use top::run;
 pub use words::{Job, WordsError, read_words};

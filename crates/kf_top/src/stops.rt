@@ -1,3 +1,4 @@
+use kf_cert::CertError;
 use kf_gain::TableError;
 use kf_value::Mem;
 use std::alloc::{AllocError, AllocFailed};
@@ -19,6 +20,18 @@ pub enum Refusal<'a> {
     BadTable(&'a str, TableError),
     /// The scale times the gain's width passes 2^127 - 1.
     WideGain,
+    /// Two programs have different targets.
+    OtherTarget,
+    /// The tableau of a refinement has so many cells, or as many as 2^127 - 1 or more.
+    ManyCells(u128),
+    /// After so many pivots a number of the tableau passes 2^62.
+    WideTableau(u32),
+    /// The run of a refinement needs more than 20,000 pivots.
+    ManyPivots,
+    /// The file is no certificate: the first rule that it breaks, which isn't want of memory.
+    BadCert(&'a str, CertError),
+    /// A scale times the certificate's denominator, or its width, passes 2^127 - 1.
+    WideCert,
 }
 
 /// Why there is no answer.

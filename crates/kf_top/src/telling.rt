@@ -3,13 +3,15 @@
 ghost use Rattle.std.specs.Prelude.{◌≡◌};
 ghost use Rattle.std.specs.List.{flat_map};
 ghost use Rattle.kf_gain.specs.declared.error.TableError.TheVariants as table;
-ghost use Rattle.kf_top.specs.Answer.{placed, said, line_of, status_of, BadTable};
-ghost use Rattle.kf_top.specs.Outcome.{table_word};
+ghost use Rattle.kf_cert.specs.declared.cert.CertError.TheVariants as cert;
+ghost use Rattle.kf_top.specs.Answer.{placed, said, line_of, status_of, BadTable, BadCert, ManyCells, WideTableau};
+ghost use Rattle.kf_top.specs.Outcome.{table_word, cert_word};
 ghost use Rattle.kf_top.specs.Stops.{refused};
 ghost use Rattle.kf_top.specs.Ends.{sunk, TookLine};
 
 use crate::stops::Refusal;
 use itoa::Buffer;
+use kf_cert::CertError;
 use kf_gain::TableError;
 use kf_io::{Sink, write_pieces};
 
@@ -41,7 +43,7 @@ fn tell_place<E: Sink>(err: &mut E, name: &str, line: u32, column: u32, word: &s
     );
 }
 
-// Tells which rule of a table's form is broken.
+// Tells which rule of form a table or a certificate breaks.
 fn tell_form<E: Sink>(err: &mut E, name: &str, rule: u8)
     ensures { TookLine (sunk E.taken E.faults E.room err.old err.new) (line_of (BadTable name.now (table_word (table.Form rule)))) }
 {
@@ -63,6 +65,39 @@ fn tell_table<E: Sink>(err: &mut E, name: &str, error: TableError)
         TableError::Empty => tell(err, name, ": Empty"),
         TableError::Mem => tell(err, name, ": "),
     }
+}
+
+// Tells why a file is no certificate; want of memory is no reason.
+fn tell_cert<E: Sink>(err: &mut E, name: &str, error: CertError)
+    ensures { TookLine (sunk E.taken E.faults E.room err.old err.new) (line_of (BadCert name.now (cert_word error))) }
+{
+    match error {
+        CertError::Json => tell(err, name, ": Json"),
+        CertError::Form { rule } => tell_form(err, name, rule),
+        CertError::Wide => tell(err, name, ": Wide"),
+        CertError::Mem => tell(err, name, ": "),
+    }
+}
+
+// Tells how many cells a tableau has.
+fn tell_cells<E: Sink>(err: &mut E, cells: u128)
+    ensures { TookLine (sunk E.taken E.faults E.room err.old err.new) (line_of (ManyCells cells)) }
+{
+    let mut digits = Buffer::new();
+    let cells = digits.format(cells);
+    tell_pieces(err, &["kuifje: tableau has ", cells, " cells\n"]);
+}
+
+// Tells after how many pivots a tableau's numbers are too wide.
+fn tell_pivots<E: Sink>(err: &mut E, pivots: u32)
+    ensures { TookLine (sunk E.taken E.faults E.room err.old err.new) (line_of (WideTableau pivots)) }
+{
+    let mut digits = Buffer::new();
+    let pivots = digits.format(pivots);
+    tell_pieces(
+        err,
+        &["kuifje: tableau passes 2^62 after ", pivots, " pivots\n"],
+    );
 }
 
 /// Tells the refusal, and gives its status.
@@ -97,6 +132,30 @@ pub fn refuse<E: Sink>(err: &mut E, refusal: &Refusal<'_>) -> u8
         }
         Refusal::WideGain => {
             tell(err, "", "gain passes 2^127 - 1");
+            7
+        }
+        Refusal::OtherTarget => {
+            tell(err, "", "targets differ");
+            10
+        }
+        Refusal::ManyCells(cells) => {
+            tell_cells(err, *cells);
+            8
+        }
+        Refusal::WideTableau(pivots) => {
+            tell_pivots(err, *pivots);
+            7
+        }
+        Refusal::ManyPivots => {
+            tell(err, "", "more than 20000 pivots");
+            8
+        }
+        Refusal::BadCert(name, error) => {
+            tell_cert(err, name, *error);
+            9
+        }
+        Refusal::WideCert => {
+            tell(err, "", "certificate passes 2^127 - 1");
             7
         }
     }

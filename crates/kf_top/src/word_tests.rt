@@ -44,6 +44,20 @@ fn parts(job: &Job) -> (&'static str, &str, u32) {
         Job::Trail { file, turns } => ("trail", file.as_str(), *turns),
         Job::Make { count, turns } => (made_of(*count), "", *turns),
         Job::Leak { file, gain, turns } => (leak_by(gain), file.as_str(), *turns),
+        Job::Refine { a, turns, .. } => ("refine", a.as_str(), *turns),
+        Job::Check { a, turns, .. } => ("check", a.as_str(), *turns),
+    }
+}
+
+// A job on two programs: its command and the files that it names, of which the first is a certificate or is empty.
+fn files_of(job: &Job) -> (&'static str, &str, &str, &str) {
+    match job {
+        Job::Refine { a, b, json, .. } => {
+            let command = if *json { "refine --json" } else { "refine" };
+            (command, "", a.as_str(), b.as_str())
+        }
+        Job::Check { cert, a, b, .. } => ("check", cert.as_str(), a.as_str(), b.as_str()),
+        _ => ("", "", "", ""),
     }
 }
 
@@ -59,6 +73,26 @@ fn asks_for(
             let (command, file, turns) = parts(&job);
             assert!(rt;
                 command == want.0 && file == want.1 && turns == want.2,
+                "{line}"
+            );
+            Ok(())
+        }
+        Err(_) => Err(Fail::new("refused")),
+    }
+}
+
+// The words of the line ask for this of two programs.
+fn asks_of_two(
+    rt: &(impl Abort + AllocGlobal),
+    line: &str,
+    want: (&'static str, &'static str, &'static str, &'static str),
+) -> Result<(), Fail> {
+    let words = words_of(rt.alloc(), line)?;
+    match read_words(rt.alloc(), &words) {
+        Ok(job) => {
+            let (command, cert, a, b) = files_of(&job);
+            assert!(rt;
+                command == want.0 && cert == want.1 && a == want.2 && b == want.3,
                 "{line}"
             );
             Ok(())
@@ -120,6 +154,28 @@ fn words_that_are_taken(rt: HostRuntime) -> Result<(), Fail> {
 }
 
 #[test]
+fn words_of_two_programs(rt: HostRuntime) -> Result<(), Fail> {
+    for (line, want) in [
+        ("kuifje refine p.kf q.kf", ("refine", "", "p.kf", "q.kf")),
+        (
+            "kuifje refine p.kf q.kf --json",
+            ("refine --json", "", "p.kf", "q.kf"),
+        ),
+        (
+            "kuifje --json refine p.kf --turns 3 p.kf",
+            ("refine --json", "", "p.kf", "p.kf"),
+        ),
+        (
+            "kuifje check c.json p.kf q.kf",
+            ("check", "c.json", "p.kf", "q.kf"),
+        ),
+    ] {
+        asks_of_two(&rt, line, want)?;
+    }
+    Ok(())
+}
+
+#[test]
 fn words_that_are_refused(rt: HostRuntime) -> Result<(), Fail> {
     for line in [
         "",
@@ -147,6 +203,11 @@ fn words_that_are_refused(rt: HostRuntime) -> Result<(), Fail> {
         "kuifje leak p.kf --gain tries:0",
         "kuifje leak p.kf --gain table:",
         "kuifje leak p.kf --gain bayes --json",
+        "kuifje refine p.kf",
+        "kuifje refine p.kf q.kf r.kf",
+        "kuifje refine p.kf q.kf --gain bayes",
+        "kuifje check p.kf q.kf",
+        "kuifje check c.json p.kf q.kf --json",
         "kuifje hyperr p.kf",
         "kuifje --help",
         "kuifje -h",

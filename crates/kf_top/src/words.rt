@@ -1,10 +1,10 @@
-ghost use Rattle.std.specs.Prelude.{◌≡◌, ◌≤◌, IfOk, IfSome, IsErrOf, None, Some, map, option_map, option_and_then, string_bytes, ◌∷◌, []};
+ghost use Rattle.std.specs.Prelude.{◌≡◌, ◌≤◌, IfOk, IfSome, IsErrOf, None, Some, length, map, option_map, option_and_then, string_bytes};
 ghost use Rattle.std.specs.Char.{is_ascii_digit};
 ghost use Rattle.std.specs.List.{list_all};
 ghost use Rattle.kf_top.specs.GainWords.{gain_said as gain_in_word};
 ghost use Rattle.kf_top.specs.Numerals.{is_numeral as is_numeral_word, number_said as number_in};
 ghost use Rattle.kf_top.specs.Task.{observations_said as observations_in, task_of, task_said, turns_of};
-ghost use Rattle.kf_top.specs.WordViews.{said_shown, task_shown};
+ghost use Rattle.kf_top.specs.WordViews.{said_shown, task_shown, values_of};
 ghost use Rattle.kf_top.specs.Views.{gain_of, task_of_job, HasTurns, IsFew};
 
 use crate::commands::{Kind, options_fit, row_of};
@@ -45,6 +45,20 @@ pub enum Job {
     /// The hyper of so many noisy observations of the parity of one of 64 values, 1 to 60, summed up.
     Make {
         count: u32,
+        turns: u32,
+    },
+    /// Whether the program in `b` leaks no more than the one in `a`, as a certificate where `json` is set.
+    Refine {
+        a: Name,
+        b: Name,
+        json: bool,
+        turns: u32,
+    },
+    /// Whether the certificate in `cert` proves its verdict on them.
+    Check {
+        cert: Name,
+        a: Name,
+        b: Name,
         turns: u32,
     },
 }
@@ -168,50 +182,63 @@ fn name_of(alloc: Global, word: &str) -> Result<Name, Mem>
     Ok(Name::new(word.to_string(alloc)?))
 }
 
-// A command on the one value behind its word, a file's name or a number; none where the value is no such number, or where the
+// The task of a command on the values behind its word, files' names or a number; none where a value is no such number, or where the
 // command needs a gain and `--gain` names none.
-fn on_value(
+fn on_values(
     alloc: Global,
     command: Kind,
-    value: &str,
-    gain: Option<&str>,
+    values: &[&str],
+    said: &Said<'_, '_>,
     turns: u32,
 ) -> Result<Option<Job>, Mem>
+    requires { length values.now ≡ values_of command }
     ensures job { IfOk result (λ job. option_map task_of_job job
-        ≡ option_map (λ task. task turns) (task_shown command (value.now ∷ []) (option_map (λ w. w.now) gain.entry))) }
-    ensures none { IfOk result (λ job. job ≡ None → task_shown command (value.now ∷ []) (option_map (λ w. w.now) gain.entry) ≡ None) }
+        ≡ option_map (λ task. task turns) (task_shown command (map (λ v. v.now) values.now) (said_shown said.now))) }
+    ensures none { IfOk result (λ job. job ≡ None → task_shown command (map (λ v. v.now) values.now) (said_shown said.now) ≡ None) }
     ensures turns { IfOk result (λ job. IfSome job (λ job. (task_of_job job).turns ≡ turns)) }
     ensures few { IfOk result (λ job. IfSome job (λ job. IsFew (task_of_job job).command)) }
 {
     Ok(match command {
         Kind::Hyper => Some(Job::Hyper {
-            file: name_of(alloc, value)?,
+            file: name_of(alloc, values[0])?,
             turns,
         }),
         Kind::Traces => Some(Job::Traces {
-            file: name_of(alloc, value)?,
+            file: name_of(alloc, values[0])?,
             turns,
         }),
         Kind::Channel => Some(Job::Channel {
-            file: name_of(alloc, value)?,
+            file: name_of(alloc, values[0])?,
             turns,
         }),
         Kind::Trail => Some(Job::Trail {
-            file: name_of(alloc, value)?,
+            file: name_of(alloc, values[0])?,
             turns,
         }),
-        Kind::Leak => match gain_of_option(alloc, gain)? {
+        Kind::Leak => match gain_of_option(alloc, said.gain)? {
             Some(gain) => Some(Job::Leak {
-                file: name_of(alloc, value)?,
+                file: name_of(alloc, values[0])?,
                 gain,
                 turns,
             }),
             None => None,
         },
-        Kind::Make => match observations_said(value) {
+        Kind::Make => match observations_said(values[0]) {
             Some(count) => Some(Job::Make { count, turns }),
             None => None,
         },
+        Kind::Refine => Some(Job::Refine {
+            a: name_of(alloc, values[0])?,
+            b: name_of(alloc, values[1])?,
+            json: said.json,
+            turns,
+        }),
+        Kind::Check => Some(Job::Check {
+            cert: name_of(alloc, values[0])?,
+            a: name_of(alloc, values[1])?,
+            b: name_of(alloc, values[2])?,
+            turns,
+        }),
     })
 }
 
@@ -234,13 +261,9 @@ fn job_of(alloc: Global, said: Said<'_, '_>) -> Result<Job, WordsError>
     let Some(turns) = turns_or_default(said.turns) else {
         return Err(WordsError::Usage);
     };
-    // No row has another number of values.
-    match values {
-        [value] => match on_value(alloc, row.command, value, said.gain, turns)? {
-            Some(job) => Ok(job),
-            None => Err(WordsError::Usage),
-        },
-        _ => Err(WordsError::Usage),
+    match on_values(alloc, row.command, values, &said, turns)? {
+        Some(job) => Ok(job),
+        None => Err(WordsError::Usage),
     }
 }
 

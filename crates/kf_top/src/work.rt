@@ -7,8 +7,9 @@ ghost use Rattle.kf_top.specs.Task.{Hyper, Traces, Channel, Trail, Task};
 ghost use Rattle.kf_top.specs.Stops.{Answers, Causes};
 ghost use Rattle.kf_top.specs.Views.{task_of_job, HasTurns, IsFew, ShowsStatement};
 
-use crate::clearing::file;
+use crate::clearing::{file, two_files};
 use crate::leaking::leak;
+use crate::refining::{check, refine};
 use crate::stops::{Done, Refusal, Stop};
 use crate::words::Job;
 use kf_channel::{ChannelError, channel_of};
@@ -112,6 +113,14 @@ pub fn work<'a, F: Files>(alloc: Global, files: &mut F, job: &'a Job) -> Result<
         } => {
             let cleared = file(alloc, files, name.as_str(), *turns)?;
             leak(alloc, files, &cleared, gain)
+        }
+        Job::Refine { a, b, json, turns } => {
+            let pair = two_files(alloc, files, a.as_str(), b.as_str(), *turns)?;
+            refine(alloc, &pair, *json)
+        }
+        Job::Check { cert, a, b, turns } => {
+            let pair = two_files(alloc, files, a.as_str(), b.as_str(), *turns)?;
+            check(alloc, files, &pair, cert.as_str())
         }
     }
 }

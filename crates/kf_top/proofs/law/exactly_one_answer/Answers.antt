@@ -1,4 +1,6 @@
+use Rattle.kf_top.proofs.ClearedPrograms.{AreClear, are_clear}
 use Rattle.kf_top.proofs.OneAnswer.{one_answer}
+use Rattle.kf_top.proofs.ProperHypers.{AreProper, are_proper}
 use Rattle.kf_top.proofs.SomeAnswer.{some_answer}
 use Rattle.kf_top.proofs.law.exactly_one_answer.Goals as goal
 
@@ -9,10 +11,16 @@ returns c words contents =
     let refused = c.refusals.ensures in
     let typed = c.type_laws.ensures in
     let joint = c.joint_laws.ensures in
+    let run = c.run_laws.ensures in
     let average = c.average_laws.ensures in
     let gain = c.gain_laws.ensures in
     let table = c.table_laws.ensures in
     let trail = c.trail_laws.ensures in
-    let one = one_answer read program.one refused.both refused.refusal typed.one typed.typed table.one joint.one_rows joint.one_hyper average.one gain.one trail.only words contents in
-    let some = some_answer read.read refused.either program.built typed.either typed.told table.some joint.hyper average.some table.actions joint.rows c.some_secrets.ensures gain.some trail.some words contents in
+    let verdict = c.one_verdict.ensures in
+    let mark = c.mark_laws.ensures in
+    let clear : AreClear = are_clear program.built typed.checked typed.sizes in
+    let proper : AreProper = are_proper joint.whole run.positive run.least in
+    let one = one_answer read program.one refused.both refused.refusal typed.one typed.typed table.one joint.one_rows joint.one_hyper average.one verdict.one mark.one clear proper gain.one trail.only words contents in
+    let some = some_answer read.read refused.either program.built typed.either typed.told table.some joint.hyper average.some verdict.some c.cert_laws.ensures.read_sound mark.some clear proper
+    table.actions c.verdict_laws.ensures.prove joint.rows c.some_secrets.ensures gain.some trail.some words contents in
     (some.0, some.1, λ other is. one other some.0 is some.1)

@@ -3,7 +3,7 @@ use Rattle.kf_value.specs.Views.{items_of}
 use Rattle.kf_top.specs.Outcome.{Gives, TableOf, source_of}
 use Rattle.kf_top.specs.Stops.{is_bytes, is_table}
 use Rattle.kf_top.proofs.Reporting.{no_table}
-use Rattle.kf_top.proofs.Steps.{first_stops, has_table, names_table}
+use Rattle.kf_top.proofs.Steps.{first_stops, names_table}
 use Rattle.kf_top.proofs.leaking.table_in.Goals as goal
 
 pub returns-in_err-bytes-clause-answer : goal.returns-in_err-bytes-clause-answer
@@ -29,5 +29,5 @@ returns g c =
     let bytes = c.in_ok-bytes.ensures in
     record {
       answer = λ x e. no_table x (items_of c.args.target.now) name c.deref.result.now c.in_ok-bytes.bytes.items c.deref.ensures.value (bytes.answer x e) c.in-Err.error (c.in-Err.ensures.err c.in_default.not-Mem);
-      causes = λ task is. (has_table task name is, bytes.causes task (names_table task name is));
+      causes = λ task is. (is, bytes.causes task (names_table task name is));
     }

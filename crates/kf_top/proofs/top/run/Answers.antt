@@ -45,3 +45,16 @@ pub returns-in-Err-ReadFailed-clause-causes : goal.returns-in-Err-ReadFailed-cla
 returns-in-Err-ReadFailed-clause-causes g c =
     let causes = rw c.in-Err-ReadFailed.field-0-is at c.in-Err-ReadFailed.ensures.causes in
     ends_unread _ _ _ _ _ _ (task_of_job c.in-Ok.job) c.in-Ok.ensures.job c.in-Err-ReadFailed.name.now causes.0 causes.1 refl (untouched (g.O.Sink.taken c.args.out.now)) c.tell-in-Err-ReadFailed.ensures
+
+pub returns-in-Err-ReadFailed-clause-complete : goal.returns-in-Err-ReadFailed-clause-complete
+returns-in-Err-ReadFailed-clause-complete g c = completes _ _ _ _ _ _ _ (returns-in-Err-ReadFailed-clause-causes g c)
+
+pub returns-in-Ok-write_all-clause-causes : goal.returns-in-Ok-write_all-clause-causes
+returns-in-Ok-write_all-clause-causes g c =
+    ends_shown _ _ _ _ _ _ (task_of_job c.in-Ok.job) c.in-Ok.ensures.job (shown c.in-Ok-work.done) c.in-Ok-work.ensures.answer 1 (sym (ap (λ b. if b then 0 else 1) c.if-done.false))
+    c.in-Ok-work.ensures.causes c.in-Ok-write_all.ensures.cause.same
+    (subst (λ (bytes : List ℕ). Appends (g.O.Sink.taken c.args.out.now) (g.O.Sink.taken c.write_all.new.sink) bytes) c.deref.ensures.value c.in-Ok-write_all.ensures.took)
+    (untouched (g.E.Sink.taken c.args.err.now))
+
+pub returns-in-Ok-write_all-clause-complete : goal.returns-in-Ok-write_all-clause-complete
+returns-in-Ok-write_all-clause-complete g c = completes _ _ _ _ _ _ _ (returns-in-Ok-write_all-clause-causes g c)

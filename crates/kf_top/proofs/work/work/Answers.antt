@@ -1,11 +1,12 @@
-use Rattle.std.proofs.Common.{ℕ, List, [], refl, subst, ◌∙◌}
+use Rattle.std.proofs.Common.{ℕ, List, [], ◌∷◌, refl, sym, ap, subst, ◌∙◌}
 use Rattle.std.proofs.lemmas.Result.{err_from_is_err_and}
 use Rattle.kf_core.specs.Views.{program_tree}
 use Rattle.kf_support.specs.Cleared.{program_of, turns_of}
-use Rattle.kf_top.specs.Stops.{Causes}
-use Rattle.kf_top.specs.Task.{Command, Hyper, Traces, Channel, Trail, Leak, Make, Task, on_file, on_files}
-use Rattle.kf_top.specs.Views.{gain_of}
-use Rattle.kf_top.proofs.Steps.{made_answers, task_stops, task_answers, named_alone}
+use Rattle.kf_top.specs.Outcome.{CheckOutcome}
+use Rattle.kf_top.specs.Stops.{Answers, Causes}
+use Rattle.kf_top.specs.Task.{Command, Hyper, Traces, Channel, Trail, Leak, Make, Refine, Check, Task, on_file, on_files}
+use Rattle.kf_top.specs.Views.{gain_of, ShowsStatement}
+use Rattle.kf_top.proofs.Steps.{made_answers, task_stops, task_answers, named_alone, pair_stops, pair_answers, named_first, named_second}
 use Rattle.kf_top.proofs.work.work.Goals as goal
 
 pub returns-in_err-cleared-in-Hyper-clause-answer : goal.returns-in_err-cleared-in-Hyper-clause-answer
@@ -137,3 +138,68 @@ pub returns-in-Make-clause-causes : goal.returns-in-Make-clause-causes
 returns-in-Make-clause-causes g c =
     let task : Task = on_files (Make c.in-Make.count) [] c.in-Make.turns in
     rw c.in-Make.is (c.make.ensures.causes task (g.F.Files.faults c.args.files.now))
+
+pub returns-in_err-pair-in-Refine-clause-answer : goal.returns-in_err-pair-in-Refine-clause-answer
+returns-in_err-pair-in-Refine-clause-answer g c x e =
+    let p = err_from_is_err_and c.from_residual-in_err-pair-in-Refine.result c.from_residual-in_err-pair-in-Refine.ensures.1 in
+    let command : Command = Refine c.in-Refine.json in
+    rw (p.1, p.2, c.in-Refine.is) (pair_stops x command c.in-Refine.turns c.in-Refine.a c.in-Refine.b c.as_str-in-Refine.result.now c.as_str-in-Refine-2.result.now c.as_str-in-Refine.ensures c.as_str-in-Refine-2.ensures
+    c.in_err-pair-in-Refine.field-0.0 (c.in_err-pair-in-Refine.ensures.answer command x e))
+
+pub returns-in_err-pair-in-Refine-clause-causes : goal.returns-in_err-pair-in-Refine-clause-causes
+returns-in_err-pair-in-Refine-clause-causes g c =
+    let p = err_from_is_err_and c.from_residual-in_err-pair-in-Refine.result c.from_residual-in_err-pair-in-Refine.ensures.1 in
+    let a = c.in-Refine.a in
+    let b = c.in-Refine.b in
+    let task : Task = on_files (Refine c.in-Refine.json) (a ∷ b ∷ []) c.in-Refine.turns in
+    rw (p.1, p.2, c.in-Refine.is) (c.in_err-pair-in-Refine.ensures.causes task (named_first a b c.as_str-in-Refine.result.now c.as_str-in-Refine.ensures) (named_second a b c.as_str-in-Refine-2.result.now c.as_str-in-Refine-2.ensures))
+
+pub returns-in_ok-pair-in-Refine-clause-answer : goal.returns-in_ok-pair-in-Refine-clause-answer
+returns-in_ok-pair-in-Refine-clause-answer g c x e =
+    let pair = c.in_ok-pair-in-Refine.pair in
+    let command : Command = Refine c.in-Refine.json in
+    rw c.in-Refine.is (pair_answers x command c.in-Refine.turns c.in-Refine.a c.in-Refine.b c.as_str-in-Refine.result.now c.as_str-in-Refine-2.result.now c.as_str-in-Refine.ensures c.as_str-in-Refine-2.ensures
+    (program_tree (program_of pair.first)) (program_tree (program_of pair.second)) (turns_of pair.first) c.in_ok-pair-in-Refine.ensures.first_turns
+    c.refine.result (c.in_ok-pair-in-Refine.ensures.answer command x e) c.refine.ensures.answer)
+
+pub returns-in_ok-pair-in-Refine-clause-causes : goal.returns-in_ok-pair-in-Refine-clause-causes
+returns-in_ok-pair-in-Refine-clause-causes g c =
+    let a = c.in-Refine.a in
+    let b = c.in-Refine.b in
+    let task : Task = on_files (Refine c.in-Refine.json) (a ∷ b ∷ []) c.in-Refine.turns in
+    let same = c.in_ok-pair-in-Refine.ensures.causes task (named_first a b c.as_str-in-Refine.result.now c.as_str-in-Refine.ensures) (named_second a b c.as_str-in-Refine-2.result.now c.as_str-in-Refine-2.ensures) in
+    let now = g.F.Files.faults c.two_files.new.files in
+    rw c.in-Refine.is (subst (λ (before : List ℕ → ℕ). Causes task before now c.refine.result) same (c.refine.ensures.causes task now refl))
+
+pub returns-in_err-pair-in-Check-clause-answer : goal.returns-in_err-pair-in-Check-clause-answer
+returns-in_err-pair-in-Check-clause-answer g c x e =
+    let p = err_from_is_err_and c.from_residual-in_err-pair-in-Check.result c.from_residual-in_err-pair-in-Check.ensures.1 in
+    let command : Command = Check c.in-Check.cert in
+    rw (p.1, p.2, c.in-Check.is) (pair_stops x command c.in-Check.turns c.in-Check.a c.in-Check.b c.as_str-in-Check.result.now c.as_str-in-Check-2.result.now c.as_str-in-Check.ensures c.as_str-in-Check-2.ensures
+    c.in_err-pair-in-Check.field-0.0 (c.in_err-pair-in-Check.ensures.answer command x e))
+
+pub returns-in_err-pair-in-Check-clause-causes : goal.returns-in_err-pair-in-Check-clause-causes
+returns-in_err-pair-in-Check-clause-causes g c =
+    let p = err_from_is_err_and c.from_residual-in_err-pair-in-Check.result c.from_residual-in_err-pair-in-Check.ensures.1 in
+    let a = c.in-Check.a in
+    let b = c.in-Check.b in
+    let task : Task = on_files (Check c.in-Check.cert) (a ∷ b ∷ []) c.in-Check.turns in
+    rw (p.1, p.2, c.in-Check.is) (c.in_err-pair-in-Check.ensures.causes task (named_first a b c.as_str-in-Check.result.now c.as_str-in-Check.ensures) (named_second a b c.as_str-in-Check-2.result.now c.as_str-in-Check-2.ensures))
+
+pub returns-in_ok-pair-in-Check-clause-answer : goal.returns-in_ok-pair-in-Check-clause-answer
+returns-in_ok-pair-in-Check-clause-answer g c x e =
+    let pair = c.in_ok-pair-in-Check.pair in
+    let command : Command = Check c.in-Check.cert in
+    rw c.in-Check.is (pair_answers x command c.in-Check.turns c.in-Check.a c.in-Check.b c.as_str-in-Check.result.now c.as_str-in-Check-2.result.now c.as_str-in-Check.ensures c.as_str-in-Check-2.ensures
+    (program_tree (program_of pair.first)) (program_tree (program_of pair.second)) (turns_of pair.first) c.in_ok-pair-in-Check.ensures.first_turns
+    c.check.result (c.in_ok-pair-in-Check.ensures.answer command x e) (subst (λ (name : List ℕ). Answers ShowsStatement c.check.result (CheckOutcome x name (turns_of pair.first) (program_tree (program_of pair.first)) (program_tree (program_of pair.second))))
+    c.as_str-in-Check-3.ensures (c.check.ensures.answer x (c.in_ok-pair-in-Check.ensures.unchanged ∙ e))))
+
+pub returns-in_ok-pair-in-Check-clause-causes : goal.returns-in_ok-pair-in-Check-clause-causes
+returns-in_ok-pair-in-Check-clause-causes g c =
+    let a = c.in-Check.a in
+    let b = c.in-Check.b in
+    let task : Task = on_files (Check c.in-Check.cert) (a ∷ b ∷ []) c.in-Check.turns in
+    let same = c.in_ok-pair-in-Check.ensures.causes task (named_first a b c.as_str-in-Check.result.now c.as_str-in-Check.ensures) (named_second a b c.as_str-in-Check-2.result.now c.as_str-in-Check-2.ensures) in
+    let now = g.F.Files.faults c.check.new.files in
+    rw c.in-Check.is (subst (λ (before : List ℕ → ℕ). Causes task before now c.check.result) same (c.check.ensures.causes task (ap Check (sym c.as_str-in-Check-3.ensures))))

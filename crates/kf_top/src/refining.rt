@@ -1,0 +1,166 @@
+//! The commands `refine` and `check`.
+
+ghost use Rattle.std.specs.Prelude.{◌≡◌, ℕ, Bool, List, IfOk, if◌then◌else◌};
+ghost use Rattle.std.specs.Option.{ForSome};
+ghost use Rattle.kf_value.specs.Views.{items_of};
+ghost use Rattle.kf_core.specs.Views.{program_tree};
+ghost use Rattle.kf_support.specs.Cleared.{program_of, turns_of};
+ghost use Rattle.kf_refine.specs.Refinements.{HyperTree};
+ghost use Rattle.kf_refine.specs.Shapes.{IsWritable};
+ghost use Rattle.kf_refine.specs.Views.{hyper_tree, verdict_tree};
+ghost use Rattle.kf_cert.specs.CertTexts.{cert_text};
+ghost use Rattle.kf_cert.specs.Views.{cert_tree, IsSound};
+ghost use Rattle.kf_text.specs.Texts.{line};
+ghost use Rattle.kf_text.specs.VerdictTexts.{mark_text as text_of_mark, verdict_text as text_of_verdict};
+ghost use Rattle.kf_top.specs.Answer.{says_yes, MarkOf, VerdictOn};
+ghost use Rattle.kf_top.specs.Outcome.{AreHypers, CertIn, CheckOutcome, RefineOutcome};
+ghost use Rattle.kf_top.specs.Task.{Check, Refine, Task};
+ghost use Rattle.kf_top.specs.Stops.{Answers, Causes, is_cert, MarkOn};
+ghost use Rattle.kf_top.specs.Views.{ShowsStatement};
+
+use crate::clearing::{Pair, source};
+use crate::stops::{Done, Refusal, Stop};
+use kf_cert::{Cert, CertError, CheckError, Mark, check_cert, read_cert, write_cert};
+use kf_hyper::Hyper;
+use kf_io::Files;
+use kf_refine::{RefineError, Verdict, same_target};
+use kf_run::hyper_of;
+use kf_text::{mark_text, verdict_text};
+use kf_value::{Mem, Target};
+use std::alloc::Global;
+
+/// How many pivots a run may have.
+const MOST_PIVOTS: u32 = 20_000;
+
+// The hypers of two programs.
+#[derive(Drop)]
+struct Hypers {
+    a: Hyper,
+    b: Hyper,
+}
+
+// The hypers of two cleared programs.
+fn hypers_of(alloc: Global, pair: &Pair) -> Result<Hypers, Mem>
+    requires { turns_of pair.now.first ≡ turns_of pair.now.second }
+    ensures { IfOk result (λ hypers. AreHypers (turns_of pair.now.first) (program_tree (program_of pair.now.first))
+        (program_tree (program_of pair.now.second)) (hyper_tree hypers.a) (hyper_tree hypers.b)) }
+{
+    let a = hyper_of(alloc, &pair.first)?;
+    let b = hyper_of(alloc, &pair.second)?;
+    Ok(Hypers { a, b })
+}
+
+// The certificate or the printed text of a verdict on hypers of this target.
+fn bytes_of(alloc: Global, verdict: &Verdict, target: &Target, json: bool) -> Result<Vec<u8>, Mem>
+    requires { IsWritable (items_of target.now) (verdict_tree verdict.now) }
+    ensures { IfOk result (λ bytes. bytes.items ≡ (if json
+        then cert_text (items_of target.now) (verdict_tree verdict.now)
+        else text_of_verdict (items_of target.now) (verdict_tree verdict.now))) }
+{
+    if json {
+        write_cert(alloc, verdict, target)
+    } else {
+        verdict_text(alloc, verdict, target)
+    }
+}
+
+// Whether a verdict is a yes.
+fn is_yes(verdict: &Verdict) -> bool
+    ensures { (json : Bool) (a b : HyperTree) → result ≡ says_yes (VerdictOn json a b (verdict_tree verdict.now)) }
+{
+    matches!(verdict, Verdict::Yes(_))
+}
+
+/// The command `refine`.
+pub fn refine<'a>(alloc: Global, pair: &Pair, json: bool) -> Result<Done, Stop<'a>>
+    requires { turns_of pair.now.first ≡ turns_of pair.now.second }
+    ensures answer { Answers ShowsStatement result (RefineOutcome json (turns_of pair.now.first)
+        (program_tree (program_of pair.now.first)) (program_tree (program_of pair.now.second))) }
+    ensures causes { (task : Task) (before : List ℕ → ℕ) → task.command ≡ Refine json → Causes task before before result }
+{
+    let hypers = hypers_of(alloc, pair)?;
+    let verdict = match kf_refine::refine(alloc, &hypers.a, &hypers.b, MOST_PIVOTS) {
+        Ok(verdict) => verdict,
+        Err(RefineError::Targets) => return Err(Stop::Refused(Refusal::OtherTarget)),
+        Err(RefineError::Cells { count }) => return Err(Stop::Refused(Refusal::ManyCells(count))),
+        Err(RefineError::Wide { pivots }) => {
+            return Err(Stop::Refused(Refusal::WideTableau(pivots)));
+        }
+        Err(RefineError::Budget) => return Err(Stop::Refused(Refusal::ManyPivots)),
+        Err(RefineError::Mem) => return Err(Stop::Mem),
+    };
+    let yes = is_yes(&verdict);
+    let bytes = bytes_of(alloc, &verdict, hypers.a.target(), json)?;
+    Ok(Done { yes, bytes })
+}
+
+// The certificate in a file.
+fn cert_in<'a, F: Files>(alloc: Global, files: &mut F, name: &'a str) -> Result<Cert, Stop<'a>>
+    ensures answer { ForSome (F.contents files.old) (λ c. Answers is_cert result (CertIn c name.now)) }
+    ensures sound { IfOk result (λ c. IsSound (cert_tree c)) }
+    ensures causes { (task : Task) → task.command ≡ Check name.now → Causes task (F.faults files.old) (F.faults files.new) result }
+{
+    let bytes = source(alloc, files, name)?;
+    match read_cert(alloc, &bytes) {
+        Ok(cert) => Ok(cert),
+        Err(error) => match error {
+            CertError::Mem => Err(Stop::Mem),
+            _ => Err(Stop::Refused(Refusal::BadCert(name, error))),
+        },
+    }
+}
+
+// The printed mark of a certificate, as a line.
+fn mark_line(alloc: Global, mark: &Mark) -> Result<Vec<u8>, Mem>
+    ensures { IfOk result (λ bytes. bytes.items ≡ line (text_of_mark mark.now)) }
+{
+    let mut bytes = Vec::new(alloc);
+    bytes.extend_from_slice(mark_text(mark).as_bytes())?;
+    bytes.extend_from_slice(b"\n")?;
+    Ok(bytes)
+}
+
+// Whether a mark accepts its certificate.
+fn is_accepted(mark: &Mark) -> bool
+    ensures { result ≡ says_yes (MarkOf mark.now) }
+{
+    matches!(mark, Mark::Accepted)
+}
+
+// The mark of a certificate on the hypers of two programs.
+fn marked<'a>(alloc: Global, pair: &Pair, cert: &Cert) -> Result<Done, Stop<'a>>
+    requires turns { turns_of pair.now.first ≡ turns_of pair.now.second }
+    requires sound { IsSound (cert_tree cert.now) }
+    ensures answer { Answers ShowsStatement result (MarkOn (turns_of pair.now.first) (program_tree (program_of pair.now.first))
+        (program_tree (program_of pair.now.second)) (cert_tree cert.now)) }
+    ensures causes { (task : Task) (name : List ℕ) (before : List ℕ → ℕ) → task.command ≡ Check name → Causes task before before result }
+{
+    let hypers = hypers_of(alloc, pair)?;
+    if !same_target(hypers.a.target(), hypers.b.target()) {
+        return Err(Stop::Refused(Refusal::OtherTarget));
+    }
+    let mark = match check_cert(alloc, &hypers.a, &hypers.b, cert) {
+        Ok(mark) => mark,
+        Err(CheckError::Wide) => return Err(Stop::Refused(Refusal::WideCert)),
+        Err(CheckError::Mem) => return Err(Stop::Mem),
+    };
+    let yes = is_accepted(&mark);
+    let bytes = mark_line(alloc, &mark)?;
+    Ok(Done { yes, bytes })
+}
+
+/// The command `check`: the certificate is read once both programs are cleared.
+pub fn check<'a, F: Files>(
+    alloc: Global,
+    files: &mut F,
+    pair: &Pair,
+    name: &'a str,
+) -> Result<Done, Stop<'a>>
+    requires { turns_of pair.now.first ≡ turns_of pair.now.second }
+    ensures answer { ForSome (F.contents files.old) (λ c. Answers ShowsStatement result (CheckOutcome c name.now (turns_of pair.now.first)
+        (program_tree (program_of pair.now.first)) (program_tree (program_of pair.now.second)))) }
+    ensures causes { (task : Task) → task.command ≡ Check name.now → Causes task (F.faults files.old) (F.faults files.new) result }
+{
+    let cert = cert_in(alloc, files, name)?;
+    marked(alloc, pair, &cert)
+}

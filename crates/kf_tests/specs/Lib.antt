@@ -1,2 +1,3 @@
 -- For bodies
 pub mod Rooms
+pub mod Written

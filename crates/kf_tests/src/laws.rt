@@ -1,11 +1,12 @@
-ghost use Rattle.std.specs.Prelude.{◌≡◌, ◌≢◌, ◌≤◌, [], map, string_bytes};
+ghost use Rattle.std.specs.Prelude.{◌≡◌, ◌≢◌, ◌⊎◌, ◌≤◌, [], map, string_bytes};
 ghost use Rattle.kf_io.specs.Entries.{bytes_of};
 ghost use Rattle.kf_io.specs.Sinks.{room_left};
 ghost use Rattle.kf_top.specs.Ends.{sunk, Answered};
 ghost use Rattle.kf_tests.specs.Rooms.{HasRoom, IsWritten};
+ghost use Rattle.kf_tests.specs.Written.{ChecksWritten};
 
 use kf_io::{MemSink, Sink, SureFiles};
-use kf_top::run;
+use kf_top::{certificates_accepted, run};
 use std::alloc::Global;
 
 /// A run over files that never fail: no read fails; and where `out` is certain to have room for every
@@ -39,5 +40,22 @@ pub fn run_in_memory<E: Sink>(
     ensures { out.old.fail ≡ [] → HasRoom (map string_bytes words.now) (bytes_of files.old.files) (room_left out.old) → result ≢ 12
         → IsWritten (map string_bytes words.now) (bytes_of files.old.files) out.old.bytes out.new.bytes result }
 {
+    run_over_sure_files(alloc, words, files, out, err)
+}
+
+/// The check of a certificate that an earlier run of `refine --json` wrote on the same two texts: it ends with `accepted` (status 0), too wide
+/// (status 7), or for want of memory.
+pub fn check_what_was_written<O: Sink, E: Sink>(
+    alloc: Global,
+    words: &[String],
+    files: &mut SureFiles,
+    out: &mut O,
+    err: &mut E,
+) -> u8
+    ensures { ChecksWritten (map string_bytes words.now) (bytes_of files.old.files)
+        → HasRoom (map string_bytes words.now) (bytes_of files.old.files) (O.room out.old) → result ≢ 12
+        → (result ≡ 0) ⊎ (result ≡ 7) }
+{
+    certificates_accepted();
     run_over_sure_files(alloc, words, files, out, err)
 }

@@ -5,4 +5,4 @@ mod laws;
 #[cfg(test)]
 mod tests;
 
-pub use laws::{run_in_memory, run_over_sure_files};
+pub use laws::{check_what_was_written, run_in_memory, run_over_sure_files};

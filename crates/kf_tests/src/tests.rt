@@ -14,10 +14,13 @@ mod leaks;
 mod plain;
 mod plain_gains;
 mod plain_hypers;
+mod plain_refining;
 mod plain_traces;
+mod refining;
 mod refusals;
 mod reports;
 mod slow;
+mod small_hypers;
 mod types;
 mod values;
 
@@ -100,12 +103,31 @@ fn two_files(alloc: Global, program: &str, table: Vec<u8>) -> Result<FileList, A
     Ok(FileList::new(vec![in alloc; program, table]?))
 }
 
+// The files `p.kf` and `q.kf`.
+fn program_files(alloc: Global, p: &str, q: &str) -> Result<Vec<FileEntry>, AllocError> {
+    let p = file(alloc, "p.kf", p.as_bytes().to_vec(alloc)?)?;
+    let q = file(alloc, "q.kf", q.as_bytes().to_vec(alloc)?)?;
+    Ok(vec![in alloc; p, q]?)
+}
+
+// The files `p.kf`, `q.kf` and `c.json`.
+fn three_files(alloc: Global, p: &str, q: &str, cert: Vec<u8>) -> Result<FileList, AllocError> {
+    let mut files = program_files(alloc, p, q)?;
+    files.push(file(alloc, "c.json", cert)?)?;
+    Ok(FileList::new(files))
+}
+
 // The file `p.kf` with this text, read in pieces; these reads fail.
 fn text_files(alloc: Global, text: &str, piece: usize, fail: &[u64]) -> Result<MemFiles, Fail>
     requires { 0 < piece }
 {
     let files = one_file(alloc, text.as_bytes().to_vec(alloc)?)?;
     Ok(MemFiles::new(alloc, files, piece, calls(alloc, fail)?)?)
+}
+
+// These files, each read at once, no read of which fails.
+fn files_in_memory(alloc: Global, files: FileList) -> Result<MemFiles, Fail> {
+    Ok(MemFiles::new(alloc, files, 65536, calls(alloc, &[])?)?)
 }
 
 // A sink that takes large pieces and has room enough.
@@ -173,4 +195,29 @@ fn ends_over_both(
 ) -> Result<(), Fail> {
     let mut files = SureFiles::new(two_files(rt.alloc(), text, table)?, 65536);
     ends(rt, words, &mut files, want)
+}
+
+// A run of these words over the files `p.kf` and `q.kf` with these texts ends so.
+fn ends_over_pair(
+    rt: &(impl Abort + AllocGlobal),
+    words: &str,
+    p: &str,
+    q: &str,
+    want: End<'_>,
+) -> Result<(), Fail> {
+    let files = FileList::new(program_files(rt.alloc(), p, q)?);
+    ends(rt, words, &mut files_in_memory(rt.alloc(), files)?, want)
+}
+
+// A run of these words over these programs and the file `c.json` with these bytes ends so.
+fn ends_over_three(
+    rt: &(impl Abort + AllocGlobal),
+    words: &str,
+    p: &str,
+    q: &str,
+    cert: Vec<u8>,
+    want: End<'_>,
+) -> Result<(), Fail> {
+    let files = three_files(rt.alloc(), p, q, cert)?;
+    ends(rt, words, &mut files_in_memory(rt.alloc(), files)?, want)
 }

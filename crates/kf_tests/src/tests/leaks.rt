@@ -38,7 +38,7 @@ const THOUSANDTHS: &str =
 const HALF: &str = "gain table\nprior 1/2\nposterior 1/2\nquotient 1\ndifference 0\n";
 
 // An end without an answer.
-fn stops(status: u8, err: &str) -> End<'_> {
+pub(super) fn stops(status: u8, err: &str) -> End<'_> {
     End {
         status,
         out: "",

@@ -17,7 +17,7 @@ const SIZE: u64 = 6;
 
 // ---- numbers
 
-fn plus(sum: i128, number: i128) -> Result<i128, Fail> {
+pub(super) fn plus(sum: i128, number: i128) -> Result<i128, Fail> {
     match sum.checked_add(number) {
         Some(sum) => Ok(sum),
         None => Err(Fail::new("the sum is too large")),
@@ -31,7 +31,7 @@ fn times(one: i128, other: i128) -> Result<i128, Fail> {
     }
 }
 
-fn signed(number: u128) -> Result<i128, Fail> {
+pub(super) fn signed(number: u128) -> Result<i128, Fail> {
     match i128::try_from(number) {
         Ok(number) => Ok(number),
         Err(_) => Err(Fail::new("the number is too large")),
@@ -133,7 +133,7 @@ fn gain_of_action(weights: &[i128], action: &Action, rest: i128) -> Result<i128,
 }
 
 // The greatest gain of an action.
-fn by_actions(weights: &[i128], table: &GainTable) -> Result<i128, Fail> {
+pub(super) fn by_actions(weights: &[i128], table: &GainTable) -> Result<i128, Fail> {
     let mut best = i128::MIN;
     for action in table.actions.as_slice() {
         best = best.max(gain_of_action(weights, action, table.rest)?);
@@ -203,13 +203,13 @@ fn best_behind(alloc: Global, gain: &Gain, columns: &[Vec<i128>]) -> Result<i128
 
 /// Numbers by a linear congruence.
 #[derive(Drop)]
-struct Numbers {
-    state: u64,
+pub(super) struct Numbers {
+    pub(super) state: u64,
 }
 
 impl Numbers {
     // The next number below the bound.
-    fn below(&mut self, bound: u64) -> u64
+    pub(super) fn below(&mut self, bound: u64) -> u64
         requires { 0 < bound }
         ensures { result < bound }
     {
@@ -241,7 +241,7 @@ fn six_values(alloc: Global) -> Result<Target, Mem>
     })
 }
 
-fn entry(value: u64, weight: u128) -> Entry
+pub(super) fn entry(value: u64, weight: u128) -> Entry
     ensures { result ≡ record { value = value; weight = weight } }
 {
     Entry { value, weight }

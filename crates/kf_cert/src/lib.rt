@@ -18,6 +18,3 @@ pub use laws::{cert_laws, mark_laws};
 pub use mark::{CheckError, Mark, Rule};
 pub use reading::read_cert;
 pub use writing::write_cert;
-
-#[cfg(test)]
-mod tests;

@@ -1,5 +1,4 @@
 mod Cells
 mod Listing
-mod Noisy
 mod Parts
 mod Secrets

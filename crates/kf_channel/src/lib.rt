@@ -8,6 +8,3 @@ mod law;
 pub use channel::{Channel, channel_of};
 pub use error::ChannelError;
 pub use law::{rows_sum_to_one, some_secrets};
-
-#[cfg(test)]
-mod tests;

@@ -19,8 +19,3 @@ pub use reading::read_table;
 pub use table::{Action, ActionList, GainEntry, GainEntryList, GainTable};
 pub use table_law::table_laws;
 pub use vulnerability::{posterior, prior};
-
-#[cfg(test)]
-mod table_tests;
-#[cfg(test)]
-mod tests;

@@ -24,6 +24,3 @@ pub use reading::read_whole;
 pub use sure_files::SureFiles;
 pub use traits::{Files, Sink};
 pub use writing::{write_all, write_pieces};
-
-#[cfg(test)]
-mod tests;

@@ -8,6 +8,3 @@ mod unrefused;
 pub use laws::made_laws;
 pub use making::make_source;
 pub use unrefused::made;
-
-#[cfg(test)]
-mod tests;

@@ -15,8 +15,6 @@ mod parsing;
 mod sources;
 mod stmts;
 mod stop;
-#[cfg(test)]
-mod tests;
 mod types;
 
 pub use errors::ParseError;

@@ -16,6 +16,3 @@ pub use deciding::refine;
 pub use laws::{one_verdict, refine_laws, verdict_laws};
 pub use targets::same_target;
 pub use verdict::{FracRowList, Matrix, RefineError, Verdict};
-
-#[cfg(test)]
-mod tests;

@@ -6,6 +6,3 @@ mod report;
 
 pub use law::report_laws;
 pub use report::{Report, report_of};
-
-#[cfg(test)]
-mod tests;

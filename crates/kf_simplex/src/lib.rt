@@ -19,6 +19,3 @@ pub use lists::{FracList, NumberList};
 pub use outcome::{Outcome, SimplexError};
 pub use solving::solve;
 pub use system::{Equation, EquationList, System, cells};
-
-#[cfg(test)]
-mod tests;

@@ -1,36 +1,23 @@
 // Runs over files and sinks in memory: statuses and whole texts.
-ghost use Rattle.std.specs.Prelude.{◌<◌, ◌≤◌, length, IfOk};
-ghost use Rattle.kf_core.specs.Views.{program_tree};
-ghost use Rattle.kf_core.specs.Checked.{IsChecked};
+ghost use Rattle.std.specs.Prelude.{◌<◌};
 
 mod answers;
 mod beliefs;
 mod causes;
-mod choices;
 mod commands;
 mod examples;
 mod faults;
+mod jobs;
 mod leaks;
-mod plain;
-mod plain_gains;
-mod plain_hypers;
-mod plain_refining;
-mod plain_traces;
 mod refining;
 mod refusals;
 mod reports;
 mod slow;
-mod small_hypers;
 mod types;
-mod values;
 
-use kf_check::check;
-use kf_core::Program;
 use kf_io::{
     ByteList, CallList, FileEntry, FileList, FileName, Files, MemFiles, MemSink, SureFiles,
 };
-use kf_lex::lex;
-use kf_parse::{grammar, parse};
 use kf_top::run;
 use std::alloc::{AllocError, Global};
 use std::process::Abort;
@@ -58,10 +45,13 @@ impl<'a> End<'a> {
     }
 }
 
-// The words of a line.
+// The words of a line, between single spaces; the empty line has none.
 fn words_of(alloc: Global, line: &str) -> Result<Vec<String>, AllocError> {
     let mut words = Vec::new(alloc);
-    for word in line.split_ascii_whitespace() {
+    if line.is_empty() {
+        return Ok(words);
+    }
+    for word in line.split(' ') {
         words.push(String::from_str(alloc, word)?)?;
     }
     Ok(words)
@@ -69,17 +59,6 @@ fn words_of(alloc: Global, line: &str) -> Result<Vec<String>, AllocError> {
 
 fn calls(alloc: Global, numbers: &[u64]) -> Result<CallList, AllocError> {
     Ok(CallList::new(numbers.to_vec(alloc)?))
-}
-
-// The program of a text.
-fn program_of(alloc: Global, text: &str) -> Result<Program, Fail>
-    requires { length text.now ≤ 1048576 }
-    ensures { IfOk result (λ p. IsChecked (program_tree p)) }
-{
-    grammar();
-    let tokens = lex(alloc, text.as_bytes())?;
-    let source = parse(alloc, text.as_bytes(), &tokens)?;
-    Ok(check(alloc, &source)?)
 }
 
 // A file of this name.

@@ -1,4 +1,3 @@
-mod Noisy
 pub mod Printing
 mod Reporting
 mod Rows

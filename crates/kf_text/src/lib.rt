@@ -19,12 +19,3 @@ pub use report::report_text;
 pub use traces::trace_text;
 pub use trail::trail_text;
 pub use verdict::verdict_text;
-
-#[cfg(test)]
-mod report_tests;
-#[cfg(test)]
-mod tests;
-#[cfg(test)]
-mod trace_tests;
-#[cfg(test)]
-mod trail_tests;

@@ -12,8 +12,6 @@ mod said;
 mod stops;
 mod telling;
 mod top;
-#[cfg(test)]
-mod word_tests;
 mod words;
 mod work;
 

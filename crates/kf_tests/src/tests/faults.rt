@@ -238,7 +238,8 @@ fn loops_of_as_many_turns_as_the_words_say(rt: HostRuntime) -> Result<(), Fail> 
 }
 
 // Each turn halves the weights, so the scale of n turns is 2^n. In the last program both branches lead to one store by
-// scale 6, so that of n turns is 6^n, and 6^50 is above 2^127; 6^49 and its many traces are left to `by_hand`.
+// scale 6, so that of n turns is 6^n, and 6^50 is above 2^127; 6^49 and its many traces are left to
+// `kf_layer_tests`.
 #[test]
 fn scales_up_to_the_limit(rt: HostRuntime) -> Result<(), Fail> {
     for (text, want) in [

@@ -1,0 +1,31 @@
+// The layers from texts to hypers, one or more at a time.
+ghost use Rattle.std.specs.Prelude.{◌≤◌, length, IfOk};
+ghost use Rattle.kf_core.specs.Views.{program_tree};
+ghost use Rattle.kf_core.specs.Checked.{IsChecked};
+
+mod choices;
+mod making;
+mod parsing;
+mod plain;
+mod plain_hypers;
+mod plain_traces;
+mod values;
+
+use kf_check::check;
+use kf_core::Program;
+use kf_lex::lex;
+use kf_parse::{grammar, parse};
+use std::alloc::{AllocError, Global};
+use std::process::Abort;
+use std::test::Fail;
+
+// The program of a text.
+fn program_of(alloc: Global, text: &str) -> Result<Program, Fail>
+    requires { length text.now ≤ 1048576 }
+    ensures { IfOk result (λ p. IsChecked (program_tree p)) }
+{
+    grammar();
+    let tokens = lex(alloc, text.as_bytes())?;
+    let source = parse(alloc, text.as_bytes(), &tokens)?;
+    Ok(check(alloc, &source)?)
+}

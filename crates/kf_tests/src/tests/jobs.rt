@@ -1,0 +1,211 @@
+// Words, and what they ask for.
+use crate::tests::*;
+use kf_top::{GainWord, Job, WordsError, read_words};
+
+// The command `leak` with its gain.
+fn leak_by(gain: &GainWord) -> &'static str {
+    match gain {
+        GainWord::Bayes => "leak bayes",
+        GainWord::Tries(2) => "leak tries:2",
+        GainWord::Tries(_) => "leak tries",
+        GainWord::Guessing => "leak guessing",
+        GainWord::Table(_) => "leak table",
+    }
+}
+
+// The command `make` with its number.
+fn made_of(count: u32) -> &'static str {
+    match count {
+        1 => "make 1",
+        60 => "make 60",
+        _ => "make",
+    }
+}
+
+// A job's command, file and turns.
+fn parts(job: &Job) -> (&'static str, &str, u32) {
+    match job {
+        Job::Hyper { file, turns } => ("hyper", file.as_str(), *turns),
+        Job::Traces { file, turns } => ("traces", file.as_str(), *turns),
+        Job::Channel { file, turns } => ("channel", file.as_str(), *turns),
+        Job::Trail { file, turns } => ("trail", file.as_str(), *turns),
+        Job::Make { count, turns } => (made_of(*count), "", *turns),
+        Job::Leak { file, gain, turns } => (leak_by(gain), file.as_str(), *turns),
+        Job::Refine { a, turns, .. } => ("refine", a.as_str(), *turns),
+        Job::Check { a, turns, .. } => ("check", a.as_str(), *turns),
+    }
+}
+
+// A job on two programs: its command and the files that it names, of which the first is a certificate or is empty.
+fn files_of(job: &Job) -> (&'static str, &str, &str, &str) {
+    match job {
+        Job::Refine { a, b, json, .. } => {
+            let command = if *json { "refine --json" } else { "refine" };
+            (command, "", a.as_str(), b.as_str())
+        }
+        Job::Check { cert, a, b, .. } => ("check", cert.as_str(), a.as_str(), b.as_str()),
+        _ => ("", "", "", ""),
+    }
+}
+
+// The words of the line ask for this.
+fn asks_for(
+    rt: &(impl Abort + AllocGlobal),
+    line: &str,
+    want: (&'static str, &'static str, u32),
+) -> Result<(), Fail> {
+    let words = words_of(rt.alloc(), line)?;
+    match read_words(rt.alloc(), &words) {
+        Ok(job) => {
+            let (command, file, turns) = parts(&job);
+            assert!(rt;
+                command == want.0 && file == want.1 && turns == want.2,
+                "{line}"
+            );
+            Ok(())
+        }
+        Err(_) => Err(Fail::new("refused")),
+    }
+}
+
+// The words of the line ask for this of two programs.
+fn asks_of_two(
+    rt: &(impl Abort + AllocGlobal),
+    line: &str,
+    want: (&'static str, &'static str, &'static str, &'static str),
+) -> Result<(), Fail> {
+    let words = words_of(rt.alloc(), line)?;
+    match read_words(rt.alloc(), &words) {
+        Ok(job) => {
+            let (command, cert, a, b) = files_of(&job);
+            assert!(rt;
+                command == want.0 && cert == want.1 && a == want.2 && b == want.3,
+                "{line}"
+            );
+            Ok(())
+        }
+        Err(_) => Err(Fail::new("refused")),
+    }
+}
+
+// The words of the line ask for nothing.
+fn is_usage(rt: &(impl Abort + AllocGlobal), line: &str) -> Result<(), Fail> {
+    let words = words_of(rt.alloc(), line)?;
+    match read_words(rt.alloc(), &words) {
+        Err(WordsError::Usage) => Ok(()),
+        _ => Err(Fail::new("not refused")),
+    }
+}
+
+#[test]
+fn words_that_are_taken(rt: HostRuntime) -> Result<(), Fail> {
+    for (line, want) in [
+        ("kuifje hyper p.kf", ("hyper", "p.kf", 1024)),
+        ("kuifje traces p.kf", ("traces", "p.kf", 1024)),
+        ("kuifje channel p.kf", ("channel", "p.kf", 1024)),
+        ("kuifje trail p.kf --turns 9", ("trail", "p.kf", 9)),
+        ("kuifje make 00001 --turns 9", ("make 1", "", 9)),
+        ("kuifje make 60", ("make 60", "", 1024)),
+        ("--help hyper p.kf", ("hyper", "p.kf", 1024)),
+        ("kuifje hyper --turns 5 p.kf", ("hyper", "p.kf", 5)),
+        ("kuifje hyper p.kf --turns=5", ("hyper", "p.kf", 5)),
+        ("kuifje --turns 5 hyper p.kf", ("hyper", "p.kf", 5)),
+        ("kuifje hyper p.kf --turns 00005", ("hyper", "p.kf", 5)),
+        ("kuifje hyper p.kf --turns 65535", ("hyper", "p.kf", 65535)),
+        ("kuifje hyper -- p.kf", ("hyper", "p.kf", 1024)),
+        ("kuifje hyper -- -p.kf", ("hyper", "-p.kf", 1024)),
+        ("kuifje -- hyper --json", ("hyper", "--json", 1024)),
+        ("kuifje hyper -", ("hyper", "-", 1024)),
+        ("kuifje hyper ", ("hyper", "", 1024)),
+        ("kuifje hyper hyper", ("hyper", "hyper", 1024)),
+        (
+            "kuifje leak p.kf --gain bayes",
+            ("leak bayes", "p.kf", 1024),
+        ),
+        (
+            "kuifje --gain=tries:00002 leak p.kf",
+            ("leak tries:2", "p.kf", 1024),
+        ),
+        (
+            "kuifje leak --gain guessing p.kf --turns 7",
+            ("leak guessing", "p.kf", 7),
+        ),
+        (
+            "kuifje leak p.kf --gain table:g.json",
+            ("leak table", "p.kf", 1024),
+        ),
+    ] {
+        asks_for(&rt, line, want)?;
+    }
+    Ok(())
+}
+
+#[test]
+fn words_of_two_programs(rt: HostRuntime) -> Result<(), Fail> {
+    for (line, want) in [
+        ("kuifje refine p.kf q.kf", ("refine", "", "p.kf", "q.kf")),
+        (
+            "kuifje refine p.kf q.kf --json",
+            ("refine --json", "", "p.kf", "q.kf"),
+        ),
+        (
+            "kuifje --json refine p.kf --turns 3 p.kf",
+            ("refine --json", "", "p.kf", "p.kf"),
+        ),
+        (
+            "kuifje check c.json p.kf q.kf",
+            ("check", "c.json", "p.kf", "q.kf"),
+        ),
+    ] {
+        asks_of_two(&rt, line, want)?;
+    }
+    Ok(())
+}
+
+#[test]
+fn words_that_are_refused(rt: HostRuntime) -> Result<(), Fail> {
+    for line in [
+        "",
+        "kuifje",
+        "hyper p.kf",
+        "kuifje ",
+        "kuifje hyper",
+        "kuifje p.kf hyper",
+        "kuifje hyper p.kf q.kf",
+        "kuifje hyper -p.kf",
+        "kuifje hyper p.kf --turns 0",
+        "kuifje hyper p.kf --turns 65536",
+        "kuifje hyper p.kf --turns 000001",
+        "kuifje hyper p.kf --turns",
+        "kuifje hyper p.kf --turns=",
+        "kuifje hyper p.kf --turns -5",
+        "kuifje hyper p.kf --turns 5 6",
+        "kuifje hyper p.kf --turn 5",
+        "kuifje hyper p.kf --turns 5 --turns 6",
+        "kuifje hyper p.kf --json",
+        "kuifje hyper p.kf --json --json",
+        "kuifje hyper p.kf --json=true",
+        "kuifje hyper p.kf --gain bayes",
+        "kuifje leak p.kf",
+        "kuifje leak p.kf --gain tries:0",
+        "kuifje leak p.kf --gain table:",
+        "kuifje leak p.kf --gain bayes --json",
+        "kuifje refine p.kf",
+        "kuifje refine p.kf q.kf r.kf",
+        "kuifje refine p.kf q.kf --gain bayes",
+        "kuifje check p.kf q.kf",
+        "kuifje check c.json p.kf q.kf --json",
+        "kuifje hyperr p.kf",
+        "kuifje --help",
+        "kuifje -h",
+        "kuifje help",
+        "kuifje help p.kf",
+        "kuifje hyper p.kf --help",
+        "kuifje hyper --version",
+        "kuifje -V",
+        "kuifje hyper p.kf --colour red",
+    ] {
+        is_usage(&rt, line)?;
+    }
+    Ok(())
+}

@@ -1,5 +1,5 @@
 -- What `make` comes to: its text is typed and cleared, and so it is never refused.
-use Rattle.std.proofs.Common.{◌≡◌, ℕ, ◌≤◌, List, [], Ok, IsOk, refl}
+use Rattle.std.proofs.Common.{ℕ, ◌≤◌, [], Ok, IsOk, refl}
 use Rattle.kf_frac.specs.Fractions.{limit}
 use Rattle.kf_core.specs.Joint.{joint_of}
 use Rattle.kf_core.specs.Scale.{scale_of}

@@ -82,8 +82,8 @@ fn report<'a>(alloc: Global, cleared: &Cleared, gain: &Gain) -> Result<Done, Sto
     Ok(Done { yes: true, bytes })
 }
 
-/// The command `leak`: the gain's table is read once the program is cleared.
-pub fn leak<'a, F: Files>(
+/// What the command `leak` says of a cleared program. The gain's table is read now.
+pub fn leak_said<'a, F: Files>(
     alloc: Global,
     files: &mut F,
     cleared: &Cleared,

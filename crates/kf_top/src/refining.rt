@@ -71,8 +71,8 @@ fn is_yes(verdict: &Verdict) -> bool
     matches!(verdict, Verdict::Yes(_))
 }
 
-/// The command `refine`.
-pub fn refine<'a>(alloc: Global, pair: &Pair, json: bool) -> Result<Done, Stop<'a>>
+/// What the command `refine` says of two cleared programs.
+pub fn refine_said<'a>(alloc: Global, pair: &Pair, json: bool) -> Result<Done, Stop<'a>>
     requires { turns_of pair.now.first ≡ turns_of pair.now.second }
     ensures answer { Answers ShowsStatement result (RefineOutcome json (turns_of pair.now.first)
         (program_tree (program_of pair.now.first)) (program_tree (program_of pair.now.second))) }
@@ -149,8 +149,8 @@ fn marked<'a>(alloc: Global, pair: &Pair, cert: &Cert) -> Result<Done, Stop<'a>>
     Ok(Done { yes, bytes })
 }
 
-/// The command `check`: the certificate is read once both programs are cleared.
-pub fn check<'a, F: Files>(
+/// What the command `check` says of two cleared programs. The certificate is read now.
+pub fn check_said<'a, F: Files>(
     alloc: Global,
     files: &mut F,
     pair: &Pair,

@@ -3,13 +3,14 @@ ghost use Rattle.std.specs.Option.{ForSome};
 ghost use Rattle.kf_core.specs.Views.{program_tree};
 ghost use Rattle.kf_support.specs.Cleared.{program_of, turns_of};
 ghost use Rattle.kf_top.specs.Outcome.{CommandOutcome, MadeOutcome, TaskOutcome};
-ghost use Rattle.kf_top.specs.Task.{Hyper, Traces, Channel, Trail, Task};
+ghost use Rattle.kf_top.specs.Task.{Check, Hyper, Leak, Refine, Traces, Channel, Trail, Task, on_file, on_files};
 ghost use Rattle.kf_top.specs.Stops.{Answers, Causes};
-ghost use Rattle.kf_top.specs.Views.{task_of_job, HasTurns, IsFew, ShowsStatement};
+ghost use Rattle.kf_top.specs.Views.{gain_of, task_of_job, HasTurns, IsFew, ShowsStatement};
 
 use crate::clearing::{file, two_files};
-use crate::leaking::leak;
-use crate::refining::{check, refine};
+use crate::gain_words::GainWord;
+use crate::leaking::leak_said;
+use crate::refining::{check_said, refine_said};
 use crate::stops::{Done, Refusal, Stop};
 use crate::words::Job;
 use kf_channel::{ChannelError, channel_of};
@@ -19,10 +20,11 @@ use kf_run::{hyper_of, trail as trail_of};
 use kf_support::Cleared;
 use kf_text::{channel_text, hyper_text, make_text, trace_text, trail_text};
 use kf_traces::table;
+use kf_value::Name;
 use std::alloc::Global;
 
-// The command `hyper`.
-fn hyper<'a>(alloc: Global, cleared: &Cleared) -> Result<Done, Stop<'a>>
+// What the command `hyper` says of a cleared program.
+fn hyper_said<'a>(alloc: Global, cleared: &Cleared) -> Result<Done, Stop<'a>>
     ensures answer { (c : List ℕ → List ℕ) → Answers ShowsStatement result (CommandOutcome c Hyper (turns_of cleared.now) (program_tree (program_of cleared.now) ∷ [])) }
     ensures causes { (task : Task) (before : List ℕ → ℕ) → Causes task before before result }
 {
@@ -31,8 +33,8 @@ fn hyper<'a>(alloc: Global, cleared: &Cleared) -> Result<Done, Stop<'a>>
     Ok(Done { yes: true, bytes })
 }
 
-// The command `traces`.
-fn traces<'a>(alloc: Global, cleared: &Cleared) -> Result<Done, Stop<'a>>
+// What the command `traces` says of a cleared program.
+fn traces_said<'a>(alloc: Global, cleared: &Cleared) -> Result<Done, Stop<'a>>
     ensures answer { (c : List ℕ → List ℕ) → Answers ShowsStatement result (CommandOutcome c Traces (turns_of cleared.now) (program_tree (program_of cleared.now) ∷ [])) }
     ensures causes { (task : Task) (before : List ℕ → ℕ) → Causes task before before result }
 {
@@ -41,8 +43,8 @@ fn traces<'a>(alloc: Global, cleared: &Cleared) -> Result<Done, Stop<'a>>
     Ok(Done { yes: true, bytes })
 }
 
-// The command `channel`.
-fn channel<'a>(alloc: Global, cleared: &Cleared) -> Result<Done, Stop<'a>>
+// What the command `channel` says of a cleared program.
+fn channel_said<'a>(alloc: Global, cleared: &Cleared) -> Result<Done, Stop<'a>>
     ensures answer { (c : List ℕ → List ℕ) → Answers ShowsStatement result (CommandOutcome c Channel (turns_of cleared.now) (program_tree (program_of cleared.now) ∷ [])) }
     ensures causes { (task : Task) (before : List ℕ → ℕ) → task.command ≡ Channel → Causes task before before result }
 {
@@ -56,14 +58,78 @@ fn channel<'a>(alloc: Global, cleared: &Cleared) -> Result<Done, Stop<'a>>
     Ok(Done { yes: true, bytes })
 }
 
-// The command `trail`.
-fn trail<'a>(alloc: Global, cleared: &Cleared) -> Result<Done, Stop<'a>>
+// What the command `trail` says of a cleared program.
+fn trail_said<'a>(alloc: Global, cleared: &Cleared) -> Result<Done, Stop<'a>>
     ensures answer { (c : List ℕ → List ℕ) → Answers ShowsStatement result (CommandOutcome c Trail (turns_of cleared.now) (program_tree (program_of cleared.now) ∷ [])) }
     ensures causes { (task : Task) (before : List ℕ → ℕ) → Causes task before before result }
 {
     let counts = trail_of(alloc, cleared)?;
     let bytes = trail_text(alloc, &counts)?;
     Ok(Done { yes: true, bytes })
+}
+
+// The command `hyper`.
+fn hyper<'a, F: Files>(
+    alloc: Global,
+    files: &mut F,
+    name: &'a Name,
+    turns: u32,
+) -> Result<Done, Stop<'a>>
+    requires some_turns { 1 ≤ turns }
+    requires few_turns { turns ≤ 65535 }
+    ensures answer { ForSome (F.contents files.old) (λ c. Answers ShowsStatement result (TaskOutcome c (on_file Hyper name.now turns))) }
+    ensures causes { Causes (on_file Hyper name.now turns) (F.faults files.old) (F.faults files.new) result }
+{
+    let cleared = file(alloc, files, name.as_str(), turns)?;
+    hyper_said(alloc, &cleared)
+}
+
+// The command `traces`.
+fn traces<'a, F: Files>(
+    alloc: Global,
+    files: &mut F,
+    name: &'a Name,
+    turns: u32,
+) -> Result<Done, Stop<'a>>
+    requires some_turns { 1 ≤ turns }
+    requires few_turns { turns ≤ 65535 }
+    ensures answer { ForSome (F.contents files.old) (λ c. Answers ShowsStatement result (TaskOutcome c (on_file Traces name.now turns))) }
+    ensures causes { Causes (on_file Traces name.now turns) (F.faults files.old) (F.faults files.new) result }
+{
+    let cleared = file(alloc, files, name.as_str(), turns)?;
+    traces_said(alloc, &cleared)
+}
+
+// The command `channel`.
+fn channel<'a, F: Files>(
+    alloc: Global,
+    files: &mut F,
+    name: &'a Name,
+    turns: u32,
+) -> Result<Done, Stop<'a>>
+    requires some_turns { 1 ≤ turns }
+    requires few_turns { turns ≤ 65535 }
+    ensures answer { ForSome (F.contents files.old) (λ c. Answers ShowsStatement result (TaskOutcome c (on_file Channel name.now turns))) }
+    ensures causes { Causes (on_file Channel name.now turns) (F.faults files.old) (F.faults files.new) result }
+{
+    let cleared = file(alloc, files, name.as_str(), turns)?;
+    channel_said(alloc, &cleared)
+}
+
+// The command `trail`.
+fn trail<'a, F: Files>(
+    alloc: Global,
+    files: &mut F,
+    name: &'a Name,
+    turns: u32,
+) -> Result<Done, Stop<'a>>
+    requires some_turns { 1 ≤ turns }
+    requires few_turns { turns ≤ 65535 }
+    ensures answer { ForSome (F.contents files.old) (λ c. Answers ShowsStatement result (TaskOutcome c (on_file Trail name.now turns))) }
+    ensures causes { Causes (on_file Trail name.now turns) (F.faults files.old) (F.faults files.new) result }
+{
+    let cleared = file(alloc, files, name.as_str(), turns)?;
+    trail_said(alloc, &cleared)
 }
 
 // The command `make`.
@@ -81,6 +147,59 @@ fn make<'a>(alloc: Global, count: u32, turns: u32) -> Result<Done, Stop<'a>>
     Ok(Done { yes: true, bytes })
 }
 
+// The command `leak`.
+fn leak<'a, F: Files>(
+    alloc: Global,
+    files: &mut F,
+    name: &'a Name,
+    gain: &'a GainWord,
+    turns: u32,
+) -> Result<Done, Stop<'a>>
+    requires some_turns { 1 ≤ turns }
+    requires few_turns { turns ≤ 65535 }
+    ensures answer { ForSome (F.contents files.old) (λ c. Answers ShowsStatement result (TaskOutcome c (on_file (Leak (gain_of gain.now)) name.now turns))) }
+    ensures causes { Causes (on_file (Leak (gain_of gain.now)) name.now turns) (F.faults files.old) (F.faults files.new) result }
+{
+    let program = file(alloc, files, name.as_str(), turns)?;
+    leak_said(alloc, files, &program, gain)
+}
+
+// The command `refine`.
+fn refine<'a, F: Files>(
+    alloc: Global,
+    files: &mut F,
+    a: &'a Name,
+    b: &'a Name,
+    json: bool,
+    turns: u32,
+) -> Result<Done, Stop<'a>>
+    requires some_turns { 1 ≤ turns }
+    requires few_turns { turns ≤ 65535 }
+    ensures answer { ForSome (F.contents files.old) (λ c. Answers ShowsStatement result (TaskOutcome c (on_files (Refine json) (a.now ∷ b.now ∷ []) turns))) }
+    ensures causes { Causes (on_files (Refine json) (a.now ∷ b.now ∷ []) turns) (F.faults files.old) (F.faults files.new) result }
+{
+    let pair = two_files(alloc, files, a.as_str(), b.as_str(), turns)?;
+    refine_said(alloc, &pair, json)
+}
+
+// The command `check`.
+fn check<'a, F: Files>(
+    alloc: Global,
+    files: &mut F,
+    cert: &'a Name,
+    a: &'a Name,
+    b: &'a Name,
+    turns: u32,
+) -> Result<Done, Stop<'a>>
+    requires some_turns { 1 ≤ turns }
+    requires few_turns { turns ≤ 65535 }
+    ensures answer { ForSome (F.contents files.old) (λ c. Answers ShowsStatement result (TaskOutcome c (on_files (Check cert.now) (a.now ∷ b.now ∷ []) turns))) }
+    ensures causes { Causes (on_files (Check cert.now) (a.now ∷ b.now ∷ []) turns) (F.faults files.old) (F.faults files.new) result }
+{
+    let pair = two_files(alloc, files, a.as_str(), b.as_str(), turns)?;
+    check_said(alloc, files, &pair, cert.as_str())
+}
+
 /// Does the job: what is to be written, or why there is no answer.
 pub fn work<'a, F: Files>(alloc: Global, files: &mut F, job: &'a Job) -> Result<Done, Stop<'a>>
     requires turns { HasTurns (task_of_job job.now) }
@@ -89,38 +208,13 @@ pub fn work<'a, F: Files>(alloc: Global, files: &mut F, job: &'a Job) -> Result<
     ensures causes { Causes (task_of_job job.now) (F.faults files.old) (F.faults files.new) result }
 {
     match job {
-        Job::Hyper { file: name, turns } => {
-            let cleared = file(alloc, files, name.as_str(), *turns)?;
-            hyper(alloc, &cleared)
-        }
-        Job::Traces { file: name, turns } => {
-            let cleared = file(alloc, files, name.as_str(), *turns)?;
-            traces(alloc, &cleared)
-        }
-        Job::Channel { file: name, turns } => {
-            let cleared = file(alloc, files, name.as_str(), *turns)?;
-            channel(alloc, &cleared)
-        }
-        Job::Trail { file: name, turns } => {
-            let cleared = file(alloc, files, name.as_str(), *turns)?;
-            trail(alloc, &cleared)
-        }
+        Job::Hyper { file, turns } => hyper(alloc, files, file, *turns),
+        Job::Traces { file, turns } => traces(alloc, files, file, *turns),
+        Job::Channel { file, turns } => channel(alloc, files, file, *turns),
+        Job::Trail { file, turns } => trail(alloc, files, file, *turns),
         Job::Make { count, turns } => make(alloc, *count, *turns),
-        Job::Leak {
-            file: name,
-            gain,
-            turns,
-        } => {
-            let cleared = file(alloc, files, name.as_str(), *turns)?;
-            leak(alloc, files, &cleared, gain)
-        }
-        Job::Refine { a, b, json, turns } => {
-            let pair = two_files(alloc, files, a.as_str(), b.as_str(), *turns)?;
-            refine(alloc, &pair, *json)
-        }
-        Job::Check { cert, a, b, turns } => {
-            let pair = two_files(alloc, files, a.as_str(), b.as_str(), *turns)?;
-            check(alloc, files, &pair, cert.as_str())
-        }
+        Job::Leak { file, gain, turns } => leak(alloc, files, file, gain, *turns),
+        Job::Refine { a, b, json, turns } => refine(alloc, files, a, b, *json, *turns),
+        Job::Check { cert, a, b, turns } => check(alloc, files, cert, a, b, *turns),
     }
 }

@@ -1,27 +1,32 @@
-use Rattle.std.proofs.Common.{◌≡◌, false, refl, ◌∙◌}
-use Rattle.kf_value.specs.Views.{items_of}
-use Rattle.kf_core.specs.Joint.{joint_of}
+use Rattle.std.proofs.Common.{ℕ, List, refl, subst}
+use Rattle.std.proofs.lemmas.Result.{err_from_is_err_and}
 use Rattle.kf_core.specs.Views.{program_tree}
-use Rattle.kf_hyper.specs.Views.{rows_of}
 use Rattle.kf_support.specs.Cleared.{program_of, turns_of}
-use Rattle.kf_channel.specs.Channels.{all_initial}
-use Rattle.kf_channel.specs.Views.{secrets_of}
-use Rattle.kf_text.specs.Texts.{channel_text}
-use Rattle.kf_top.specs.Answer.{ChannelOf}
-use Rattle.kf_top.proofs.Steps.{initial}
+use Rattle.kf_top.specs.Stops.{Causes}
+use Rattle.kf_top.specs.Task.{Channel, Task, on_file}
+use Rattle.kf_top.proofs.Steps.{task_stops, task_answers, named_alone}
 use Rattle.kf_top.proofs.work.channel.Goals as goal
 
+pub returns-in_err-cleared-clause-answer : goal.returns-in_err-cleared-clause-answer
+returns-in_err-cleared-clause-answer g c x e =
+    let p = err_from_is_err_and c.from_residual.result c.from_residual.ensures.1 in
+    rw (p.1, p.2) (task_stops x Channel c.args.turns c.args.name.now c.as_str.result.now c.as_str.ensures c.in_err-cleared.field-0.0 (c.in_err-cleared.ensures.answer Channel x e))
+
+pub returns-in_err-cleared-clause-causes : goal.returns-in_err-cleared-clause-causes
+returns-in_err-cleared-clause-causes g c =
+    let p = err_from_is_err_and c.from_residual.result c.from_residual.ensures.1 in
+    let task : Task = on_file Channel c.args.name.now c.args.turns in
+    rw (p.1, p.2) (c.in_err-cleared.ensures.causes task (named_alone c.args.name.now c.as_str.result.now c.as_str.ensures))
+
 pub returns-clause-answer : goal.returns-clause-answer
-returns-clause-answer c contents =
-    let p = program_tree (program_of c.args.cleared.now) in
-    let turns = turns_of c.args.cleared.now in
-    let table = c.in_ok-table.ensures in
-    let channel = c.in-Ok.ensures in
-    let rows = rows_of c.in_ok-table.table in
-    let secrets = secrets_of c.in-Ok.channel in
-    let is_initial : all_initial (items_of c.in_ok-table.table.target) ≡ false → ⊥ = λ no'. let refused = channel.refused.1 no' in absurd (cc) in
-    let text = c.in_ok-bytes.ensures ∙ (λ i. channel_text ((channel.target ∙ table.target) i) (channel.rows i) secrets) in (
-      ChannelOf p.target (joint_of turns p),
-      record { text = (rows, table.rows, (secrets, channel.secrets, text)); yes = refl },
-      initial turns p (items_of c.in_ok-table.table.target) table.target is_initial,
-    )
+returns-clause-answer g c x e =
+    let cleared = c.in_ok-cleared.cleared in
+    task_answers x Channel c.args.turns c.args.name.now c.as_str.result.now c.as_str.ensures (program_tree (program_of cleared)) (turns_of cleared) c.in_ok-cleared.ensures.turns
+    c.channel_said.result (c.in_ok-cleared.ensures.answer Channel x e) (c.channel_said.ensures.answer x)
+
+pub returns-clause-causes : goal.returns-clause-causes
+returns-clause-causes g c =
+    let task : Task = on_file Channel c.args.name.now c.args.turns in
+    let now = g.F.Files.faults c.file.new.files in
+    let same = c.in_ok-cleared.ensures.causes task (named_alone c.args.name.now c.as_str.result.now c.as_str.ensures) in
+    subst (λ (before : List ℕ → ℕ). Causes task before now c.channel_said.result) same (c.channel_said.ensures.causes task now refl)

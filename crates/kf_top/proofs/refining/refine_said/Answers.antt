@@ -5,7 +5,7 @@ use Rattle.kf_refine.specs.declared.verdict.RefineError.TheVariants as error
 use Rattle.kf_support.specs.Cleared.{program_of, turns_of}
 use Rattle.kf_top.specs.Answer.{VerdictOn, OtherTarget, ManyCells, WideTableau, ManyPivots}
 use Rattle.kf_top.proofs.Comparing.{no_verdict, text_of}
-use Rattle.kf_top.proofs.refining.refine.Goals as goal
+use Rattle.kf_top.proofs.refining.refine_said.Goals as goal
 
 pub returns-clause-answer : goal.returns-clause-answer
 returns-clause-answer c =

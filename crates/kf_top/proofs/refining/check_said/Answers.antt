@@ -7,7 +7,7 @@ use Rattle.kf_top.specs.Outcome.{CertIn}
 use Rattle.kf_top.specs.Stops.{Causes, is_cert, MarkOn}
 use Rattle.kf_top.specs.Views.{ShowsStatement}
 use Rattle.kf_top.proofs.Steps.{first_stops, then_answers}
-use Rattle.kf_top.proofs.refining.check.Goals as goal
+use Rattle.kf_top.proofs.refining.check_said.Goals as goal
 
 pub returns-in_err-cert-clause-answer : goal.returns-in_err-cert-clause-answer
 returns-in_err-cert-clause-answer g c x e =

@@ -1,0 +1,43 @@
+use Rattle.std.proofs.Common.{ℕ, List, [], ◌∷◌, sym, ap, subst, ◌∙◌}
+use Rattle.std.proofs.lemmas.Result.{err_from_is_err_and}
+use Rattle.kf_core.specs.Views.{program_tree}
+use Rattle.kf_support.specs.Cleared.{program_of, turns_of}
+use Rattle.kf_top.specs.Outcome.{CheckOutcome}
+use Rattle.kf_top.specs.Stops.{Answers, Causes}
+use Rattle.kf_top.specs.Task.{Command, Check, Task, on_files}
+use Rattle.kf_top.specs.Views.{ShowsStatement}
+use Rattle.kf_top.proofs.Steps.{pair_stops, pair_answers, named_first, named_second}
+use Rattle.kf_top.proofs.work.check.Goals as goal
+
+pub returns-in_err-pair-clause-answer : goal.returns-in_err-pair-clause-answer
+returns-in_err-pair-clause-answer g c x e =
+    let p = err_from_is_err_and c.from_residual.result c.from_residual.ensures.1 in
+    let command : Command = Check c.args.cert.now in
+    rw (p.1, p.2) (pair_stops x command c.args.turns c.args.a.now c.args.b.now c.as_str.result.now c.as_str-2.result.now c.as_str.ensures c.as_str-2.ensures
+    c.in_err-pair.field-0.0 (c.in_err-pair.ensures.answer command x e))
+
+pub returns-in_err-pair-clause-causes : goal.returns-in_err-pair-clause-causes
+returns-in_err-pair-clause-causes g c =
+    let p = err_from_is_err_and c.from_residual.result c.from_residual.ensures.1 in
+    let a = c.args.a.now in
+    let b = c.args.b.now in
+    let task : Task = on_files (Check c.args.cert.now) (a ∷ b ∷ []) c.args.turns in
+    rw (p.1, p.2) (c.in_err-pair.ensures.causes task (named_first a b c.as_str.result.now c.as_str.ensures) (named_second a b c.as_str-2.result.now c.as_str-2.ensures))
+
+pub returns-clause-answer : goal.returns-clause-answer
+returns-clause-answer g c x e =
+    let pair = c.in_ok-pair.pair in
+    let command : Command = Check c.args.cert.now in
+    pair_answers x command c.args.turns c.args.a.now c.args.b.now c.as_str.result.now c.as_str-2.result.now c.as_str.ensures c.as_str-2.ensures
+    (program_tree (program_of pair.first)) (program_tree (program_of pair.second)) (turns_of pair.first) c.in_ok-pair.ensures.first_turns
+    c.check_said.result (c.in_ok-pair.ensures.answer command x e) (subst (λ (name : List ℕ). Answers ShowsStatement c.check_said.result (CheckOutcome x name (turns_of pair.first) (program_tree (program_of pair.first)) (program_tree (program_of pair.second))))
+    c.as_str-3.ensures (c.check_said.ensures.answer x (c.in_ok-pair.ensures.unchanged ∙ e)))
+
+pub returns-clause-causes : goal.returns-clause-causes
+returns-clause-causes g c =
+    let a = c.args.a.now in
+    let b = c.args.b.now in
+    let task : Task = on_files (Check c.args.cert.now) (a ∷ b ∷ []) c.args.turns in
+    let same = c.in_ok-pair.ensures.causes task (named_first a b c.as_str.result.now c.as_str.ensures) (named_second a b c.as_str-2.result.now c.as_str-2.ensures) in
+    let now = g.F.Files.faults c.check_said.new.files in
+    subst (λ (before : List ℕ → ℕ). Causes task before now c.check_said.result) same (c.check_said.ensures.causes task (ap Check (sym c.as_str-3.ensures)))

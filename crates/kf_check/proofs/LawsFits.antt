@@ -23,7 +23,7 @@ mentioned (p ∷ ps) = mentions p || mentioned ps
 abbrev settled : Row → Bool
 settled r = not (mentions r.result) || mentioned (take r.arity r.args)
 
-all_at : {A : Type 0} (test : A → Bool) (xs : List A) (i : ℕ) (x : A) → list_all test xs ≡ true → slice_get xs i ≡ Some x → test x ≡ true
+pub all_at : {A : Type 0} (test : A → Bool) (xs : List A) (i : ℕ) (x : A) → list_all test xs ≡ true → slice_get xs i ≡ Some x → test x ≡ true
 all_at test [] i x h e = absurd (cc)
 all_at test (y ∷ xs) zero x h e = let first = both_true (test y) (list_all test xs) h in let same : y ≡ x = cc in subst (λ z. test z ≡ true) same first.0
   where

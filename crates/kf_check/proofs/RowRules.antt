@@ -1,6 +1,8 @@
 -- The kinds that an operator takes, as the code meets them.
-use Rattle.std.proofs.Common.{◌≡◌, ℕ, ◌+◌, ◌<◌, ◌≤◌, ◌⊎◌, ⊎_elim, Box, Global, Result, Ok, Err, IfOk, List, [], ◌∷◌, ◌++◌, length, map, take, get_or, slice_get, Some, refl, sym, ap, ◌∙◌, subst}
+use Rattle.std.proofs.Common.{◌≡◌, ℕ, ◌+◌, ◌<◌, ◌≤◌, ◌⊎◌, ⊎_elim, Box, Global, Result, Ok, Err, IfOk, List, [], ◌∷◌, ◌++◌, length, map, take, get_or, slice_get, Some, ltb, Bool, true, refl, sym, ap, ◌∙◌, subst, arith}
+use Rattle.std.specs.List.{list_all}
 use Rattle.std.specs.Option.{option_map}
+use Rattle.std.proofs.lemmas.Bool.Decides.{Decides-ltb}
 use Rattle.std.proofs.lemmas.Option.{slice_get-map, slice_get-get_or, slice_get_within}
 use Rattle.std.proofs.lemmas.List.{length-map, map-append, take_more, take_all}
 use Rattle.kf_value.specs.declared.kind.Kind.{Kind, Kind-F, out-Kind, roll-Kind, roll-out-Kind}
@@ -18,6 +20,7 @@ use Rattle.kf_ops.specs.Places.{IsRow, pattern_kind}
 use Rattle.kf_check.specs.Kinds.{Fit, IsResult}
 use Rattle.kf_check.specs.Picks.{HasNoResult}
 use Rattle.kf_check.proofs.Each.{mapped_read}
+use Rattle.kf_check.proofs.LawsFits.{all_at}
 use Rattle.kf_check.proofs.Nodes.{kind_tree-Bool, kind_tree-Int, kind_tree-Tuple, kind_tree-Set}
 
 -- where the kinds are those of the patterns, the first patterns don't tell what `Any` stands for
@@ -100,6 +103,20 @@ where_ok (Ok x) h f = f x h
 where_ok (Err e) h f = tt
 
 -- ---- the row at a place
+
+abbrev takes_few : Row → Bool
+takes_few r = ltb r.arity 4
+
+operators_take_few : list_all takes_few operators ≡ true
+operators_take_few = refl
+
+pub few_taken : (place n : ℕ) → Takes place n → n ≤ 3
+few_taken place n takes =
+    let below : takes.0.arity < 4 = (Decides-ltb takes.0.arity 4).0 (all_at takes_few operators place takes.0 operators_take_few takes.1) in
+    omega (arith, takes.2)
+
+pub row_there : (place n : ℕ) → Takes place n → place < length operators
+row_there place n takes = slice_get_within operators place takes.0 takes.1
 
 module _ (table : List OpRow) (place n : ℕ) (d : OpRow) (same : rows_of table ≡ operators) (takes : Takes place n) where
   within : place < length table

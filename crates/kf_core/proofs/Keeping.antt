@@ -15,9 +15,11 @@ use Rattle.kf_ops.specs.Fitting.{FitsPattern, EachFits, FitsRow}
 use Rattle.kf_ops.specs.Places.{IsRow, pattern_kind}
 use Rattle.kf_ops.specs.Laws.{KeepsKinds as RowKeepsKinds}
 use Rattle.kf_ops.specs.Values.{Fault, applied}
+use Rattle.kf_ops.specs.declared.row.Op.{Op}
 use Rattle.kf_ops.specs.declared.row.Op.TheVariants as op
 use Rattle.kf_ops.specs.declared.row.Pat.{Pat}
 use Rattle.kf_ops.specs.declared.row.Pat.TheVariants as pat
+use Rattle.kf_ops.proofs.EachRow.{each_row, row_at}
 use Rattle.kf_core.specs.Exs.{ExTree, exs}
 use Rattle.kf_core.specs.Results.{then_ok}
 use Rattle.kf_core.specs.Evaluation.{Evaluated, ev, evs, all_values, operated, operator_at, at_row, set_of, part_of}
@@ -183,68 +185,18 @@ one = (tt, tt)
 two : Unit {0} × (Unit {0} × Unit {0})
 two = (tt, (tt, tt))
 
+-- those with no line of their own take two arguments, and all of them are evaluated
+carry : (code : Op) → Carries (row_at code)
+carry op.Or = record { there = two; keeps = λ keeps any. or_keeps }
+carry op.And = record { there = two; keeps = λ keeps any. and_keeps }
+carry op.Cond = record { there = (tt, two); keeps = λ keeps. cond_keeps }
+carry op.Not = carries _ one (λ es. refl)
+carry op.Negate = carries _ one (λ es. refl)
+carry op.Size = carries _ one (λ es. refl)
+carry _ = carries _ two (λ es. refl)
+
 rows_carry : Each Carries operators
-rows_carry = (
-  record { there = two; keeps = λ keeps any. or_keeps },
-  (
-    record { there = two; keeps = λ keeps any. and_keeps },
-    (
-      carries _ one (λ es. refl),
-      (
-        carries _ two (λ es. refl),
-        (
-          carries _ two (λ es. refl),
-          (
-            carries _ two (λ es. refl),
-            (
-              carries _ two (λ es. refl),
-              (
-                carries _ two (λ es. refl),
-                (
-                  carries _ two (λ es. refl),
-                  (
-                    carries _ two (λ es. refl),
-                    (
-                      carries _ two (λ es. refl),
-                      (
-                        carries _ two (λ es. refl),
-                        (
-                          carries _ two (λ es. refl),
-                          (
-                            carries _ two (λ es. refl),
-                            (
-                              carries _ two (λ es. refl),
-                              (
-                                carries _ two (λ es. refl),
-                                (
-                                  carries _ two (λ es. refl),
-                                  (
-                                    carries _ two (λ es. refl),
-                                    (
-                                      carries _ one (λ es. refl),
-                                      (
-                                        carries _ one (λ es. refl),
-                                        (record { there = (tt, two); keeps = λ keeps. cond_keeps }, tt),
-                                      ),
-                                    ),
-                                  ),
-                                ),
-                              ),
-                            ),
-                          ),
-                        ),
-                      ),
-                    ),
-                  ),
-                ),
-              ),
-            ),
-          ),
-        ),
-      ),
-    ),
-  ),
-)
+rows_carry = each_row Carries carry
 
 -- evaluated arguments of an operator fit its row
 pub fitting : (place : ℕ) (r : Row) (any : KindTree) (vs : List ValueTree) → IsRow place r → AreOfKinds (map (pattern_kind any) (take r.arity r.args)) vs → FitsRow place vs

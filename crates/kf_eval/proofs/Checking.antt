@@ -24,6 +24,7 @@ use Rattle.kf_ops.specs.declared.fault.OpFault.{OpFault}
 use Rattle.kf_ops.specs.declared.fault.OpFault.TheVariants as fault
 use Rattle.kf_ops.specs.declared.row.Op.{Op}
 use Rattle.kf_ops.specs.declared.row.Op.TheVariants as op
+use Rattle.kf_ops.proofs.EachRow.{each_row, row_at}
 use Rattle.kf_core.specs.Runs.{store_at}
 use Rattle.kf_core.specs.Exs.{ExTree, Const, Slot, Apply, Tuple, SetOf, Part, exs}
 use Rattle.kf_core.specs.Views.{exs_list, ex_tree}
@@ -97,10 +98,19 @@ Needs op.And n = n ≡ 2
 Needs op.Cond n = n ≡ 3
 Needs code n = Unit {0}
 
+need : (code : Op) → Needs (row_at code).code (length (take (row_at code).arity (row_at code).args))
+need op.Or = refl
+need op.And = refl
+need op.Cond = refl
+need _ = tt
+
 row_needs : Each (λ r. Needs r.code (length (take r.arity r.args))) operators
-row_needs = (refl, (refl, (tt, (tt, (tt, (tt, (tt, (tt, (tt, (tt, (tt, (tt, (tt, (tt, (tt, (tt, (tt, (tt, (tt, (tt, (refl, tt)))))))))))))))))))))
+row_needs = each_row (λ r. Needs r.code (length (take r.arity r.args))) need
 
 module _ (ks : List KindTree) (place : ℕ) (xs : List ExTree) (calls : CallsRow ks place xs) where
+  pub row_within : place < length operators
+  row_within = slice_get_within operators place calls.row calls.here
+
   pub code_of : (code : Op) → operator_at place ≡ Some code → calls.row.code ≡ code
   code_of code is = let here : operator_at place ≡ Some calls.row.code = ap (option_map (λ r. r.code)) calls.here in cc (here, is)
 
@@ -114,25 +124,8 @@ module _ (ks : List KindTree) (place : ℕ) (xs : List ExTree) (calls : CallsRow
 pub plain : (code : Op) (es : List Evaluated) → code ≢ op.Or → code ≢ op.And → code ≢ op.Cond → operated code es ≡ then_ok (all_values es) (applied code)
 plain op.Or es a b c = absurd (a refl)
 plain op.And es a b c = absurd (b refl)
-plain op.Not es a b c = refl
-plain op.Equal es a b c = refl
-plain op.NotEqual es a b c = refl
-plain op.Less es a b c = refl
-plain op.AtMost es a b c = refl
-plain op.Greater es a b c = refl
-plain op.AtLeast es a b c = refl
-plain op.Elem es a b c = refl
-plain op.Add es a b c = refl
-plain op.Subtract es a b c = refl
-plain op.Union es a b c = refl
-plain op.Without es a b c = refl
-plain op.Multiply es a b c = refl
-plain op.Div es a b c = refl
-plain op.Mod es a b c = refl
-plain op.Inter es a b c = refl
-plain op.Negate es a b c = refl
-plain op.Size es a b c = refl
 plain op.Cond es a b c = absurd (c refl)
+plain _ es a b c = refl
 
 -- ---- kinds of values
 

@@ -15,3 +15,5 @@ pub mod Judging
 pub mod ValidFront
 pub mod EachPiece
 pub mod EachSource
+pub mod Operators
+pub mod Paired

@@ -3,7 +3,7 @@ use Rattle.std.proofs.Common.{◌≡◌, ◌&&◌, ℕ, Bool, true, false, not, 
 use Rattle.std.specs.List.{AllByRecursion}
 use Rattle.std.proofs.lemmas.List.Elements.{All-from_recursion}
 use Rattle.std.specs.Map.{lookup}
-use Rattle.std.specs.Option.{option_or}
+use Rattle.std.specs.Option.{option_and_then, option_or}
 use Rattle.std.specs.Str.{bytes_eq}
 use Rattle.std.proofs.lemmas.Slice.Eq.{bytes_eq-Decides}
 use Rattle.std.proofs.lemmas.Bool.Decides.{nat_tests}
@@ -14,7 +14,7 @@ use Rattle.kf_lex.specs.declared.token.Tok.{Tok}
 use Rattle.kf_lex.specs.declared.token.Tok.TheVariants as tok
 use Rattle.kf_lex.specs.declared.token.Word.{Word}
 use Rattle.kf_lex.specs.Cuts.{first_sign}
-use Rattle.kf_lex.specs.Words.{operator_word, own_words, own_word, reserved, sign_text, word_of}
+use Rattle.kf_lex.specs.Words.{operator_with, operator_word, own_words, own_word, reserved, sign_text, word_of}
 use Rattle.kf_lex.specs.Lexemes.{IsWord, Spells}
 use Rattle.kf_lex.specs.Laws.{AreOperatorsReserved}
 use Rattle.kf_lex.proofs.Both.{and_first, and_second}
@@ -26,11 +26,11 @@ same_sign s t text e f =
     let one : Some s ≡ Some t = sym (found_again s) ∙ ap (first_sign SIGNS) (sym e ∙ f) ∙ found_again t in cc
 
 -- letters begin as words do
-abbrev is_lettered : List ℕ → Bool
+abbrev pub is_lettered : List ℕ → Bool
 is_lettered [] = false
 is_lettered (b ∷ bs) = eqb (sort b) 2
 
-lettered : (text : List ℕ) → is_lettered text ≡ true → Begins 2 text
+pub lettered : (text : List ℕ) → is_lettered text ≡ true → Begins 2 text
 lettered [] h = cc
 lettered (b ∷ bs) h = record { byte = b; others = bs; is = refl; sorted = grind (arith, nat_tests, h) }
 
@@ -62,10 +62,10 @@ lettered_row None v text h e = cc
 lettered_row (Some w) v text h e = h
 
 word_found : (rows : List Row) (text : List ℕ) (w : Word) → are_lettered_rows rows ≡ true
-    → operator_word rows text ≡ Some w → is_lettered text ≡ true
+    → option_and_then word_of (operator_with rows text) ≡ Some w → is_lettered text ≡ true
 word_found [] text w all h = cc
 word_found (row ∷ rows) text w all h =
-    elim (bytes_eq row.word text) as (λ t. bytes_eq row.word text ≡ t → cond t (word_of row.code) (operator_word rows text) ≡ Some w → is_lettered text ≡ true) [
+    elim (bytes_eq row.word text) as (λ t. bytes_eq row.word text ≡ t → option_and_then word_of (cond t (Some row.code) (operator_with rows text)) ≡ Some w → is_lettered text ≡ true) [
       | true ↦ λ same here. subst (λ x. is_lettered x ≡ true) ((bytes_eq-Decides row.word text).0 same) (lettered_row (word_of row.code) w row.word (and_first _ _ all) here)
       | false ↦ λ _ rest. word_found rows text w (and_second _ _ all) rest
     ] refl h
@@ -77,7 +77,7 @@ either_word None b w P f g h = g h
 pub reserved_sort : (text : List ℕ) (w : Word) → reserved text ≡ Some w → Begins 2 text
 unfolding reserved
 reserved_sort text w h =
-    lettered text (either_word (own_word text) (operator_word operators text) w _ (looked_up own_words text w refl) (word_found operators text w refl) h)
+    lettered text (either_word (own_word text) (operator_word text) w _ (looked_up own_words text w refl) (word_found operators text w refl) h)
 
 abbrev pub sort_of : Tok → ℕ
 sort_of (tok.Number n) = 1

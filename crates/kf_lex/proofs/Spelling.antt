@@ -1,5 +1,5 @@
 -- Looking up reserved words.
-use Rattle.std.proofs.Common.{◌≡◌, ℕ, zero, suc, ◌<◌, true, false, List, [], ◌∷◌, Option, Some, None, map, length, get_or, refl, sym, ap, ◌∙◌, arith}
+use Rattle.std.proofs.Common.{◌≡◌, ℕ, zero, suc, ◌<◌, true, false, List, [], ◌∷◌, Some, None, map, length, get_or, refl, sym, ap, ◌∙◌, arith}
 use Rattle.std.specs.List.{position}
 use Rattle.std.specs.Str.{bytes_eq}
 use Rattle.std.proofs.lemmas.List.Quantifiers.{position-Some}
@@ -7,8 +7,7 @@ use Rattle.std.proofs.Math.ListN.{get_or-map}
 use Rattle.std.proofs.lemmas.Slice.Eq.{bytes_eq-Decides}
 use Rattle.kf_ops.specs.Rows.{Row}
 use Rattle.kf_ops.specs.Table.{has_word}
-use Rattle.kf_lex.specs.declared.token.Word.{Word}
-use Rattle.kf_lex.specs.Words.{operator_word, word_of}
+use Rattle.kf_lex.specs.Words.{operator_with}
 
 -- a text that is not these letters fails the test for them
 pub differs : (letters text : List ℕ) → (text ≡ letters → ⊥) → bytes_eq letters text ≡ false
@@ -19,24 +18,24 @@ differs letters text other =
     ] refl
 
 module _ (text : List ℕ) where
-  -- the word of the first row with the letters
-  pub chosen : (rows : List Row) (i : ℕ) (d : Row) → i < length rows → has_word text (get_or rows i d) ≡ true
+  -- the operator of the first row with the letters
+  chosen : (rows : List Row) (i : ℕ) (d : Row) → i < length rows → has_word text (get_or rows i d) ≡ true
       → ((k : ℕ) → k < i → has_word text (get_or rows k d) ≡ false)
-      → operator_word rows text ≡ word_of (get_or rows i d).code
+      → operator_with rows text ≡ Some (get_or rows i d).code
   chosen [] i d within here before = absurd (omega arith)
   chosen (row ∷ rows) zero d within here before = rw here refl
   chosen (row ∷ rows) (suc i) d within here before =
       rw (before 0 (omega arith)) (chosen rows i d (omega arith) here (λ k below. before (suc k) (omega arith)))
 
-  -- no word where no row has the letters
+  -- no operator where no row has the letters
   pub unchosen : (rows : List Row) → ((k : ℕ) (d : Row) → k < length rows → has_word text (get_or rows k d) ≡ false)
-      → operator_word rows text ≡ None
+      → operator_with rows text ≡ None
   unchosen [] fails = refl
   unchosen (row ∷ rows) fails = rw (fails 0 row (omega arith)) (unchosen rows (λ k d below. fails (suc k) d (omega arith)))
 
--- the word of the row that the search finds; f says how a row of the code reads
-pub found : {X : Type 0} (f : X → Row) (text : List ℕ) (table : List X) (i : ℕ) (d : X) (w : Option Word)
-    → position (has_word text) (map f table) ≡ Some i → w ≡ word_of (f (get_or table i d)).code → w ≡ operator_word (map f table) text
-found f text table i d w h e =
+-- the operator of the row that the search finds; f says how a row of the code reads
+pub found : {X : Type 0} (f : X → Row) (text : List ℕ) (table : List X) (i : ℕ) (d : X)
+    → position (has_word text) (map f table) ≡ Some i → Some (f (get_or table i d)).code ≡ operator_with (map f table) text
+found f text table i d h =
     let first = position-Some (has_word text) (map f table) i (f d) h in
-    e ∙ sym (chosen text (map f table) i (f d) first.0 first.1 first.2 ∙ ap (λ row. word_of row.code) (get_or-map f table i d))
+    sym (chosen text (map f table) i (f d) first.0 first.1 first.2 ∙ ap (λ row. Some row.code) (get_or-map f table i d))

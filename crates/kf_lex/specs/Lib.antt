@@ -6,3 +6,4 @@ pub mod Readings
 -- For bodies
 pub mod Cuts
 pub mod Laws
+pub mod Operators

@@ -1,15 +1,17 @@
 -- Believed: how signs and reserved words are written. All of it is ASCII.
+use denote.Enum.Bare.{sameb}
 use Rattle.std.specs.Prelude.{ℕ, List, [], ◌∷◌, Option, Some, None, if◌then◌else◌, codes}
 use Rattle.std.specs.Map.{lookup}
-use Rattle.std.specs.Option.{option_or}
+use Rattle.std.specs.Option.{option_and_then, option_or}
 use Rattle.std.specs.Str.{bytes_eq}
 use Rattle.kf_ops.specs.Rows.{Row, operators}
+use Rattle.kf_ops.specs.contracts.row.Op.{the_type}
 use Rattle.kf_ops.specs.declared.row.Op.{Op}
-use Rattle.kf_ops.specs.declared.row.Op.TheVariants as op
 use Rattle.kf_lex.specs.declared.token.Sign.{Sign}
 use Rattle.kf_lex.specs.declared.token.Sign.TheVariants as sign
 use Rattle.kf_lex.specs.declared.token.Word.{Word}
 use Rattle.kf_lex.specs.declared.token.Word.TheVariants as word
+use Rattle.kf_lex.specs.declared.words.TheConstants.{OPERATOR_WORDS}
 
 -- the bytes of each sign
 abbrev pub sign_text : Sign → List ℕ
@@ -44,25 +46,23 @@ own_words =
     ∷ (codes "choose", word.ChooseWord) ∷ (codes "flip", word.FlipWord)
     ∷ (codes "true", word.TrueWord) ∷ (codes "false", word.FalseWord) ∷ []
 
+-- the word that the list pairs with the operator
+abbrev pub word_in : List (Op × Word) → Op → Option Word
+word_in [] op = None
+word_in (pair ∷ pairs) op = if sameb the_type pair.0 op then Some pair.1 else word_in pairs op
+
 -- the word of an operator, where it is written with letters; the letters themselves stand in the operator's row
 abbrev pub word_of : Op → Option Word
-word_of op.Or = Some word.OrWord
-word_of op.And = Some word.AndWord
-word_of op.Not = Some word.NotWord
-word_of op.Elem = Some word.InWord
-word_of op.Union = Some word.UnionWord
-word_of op.Without = Some word.LessWord
-word_of op.Div = Some word.DivWord
-word_of op.Mod = Some word.ModWord
-word_of op.Inter = Some word.InterWord
-word_of op.Size = Some word.SizeWord
-word_of op.Cond = Some word.CondWord
-word_of _ = None
+word_of op = word_in OPERATOR_WORDS op
 
--- the word of the first row with these letters
-abbrev pub operator_word : List Row → List ℕ → Option Word
-operator_word [] text = None
-operator_word (row ∷ rows) text = if bytes_eq row.word text then word_of row.code else operator_word rows text
+-- the operator of the first row with these letters
+abbrev pub operator_with : List Row → List ℕ → Option Op
+operator_with [] text = None
+operator_with (row ∷ rows) text = if bytes_eq row.word text then Some row.code else operator_with rows text
+
+-- the word of that operator
+abbrev pub operator_word : List ℕ → Option Word
+operator_word text = option_and_then word_of (operator_with operators text)
 
 -- the reserved word with these letters that is no operator
 abbrev pub own_word : List ℕ → Option Word
@@ -70,4 +70,4 @@ own_word text = lookup (λ letters. bytes_eq letters text) own_words
 
 -- the reserved word with these letters, if there is one
 unfoldable pub reserved : List ℕ → Option Word
-reserved text = option_or (own_word text) (operator_word operators text)
+reserved text = option_or (own_word text) (operator_word text)

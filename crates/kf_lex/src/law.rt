@@ -3,7 +3,7 @@
 ghost use Rattle.std.specs.Prelude.{List, ℕ};
 ghost use Rattle.kf_lex.specs.declared.token.Token.{Token};
 ghost use Rattle.std.specs.List.{All};
-ghost use Rattle.kf_lex.specs.Laws.{AreOperatorsReserved, HasName, HasSpans, IsOneReading};
+ghost use Rattle.kf_lex.specs.Laws.{AreOperatorTokens, AreOperatorsReserved, HasName, HasSpans, IsOneReading};
 ghost use Rattle.kf_lex.specs.Readings.{IsTokens};
 
 /// Every source has tokens or a first fault: one list of tokens at most, one first fault at most, and never
@@ -22,4 +22,10 @@ pub fn spans()
 /// Every operator that is written as a word has a reserved word. It does nothing when it runs.
 pub fn reserved_operators()
     ensures { AreOperatorsReserved }
+{}
+
+/// A token stands for an operator exactly where it spells the word of the operator's row, and each operator has a token, but for
+/// the minus before an operand. It does nothing when it runs.
+pub fn operator_tokens()
+    ensures { AreOperatorTokens }
 {}

@@ -9,6 +9,7 @@ mod tests;
 mod token;
 mod words;
 
-pub use law::{one_reading, reserved_operators, spans};
+pub use law::{one_reading, operator_tokens, reserved_operators, spans};
 pub use lexer::lex;
 pub use token::{LexError, Sign, Tok, Token, Tokens, Word};
+pub use words::operator_of;

@@ -1,5 +1,7 @@
-use crate::{LexError, Sign, Tok, Token, Word, lex};
+use crate::{LexError, Sign, Tok, Token, Word, lex, operator_of};
+use kf_ops::Op;
 use std::alloc::Global;
+use std::process::Abort;
 
 /// Whether the source has just these tokens.
 fn has_tokens(alloc: Global, src: &[u8], expected: &[Token]) -> bool {
@@ -131,6 +133,24 @@ fn every_word(rt: HostRuntime) {
         word(Word::CondWord, 128, 132),
     ];
     assert!(rt; has_tokens(rt.alloc(), text.as_bytes(), &words));
+}
+
+/// The token stands for this operator.
+fn tells(rt: &impl Abort, kind: Tok, op: Option<Op>) {
+    assert_eq!(rt; operator_of(kind), op, "the operator of {kind:?}");
+}
+
+#[test]
+fn operators_of_tokens(rt: HostRuntime) {
+    tells(&rt, Tok::Word(Word::OrWord), Some(Op::Or));
+    tells(&rt, Tok::Word(Word::LessWord), Some(Op::Without));
+    tells(&rt, Tok::Word(Word::CondWord), Some(Op::Cond));
+    tells(&rt, Tok::Sign(Sign::AtLeast), Some(Op::AtLeast));
+    tells(&rt, Tok::Sign(Sign::Minus), Some(Op::Subtract));
+    tells(&rt, Tok::Word(Word::FalseWord), None);
+    tells(&rt, Tok::Sign(Sign::Range), None);
+    tells(&rt, Tok::Name, None);
+    tells(&rt, Tok::Number(0), None);
 }
 
 #[test]

@@ -1,10 +1,11 @@
 //! How signs and reserved words are written.
 
 ghost use Rattle.std.specs.Prelude.{◌≡◌, Option};
-ghost use Rattle.kf_lex.specs.Words.{operator_word, own_word, reserved, sign_text, word_of};
+ghost use Rattle.kf_lex.specs.Operators.{op_of, operator_of};
+ghost use Rattle.kf_lex.specs.Words.{operator_with, operator_word, own_word, reserved, sign_text, word_of};
 ghost use Rattle.kf_ops.specs.Rows.{operators};
 
-use crate::token::{Sign, Word};
+use crate::token::{Sign, Tok, Word};
 use kf_ops::{Op, find, operators};
 
 impl Sign {
@@ -62,33 +63,60 @@ fn own_word(text: &str) -> Option<Word>
     }
 }
 
+/// The operators that are written with letters, each with its word. The letters stand in the operator's row.
+pub(crate) const OPERATOR_WORDS: [(Op, Word); 11] = [
+    (Op::Or, Word::OrWord),
+    (Op::And, Word::AndWord),
+    (Op::Not, Word::NotWord),
+    (Op::Elem, Word::InWord),
+    (Op::Union, Word::UnionWord),
+    (Op::Without, Word::LessWord),
+    (Op::Div, Word::DivWord),
+    (Op::Mod, Word::ModWord),
+    (Op::Inter, Word::InterWord),
+    (Op::Size, Word::SizeWord),
+    (Op::Cond, Word::CondWord),
+];
+
 /// The word of an operator, where it is written with letters.
 fn word_of(op: Op) -> Option<Word>
     ensures { result ≡ word_of op }
 {
-    match op {
-        Op::Or => Some(Word::OrWord),
-        Op::And => Some(Word::AndWord),
-        Op::Not => Some(Word::NotWord),
-        Op::Elem => Some(Word::InWord),
-        Op::Union => Some(Word::UnionWord),
-        Op::Without => Some(Word::LessWord),
-        Op::Div => Some(Word::DivWord),
-        Op::Mod => Some(Word::ModWord),
-        Op::Inter => Some(Word::InterWord),
-        Op::Size => Some(Word::SizeWord),
-        Op::Cond => Some(Word::CondWord),
-        _ => None,
+    for pair in OPERATOR_WORDS {
+        if pair.0 == op {
+            return Some(pair.1);
+        }
     }
+    None
+}
+
+/// The operator that has this word.
+fn op_of(word: Word) -> Option<Op>
+    ensures { result ≡ op_of word }
+{
+    for pair in OPERATOR_WORDS {
+        if pair.1 == word {
+            return Some(pair.0);
+        }
+    }
+    None
+}
+
+/// The operator whose row has these letters.
+fn operator_with(text: &str) -> Option<Op>
+    ensures { result ≡ operator_with operators text.now }
+{
+    let table = operators();
+    let row = find(&table, text)?;
+    Some(table[row].code)
 }
 
 /// The word of the operator whose row has these letters.
 fn operator_word(text: &str) -> Option<Word>
-    ensures { result ≡ operator_word operators text.now }
+    ensures { result ≡ operator_word text.now }
 {
-    let table = operators();
-    let row = find(&table, text)?;
-    word_of(table[row].code)
+    let op = operator_with(text)?;
+    word_of(op)
 }
 
 /// The reserved word that has these letters.
@@ -97,4 +125,15 @@ pub fn reserved(text: &str) -> Option<Word>
     ensures { result ≡ reserved text.now }
 {
     own_word(text).or_else(|| operator_word(text))
+}
+
+/// The operator whose word in the table the token spells.
+pub fn operator_of(kind: Tok) -> Option<Op>
+    ensures { result ≡ operator_of kind }
+{
+    match kind {
+        Tok::Name | Tok::Number(_) => None,
+        Tok::Word(word) => op_of(word),
+        Tok::Sign(sign) => operator_with(sign.text()),
+    }
 }

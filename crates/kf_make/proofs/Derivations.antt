@@ -5,6 +5,7 @@ use Rattle.kf_lex.specs.declared.token.Sign.TheVariants as s
 use Rattle.kf_lex.specs.declared.token.Tok.TheVariants as t
 use Rattle.kf_lex.specs.declared.token.Token.{Token}
 use Rattle.kf_lex.specs.declared.token.Word.TheVariants as w
+use Rattle.kf_lex.specs.Words.{reserved}
 use Rattle.kf_ops.specs.declared.row.Op.TheVariants as op
 use Rattle.kf_ops.specs.Places.{number_of}
 use Rattle.kf_ast.specs.Names.{name}
@@ -13,7 +14,7 @@ use Rattle.kf_ast.specs.TypeForms.{Range, type_at}
 use Rattle.kf_ast.specs.Dists.{Choose, UniformRange, dist_at}
 use Rattle.kf_ast.specs.Sources.{DeclTree, declared}
 use Rattle.kf_ast.specs.Stmts.{StmtTree, Observe, stmt_at}
-use Rattle.kf_parse.specs.Operators.{infix_op}
+use Rattle.kf_parse.specs.Operators.{IsBetween}
 use Rattle.kf_parse.specs.Grammar.{IsName, IsNumber, IsSign, IsWord, named, E, Operand, Case, Dist}
 use Rattle.kf_parse.specs.Grammar as g
 use Rattle.kf_parse.specs.Programs.{Declaration, IsProgram, Statement, Statements}
@@ -31,6 +32,13 @@ cut_there src front before piece rest at far e f h =
     let start : at + far ≡ length (front ++ before) = omega (arith, length-append front before, f, h) in
     let whole : src ≡ (front ++ before) ++ (piece ++ rest) = e ∙ sym (append_assoc front before (piece ++ rest)) in
     rw (width, start, whole, drop-append_seam (front ++ before) (piece ++ rest)) (take-append_seam piece rest)
+
+mod_between : IsBetween (t.Word w.ModWord) op.Mod
+unfolding reserved
+mod_between = record { spelled = refl; two = refl; low = omega arith }
+
+minus_between : IsBetween (t.Sign s.Minus) op.Subtract
+minus_between = record { spelled = refl; two = refl; low = omega arith }
 
 module _ (src : List ℕ) where
   -- an expression of a level is one of the level below
@@ -61,7 +69,7 @@ module _ (src : List ℕ) where
       λ text at. expr_at n.start (Apply (number_of op.Mod) (exprs (expr_at n.start (Name (name text n.start)) ∷ number_at at 2 ∷ []))) in
       let read : E src 6 (n ∷ o ∷ m ∷ []) (there (slice_range src n.start n.end) m.start) =
       g.chain (λ h. absurd (omega (arith, h))) (operand (g.variable n is_name))
-      (g.chained o op.Mod g.unchained (ap infix_op is_mod, refl) (operand (g.number m is_two)) refl) refl in
+      (g.chained o op.Mod g.unchained (subst (λ k. IsBetween k op.Mod) (sym is_mod) mod_between, refl) (operand (g.number m is_two)) refl) refl in
       subst (λ at. E src 6 (n ∷ o ∷ m ∷ []) (there (codes "x") at)) behind
       (subst (λ text. E src 6 (n ∷ o ∷ m ∷ []) (there text m.start)) spelt read)
 
@@ -75,7 +83,7 @@ module _ (src : List ℕ) where
       let two = parity (token_at t.Name (at + 34) (at + 35)) (token_at (t.Word w.ModWord) (at + 36) (at + 39)) (token_at (t.Number 2) (at + 40) (at + 41))
       refl refl refl second (omega arith) in
       let other = g.chain (λ h. absurd (omega (arith, h))) (from_seven (operand (g.number (token_at (t.Number 1) (at + 30) (at + 31)) refl)))
-      (g.chained (token_at (t.Sign s.Minus) (at + 32) (at + 33)) op.Subtract g.unchained (refl, refl) two refl) refl in
+      (g.chained (token_at (t.Sign s.Minus) (at + 32) (at + 33)) op.Subtract g.unchained (minus_between, refl) two refl) refl in
       let heavy = g.weighted (token_at (t.Sign s.Colon) (at + 25) (at + 26)) (from_five (from_six one)) refl
       (number (token_at (t.Number 3) (at + 27) (at + 28)) refl) refl in
       let light = g.weighted (token_at (t.Sign s.Colon) (at + 42) (at + 43)) (from_five other) refl

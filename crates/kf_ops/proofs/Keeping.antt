@@ -21,6 +21,7 @@ use Rattle.kf_ops.specs.declared.row.Pat.TheVariants as pat
 use Rattle.kf_ops.proofs.Readings.{elements_ascend}
 use Rattle.kf_ops.proofs.SetLaws.{each_filter, sorted_either, sorted_filter}
 use Rattle.kf_ops.proofs.Ascending.{each_either}
+use Rattle.kf_ops.proofs.EachRow.{arg_at, each_row, row_at}
 
 -- ---- arguments one by one
 
@@ -99,78 +100,27 @@ either_fits k v w hv hw =
 
 -- ---- the rows
 
-truths : (code : Op) (p q : Pat) → ((k : KindTree) (a b : ValueTree) → IfOk (row_value code a b a) (FitsWell k pat.Bool)) → (k : KindTree)
-    (args : List ValueTree) → EachFits k (p ∷ q ∷ []) args → IfOk (applied code args) (FitsWell k pat.Bool)
-truths code p q gives k = two k pat.Bool code p q (λ a b ha hb. gives k a b)
-
 wholes : (code : Op) → ((k : KindTree) (a b : ValueTree) → IfOk (row_value code a b a) (FitsWell k pat.Int)) → (k : KindTree)
     (args : List ValueTree) → EachFits k (pat.Int ∷ pat.Int ∷ []) args → IfOk (applied code args) (FitsWell k pat.Int)
 wholes code gives k = two k pat.Int code pat.Int pat.Int (λ a b ha hb. gives k a b)
 
+-- those with no line of their own give a Boolean or a whole number of two arguments
+keeps : (code : Op) → KeepsKinds (row_at code)
+keeps op.Not = λ k. one k pat.Bool op.Not pat.Bool (λ a ha. (tt, tt))
+keeps op.Add = wholes op.Add (λ k a b. whole_fits (is_i64 (whole a +ℤ whole b)) k (whole a +ℤ whole b))
+keeps op.Subtract = wholes op.Subtract (λ k a b. whole_fits (is_i64 (whole a -ℤ whole b)) k (whole a -ℤ whole b))
+keeps op.Union = λ k. two k pat.SetOfAny op.Union pat.SetOfAny pat.SetOfAny (λ a b ha hb. either_fits k a b ha hb)
+keeps op.Without = λ k. two k pat.SetOfAny op.Without pat.SetOfAny pat.SetOfAny (λ a b ha hb. filter_fits k (λ v. not (is_in v (elements b))) a ha)
+keeps op.Multiply = wholes op.Multiply (λ k a b. whole_fits (is_i64 (whole a *ℤ whole b)) k (whole a *ℤ whole b))
+keeps op.Div = wholes op.Div (λ k a b.
+    divided_fits (int_eq (whole b) (pos 0)) k (narrow (int_div_euclid (whole a) (whole b)))
+    (whole_fits (is_i64 (int_div_euclid (whole a) (whole b))) k (int_div_euclid (whole a) (whole b))))
+keeps op.Mod = wholes op.Mod (λ k a b. divided_fits (int_eq (whole b) (pos 0)) k (Ok (Whole (int_rem_euclid (whole a) (whole b)))) (tt, tt))
+keeps op.Inter = λ k. two k pat.SetOfAny op.Inter pat.SetOfAny pat.SetOfAny (λ a b ha hb. filter_fits k (λ v. is_in v (elements b)) a ha)
+keeps op.Negate = λ k. one k pat.Int op.Negate pat.Int (λ a ha. whole_fits (is_i64 (neg_ℤ (whole a))) k (neg_ℤ (whole a)))
+keeps op.Size = λ k. one k pat.Int op.Size pat.SetOfAny (λ a ha. (tt, tt))
+keeps op.Cond = λ k. three k pat.Any op.Cond pat.Bool pat.Any pat.Any (λ a b c ha hb hc. chosen_fits (truth a) k b c hb hc)
+keeps code = λ k. two k (row_at code).result code (arg_at code 0) (arg_at code 1) (λ a b ha hb. (tt, tt))
+
 pub keep_kinds : Each KeepsKinds operators
-keep_kinds = (
-  truths op.Or pat.Bool pat.Bool (λ k a b. (tt, tt)),
-  (
-    truths op.And pat.Bool pat.Bool (λ k a b. (tt, tt)),
-    (
-      λ k. one k pat.Bool op.Not pat.Bool (λ a ha. (tt, tt)),
-      (
-        truths op.Equal pat.Any pat.Any (λ k a b. (tt, tt)),
-        (
-          truths op.NotEqual pat.Any pat.Any (λ k a b. (tt, tt)),
-          (
-            truths op.Less pat.Int pat.Int (λ k a b. (tt, tt)),
-            (
-              truths op.AtMost pat.Int pat.Int (λ k a b. (tt, tt)),
-              (
-                truths op.Greater pat.Int pat.Int (λ k a b. (tt, tt)),
-                (
-                  truths op.AtLeast pat.Int pat.Int (λ k a b. (tt, tt)),
-                  (
-                    truths op.Elem pat.Any pat.SetOfAny (λ k a b. (tt, tt)),
-                    (
-                      wholes op.Add (λ k a b. whole_fits (is_i64 (whole a +ℤ whole b)) k (whole a +ℤ whole b)),
-                      (
-                        wholes op.Subtract (λ k a b. whole_fits (is_i64 (whole a -ℤ whole b)) k (whole a -ℤ whole b)),
-                        (
-                          λ k. two k pat.SetOfAny op.Union pat.SetOfAny pat.SetOfAny (λ a b ha hb. either_fits k a b ha hb),
-                          (
-                            λ k. two k pat.SetOfAny op.Without pat.SetOfAny pat.SetOfAny (λ a b ha hb. filter_fits k (λ v. not (is_in v (elements b))) a ha),
-                            (
-                              wholes op.Multiply (λ k a b. whole_fits (is_i64 (whole a *ℤ whole b)) k (whole a *ℤ whole b)),
-                              (
-                                wholes op.Div (λ k a b.
-                                    divided_fits (int_eq (whole b) (pos 0)) k (narrow (int_div_euclid (whole a) (whole b)))
-                                    (whole_fits (is_i64 (int_div_euclid (whole a) (whole b))) k (int_div_euclid (whole a) (whole b)))),
-                                (
-                                  wholes op.Mod (λ k a b. divided_fits (int_eq (whole b) (pos 0)) k (Ok (Whole (int_rem_euclid (whole a) (whole b)))) (tt, tt)),
-                                  (
-                                    λ k. two k pat.SetOfAny op.Inter pat.SetOfAny pat.SetOfAny (λ a b ha hb. filter_fits k (λ v. is_in v (elements b)) a ha),
-                                    (
-                                      λ k. one k pat.Int op.Negate pat.Int (λ a ha. whole_fits (is_i64 (neg_ℤ (whole a))) k (neg_ℤ (whole a))),
-                                      (
-                                        λ k. one k pat.Int op.Size pat.SetOfAny (λ a ha. (tt, tt)),
-                                        (
-                                          λ k. three k pat.Any op.Cond pat.Bool pat.Any pat.Any (λ a b c ha hb hc. chosen_fits (truth a) k b c hb hc),
-                                          tt,
-                                        ),
-                                      ),
-                                    ),
-                                  ),
-                                ),
-                              ),
-                            ),
-                          ),
-                        ),
-                      ),
-                    ),
-                  ),
-                ),
-              ),
-            ),
-          ),
-        ),
-      ),
-    ),
-  ),
-)
+keep_kinds = each_row KeepsKinds keeps

@@ -1,5 +1,6 @@
 mod Applying
 mod Ascending
+pub mod EachRow
 mod Euclid
 mod First
 mod Keeping

@@ -9,6 +9,8 @@ use Rattle.kf_ops.specs.Rows.{Row, operators}
 use Rattle.kf_ops.specs.Laws.{NamesFaults}
 use Rattle.kf_ops.specs.Values.{applied, row_value, is_i64, Fault, DivZero, ArithWide}
 use Rattle.kf_ops.specs.declared.row.Op.{Op}
+use Rattle.kf_ops.specs.declared.row.Op.TheVariants as op
+use Rattle.kf_ops.proofs.EachRow.{each_row, row_at}
 
 -- the result is another than this fault
 abbrev Lacks : Fault → Result ValueTree Fault → Type 0
@@ -56,68 +58,15 @@ zero_row row zero never = record {
 both_row : (row : Row) → row.div_zero ≡ true → row.wide ≡ true → NamesFaults row
 both_row row zero wide = record { by_zero = λ args h. zero; too_wide = λ args h. wide }
 
+-- those with no line of their own never have a fault
+names : (code : Op) → NamesFaults (row_at code)
+names op.Add = wide_row _ refl (λ a b c. wide_alone (is_i64 (whole a +ℤ whole b)) (whole a +ℤ whole b))
+names op.Subtract = wide_row _ refl (λ a b c. wide_alone (is_i64 (whole a -ℤ whole b)) (whole a -ℤ whole b))
+names op.Multiply = wide_row _ refl (λ a b c. wide_alone (is_i64 (whole a *ℤ whole b)) (whole a *ℤ whole b))
+names op.Div = both_row _ refl refl
+names op.Mod = zero_row _ refl (λ a b c. zero_alone (int_eq (whole b) (pos 0)) (int_rem_euclid (whole a) (whole b)))
+names op.Negate = wide_row _ refl (λ a b c. wide_alone (is_i64 (neg_ℤ (whole a))) (neg_ℤ (whole a)))
+names _ = neither _ (λ f a b c h. (cc))
+
 pub name_faults : Each NamesFaults operators
-name_faults = (
-  neither _ (λ f a b c h. (cc)),
-  (
-    neither _ (λ f a b c h. (cc)),
-    (
-      neither _ (λ f a b c h. (cc)),
-      (
-        neither _ (λ f a b c h. (cc)),
-        (
-          neither _ (λ f a b c h. (cc)),
-          (
-            neither _ (λ f a b c h. (cc)),
-            (
-              neither _ (λ f a b c h. (cc)),
-              (
-                neither _ (λ f a b c h. (cc)),
-                (
-                  neither _ (λ f a b c h. (cc)),
-                  (
-                    neither _ (λ f a b c h. (cc)),
-                    (
-                      wide_row _ refl (λ a b c. wide_alone (is_i64 (whole a +ℤ whole b)) (whole a +ℤ whole b)),
-                      (
-                        wide_row _ refl (λ a b c. wide_alone (is_i64 (whole a -ℤ whole b)) (whole a -ℤ whole b)),
-                        (
-                          neither _ (λ f a b c h. (cc)),
-                          (
-                            neither _ (λ f a b c h. (cc)),
-                            (
-                              wide_row _ refl (λ a b c. wide_alone (is_i64 (whole a *ℤ whole b)) (whole a *ℤ whole b)),
-                              (
-                                both_row _ refl refl,
-                                (
-                                  zero_row _ refl (λ a b c. zero_alone (int_eq (whole b) (pos 0)) (int_rem_euclid (whole a) (whole b))),
-                                  (
-                                    neither _ (λ f a b c h. (cc)),
-                                    (
-                                      wide_row _ refl (λ a b c. wide_alone (is_i64 (neg_ℤ (whole a))) (neg_ℤ (whole a))),
-                                      (
-                                        neither _ (λ f a b c h. (cc)),
-                                        (
-                                          neither _ (λ f a b c h. (cc)),
-                                          tt,
-                                        ),
-                                      ),
-                                    ),
-                                  ),
-                                ),
-                              ),
-                            ),
-                          ),
-                        ),
-                      ),
-                    ),
-                  ),
-                ),
-              ),
-            ),
-          ),
-        ),
-      ),
-    ),
-  ),
-)
+name_faults = each_row NamesFaults names

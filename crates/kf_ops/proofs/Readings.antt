@@ -1,10 +1,11 @@
 -- What values of each form hold.
-use Rattle.std.proofs.Common.{◌≡◌, ap, ◌∙◌}
+use Rattle.std.proofs.Common.{◌≡◌, List, map, sym, ap, ◌∙◌, subst}
 use Rattle.std.specs.List.Sorted.{IsStrictlySortedBy}
 use Rattle.kf_value.specs.Values.{ValueTree, Truth, Whole, Tuple, Set, order, elements}
 use Rattle.kf_value.specs.Forms.{IsWellFormed}
 use Rattle.kf_value.proofs.Sorting.{sorted-nil}
 use Rattle.kf_value.specs.Views.{value_tree, value_trees}
+use Rattle.kf_value.specs.declared.value.Value.{Value}
 use Rattle.kf_value.specs.declared.value.Value.TheVariants as value
 use Rattle.kf_value.specs.declared.value.ValueList.{ValueList}
 use Rattle.kf_value.proofs.Trees.{constructors, parts_list-parts, value_tree-Set}
@@ -17,5 +18,10 @@ elements_ascend (Truth b) h = sorted-nil order
 elements_ascend (Whole i) h = sorted-nil order
 elements_ascend (Tuple vs) h = sorted-nil order
 elements_ascend (Set vs) h = h.0
+
+-- a slice of the elements of a well-formed value
+pub elements_sorted : (v : Value) (xs : List Value) → map value_tree xs ≡ elements (value_tree v) → IsWellFormed (value_tree v)
+    → IsStrictlySortedBy order (map value_tree xs)
+elements_sorted v xs is h = subst (IsStrictlySortedBy order) (sym is) (elements_ascend (value_tree v) h)
 
 pub ruleset readings = (constructors, elements-Set)

@@ -87,26 +87,7 @@ arities = (all_pass has_arity HasArity arity_decided operators).0 refl
 
 pub at_number : HasRowAtNumber operators
 at_number op.Or = refl
-at_number op.And = refl
-at_number op.Not = refl
-at_number op.Equal = refl
-at_number op.NotEqual = refl
-at_number op.Less = refl
-at_number op.AtMost = refl
-at_number op.Greater = refl
-at_number op.AtLeast = refl
-at_number op.Elem = refl
-at_number op.Add = refl
-at_number op.Subtract = refl
-at_number op.Union = refl
-at_number op.Without = refl
-at_number op.Multiply = refl
-at_number op.Div = refl
-at_number op.Mod = refl
-at_number op.Inter = refl
-at_number op.Negate = refl
-at_number op.Size = refl
-at_number op.Cond = refl
+at_number _ = refl
 
 one_number : (a b : Op) → number_of a ≡ number_of b → a ≡ b
 one_number a b same =

@@ -8,7 +8,7 @@ ghost use Rattle.kf_ops.specs.Table.{HasArity, HasDistinctCodes, HasDistinctWord
 use crate::row::{Op, OpRow};
 use crate::table::OPS;
 
-/// The table by value, for a caller whose contract speaks of its rows: in a body, one call in place of 21 rows written out.
+/// The table by value, for a caller whose contract speaks of its rows: in a body, one call in place of all rows written out.
 pub fn operators() -> [OpRow; 21]
     ensures { rows_of result ≡ operator_rows }
 {

@@ -1,20 +1,17 @@
 -- A program's operators have as many arguments as they take, and none of its lists is too short.
-use Rattle.std.proofs.Common.{◌≡◌, ℕ, ◌≤◌, Option, Some, None, List, [], ◌∷◌, ◌++◌, length, length-append, refl, sym, ◌∙◌, subst, arith}
+use Rattle.std.proofs.Common.{◌≡◌, ℕ, ◌≤◌, List, [], ◌∷◌, ◌++◌, length, length-append, refl, sym, ◌∙◌, subst, arith}
 use Rattle.kf_ops.specs.declared.row.Op.{Op}
 use Rattle.kf_ops.specs.declared.row.Op.TheVariants as op
 use Rattle.kf_ops.specs.Fitting.{Takes}
 use Rattle.kf_lex.specs.declared.token.Token.{Token}
 use Rattle.kf_lex.specs.declared.token.Tok.{Tok}
-use Rattle.kf_lex.specs.declared.token.Tok.TheVariants as t
-use Rattle.kf_lex.specs.declared.token.Word.TheVariants as w
-use Rattle.kf_lex.specs.declared.token.Sign.TheVariants as s
 use Rattle.kf_ast.specs.TypeForms.{TypeForm, types}
 use Rattle.kf_ast.specs.Exprs.{ExprTree, expr_at, exprs, placed}
 use Rattle.kf_ast.specs.Dists.{CaseTree, case_of, DistTree}
 use Rattle.kf_ast.specs.Stmts.{StmtTree, stmts}
 use Rattle.kf_ast.specs.Sources.{DeclTree, declared}
 use Rattle.kf_ast.specs.Built.{type_count, IsTypeBuilt, AreTypesBuilt, expr_count, IsBuilt, AreBuilt, AreCasesBuilt, IsDistBuilt, IsStmtBuilt, AreStmtsBuilt, AreDeclsBuilt, AreListedBuilt}
-use Rattle.kf_parse.specs.Operators.{infix_op, prefix_op, row_of, arity_of}
+use Rattle.kf_parse.specs.Operators.{IsBetween, IsBefore, row_of, arity_of}
 use Rattle.kf_parse.specs.Grammar as g
 use Rattle.kf_parse.specs.Grammar.{Parts, E, Chain, Operand, Others, TypeOf, OtherTypes, Case, OtherCases, Dist}
 use Rattle.kf_parse.specs.Programs as p
@@ -25,62 +22,13 @@ use Rattle.kf_parse.specs.Laws.{OnlyBuilt}
 
 takes : (o : Op) → Takes (row_of o) (arity_of o)
 takes op.Or = (_, refl, refl)
-takes op.And = (_, refl, refl)
-takes op.Not = (_, refl, refl)
-takes op.Equal = (_, refl, refl)
-takes op.NotEqual = (_, refl, refl)
-takes op.Less = (_, refl, refl)
-takes op.AtMost = (_, refl, refl)
-takes op.Greater = (_, refl, refl)
-takes op.AtLeast = (_, refl, refl)
-takes op.Elem = (_, refl, refl)
-takes op.Add = (_, refl, refl)
-takes op.Subtract = (_, refl, refl)
-takes op.Union = (_, refl, refl)
-takes op.Without = (_, refl, refl)
-takes op.Multiply = (_, refl, refl)
-takes op.Div = (_, refl, refl)
-takes op.Mod = (_, refl, refl)
-takes op.Inter = (_, refl, refl)
-takes op.Negate = (_, refl, refl)
-takes op.Size = (_, refl, refl)
-takes op.Cond = (_, refl, refl)
+takes _ = (_, refl, refl)
 
--- the operator, if there is one, takes so many arguments
-abbrev HasArity : ℕ → Option Op → Type 0
-HasArity n None = Unit {0}
-HasArity n (Some o) = arity_of o ≡ n
+takes_two : (k : Tok) (o : Op) → IsBetween k o → Takes (row_of o) 2
+takes_two k o b = subst (Takes (row_of o)) b.two (takes o)
 
-between_two : (k : Tok) → HasArity 2 (infix_op k)
-between_two (t.Word w.OrWord) = refl
-between_two (t.Word w.AndWord) = refl
-between_two (t.Sign s.Equal) = refl
-between_two (t.Sign s.NotEqual) = refl
-between_two (t.Sign s.Less) = refl
-between_two (t.Sign s.AtMost) = refl
-between_two (t.Sign s.Greater) = refl
-between_two (t.Sign s.AtLeast) = refl
-between_two (t.Word w.InWord) = refl
-between_two (t.Sign s.Plus) = refl
-between_two (t.Sign s.Minus) = refl
-between_two (t.Word w.UnionWord) = refl
-between_two (t.Word w.LessWord) = refl
-between_two (t.Sign s.Star) = refl
-between_two (t.Word w.DivWord) = refl
-between_two (t.Word w.ModWord) = refl
-between_two (t.Word w.InterWord) = refl
-between_two _ = tt
-
-before_one : (k : Tok) → HasArity 1 (prefix_op k)
-before_one (t.Word w.NotWord) = refl
-before_one (t.Sign s.Minus) = refl
-before_one _ = tt
-
-takes_two : (k : Tok) (o : Op) → infix_op k ≡ Some o → Takes (row_of o) 2
-takes_two k o e = subst (λ n. Takes (row_of o) n) (subst (λ q. HasArity 2 q) e (between_two k)) (takes o)
-
-takes_one : (k : Tok) (o : Op) → prefix_op k ≡ Some o → Takes (row_of o) 1
-takes_one k o e = subst (λ n. Takes (row_of o) n) (subst (λ q. HasArity 1 q) e (before_one k)) (takes o)
+takes_one : (k : Tok) (o : Op) → IsBefore k o → Takes (row_of o) 1
+takes_one k o b = subst (Takes (row_of o)) b.one (takes o)
 
 -- ---- lists
 

@@ -1,25 +1,19 @@
 -- Whether tokens are an expression, a type or a distribution rests on their kinds alone.
-use Rattle.std.proofs.Common.{◌≡◌, ℕ, ◌+◌, ℤ, true, false, List, [], ◌∷◌, ◌++◌, length, refl, sym, ◌∙◌, ap, length-append, Some}
-use Rattle.kf_ops.specs.declared.row.Op.{Op}
+use Rattle.std.proofs.Common.{◌≡◌, ℕ, ◌+◌, ℤ, true, false, List, [], ◌∷◌, ◌++◌, length, refl, sym, ◌∙◌, ap, subst, length-append}
 use Rattle.kf_lex.specs.declared.token.Token.{Token}
 use Rattle.kf_lex.specs.declared.token.Tok.{Tok}
 use Rattle.kf_ast.specs.Exprs.{ExprTree, expr_at, Number, Truth, Name, Apply, Tuple, SetOf, exprs, place, placed}
 use Rattle.kf_ast.specs.TypeForms.{TypeForm, type_at, Boolean, Range, TupleOf, types}
 use Rattle.kf_ast.specs.TypeForms as of_type
 use Rattle.kf_ast.specs.Dists.{CaseTree, case_of, DistTree, dist_at, Sure, UniformSet, UniformRange, Choose, Flip}
-use Rattle.kf_parse.specs.Operators.{infix_op, prefix_op, called_op, row_of, level_of, arity_of}
+use Rattle.kf_parse.specs.Operators.{IsBetween, IsBefore, IsCalling, row_of}
 use Rattle.kf_parse.specs.Grammar as g
 use Rattle.kf_parse.specs.Grammar.{IsInfix, IsPrefix, IsCalled, named, joined, prefixed, part_of, Parts, E, Chain, Operand, Others, Whole, TypeOf, OtherTypes, Case, OtherCases, Dist}
 use Rattle.kf_parse.proofs.KindsSame.{Same, none_same, more_same, split, pieces, last, last_of_two, Made, kind_of}
 
-infix_of : {l : ℕ} {op : Op} {j k : Tok} → j ≡ k → (infix_op j ≡ Some op) × (level_of op ≡ l) → (infix_op k ≡ Some op) × (level_of op ≡ l)
-infix_of h i = (sym (ap infix_op h) ∙ i.0, i.1)
-
-prefix_of : {l : ℕ} {op : Op} {j k : Tok} → j ≡ k → (prefix_op j ≡ Some op) × (level_of op ≡ l) → (prefix_op k ≡ Some op) × (level_of op ≡ l)
-prefix_of h i = (sym (ap prefix_op h) ∙ i.0, i.1)
-
-called_of : {arity : ℕ} {op : Op} {j k : Tok} → j ≡ k → (called_op j ≡ Some op) × (arity_of op ≡ arity) → (called_op k ≡ Some op) × (arity_of op ≡ arity)
-called_of h i = (sym (ap called_op h) ∙ i.0, i.1)
+-- what holds of a kind holds of the same kind
+of_kind : (P : Tok → Type 0) {Q : Type 0} {j k : Tok} → j ≡ k → P j × Q → P k × Q
+of_kind P h i = (subst P h i.0, i.1)
 
 same_parts : {x z : ExprTree} {ts us : List Token} → Parts x ts z → (y : ExprTree) → Same ts us → Made (Parts y) us
 same_parts g.no_part y none_same = record { value = y; tells = g.no_part }
@@ -41,13 +35,13 @@ module _ (src src' : List ℕ) where
     same_e : {l : ℕ} {ts us : List Token} {x : ExprTree} → E src l ts x → Same ts us → Made (E src' l) us
     same_e (g.chain {a = a} {b = b} ne e f w) s = let p = split a b w s in let m = same_e e p.same_left in let n = same_chain f m.value p.same_right in record { value = n.value; tells = g.chain ne m.tells n.tells p.whole }
     same_e (g.alone e) s = let m = same_e e s in record { value = m.value; tells = g.alone m.tells }
-    same_e (g.compare {a = a} {b = b} o op e i f w) s = let p = pieces a o b w s in let m = same_e e p.same_left in let n = same_e f p.same_right in record { value = joined op m.value n.value; tells = g.compare p.at op m.tells (infix_of p.same_at i) n.tells p.whole }
-    same_e (g.prefix o op i e) (more_same o' u h s) = let m = same_e e s in record { value = prefixed u op m.value; tells = g.prefix u op (prefix_of h i) m.tells }
+    same_e (g.compare {a = a} {b = b} o op e i f w) s = let p = pieces a o b w s in let m = same_e e p.same_left in let n = same_e f p.same_right in record { value = joined op m.value n.value; tells = g.compare p.at op m.tells (of_kind (λ k. IsBetween k op) p.same_at i) n.tells p.whole }
+    same_e (g.prefix o op i e) (more_same o' u h s) = let m = same_e e s in record { value = prefixed u op m.value; tells = g.prefix u op (of_kind (λ k. IsBefore k op) h i) m.tells }
     same_e (g.parts {a = a} {b = b} o f w) s = let p = split a b w s in let m = same_operand o p.same_left in let n = same_parts f m.value p.same_right in record { value = n.value; tells = g.parts m.tells n.tells p.whole }
 
     same_chain : {l : ℕ} {x z : ExprTree} {ts us : List Token} → Chain src l x ts z → (y : ExprTree) → Same ts us → Made (Chain src' l y) us
     same_chain g.unchained y none_same = record { value = y; tells = g.unchained }
-    same_chain (g.chained {a = a} {b = b} o op f i e w) y s = let p = pieces a o b w s in let m = same_chain f y p.same_left in let n = same_e e p.same_right in record { value = joined op m.value n.value; tells = g.chained p.at op m.tells (infix_of p.same_at i) n.tells p.whole }
+    same_chain (g.chained {a = a} {b = b} o op f i e w) y s = let p = pieces a o b w s in let m = same_chain f y p.same_left in let n = same_e e p.same_right in record { value = joined op m.value n.value; tells = g.chained p.at op m.tells (of_kind (λ k. IsBetween k op) p.same_at i) n.tells p.whole }
 
     same_operand : {ts us : List Token} {x : ExprTree} → Operand src ts x → Same ts us → Made (Operand src') us
     same_operand (g.number n {k = k} i) (more_same n' u h none_same) = record { value = expr_at u.start (Number k); tells = g.number u (kind_of h i) }
@@ -71,7 +65,7 @@ module _ (src src' : List ℕ) where
         let r = last_of_two a b q w s in
         let m = same_e e r.same_left in
         let y = same_others l (m.value ∷ []) refl r.same_middle in
-        record { value = expr_at u.start (Apply (row_of op) (exprs y.value)); tells = g.call u v r.at op (called_of h c) (kind_of t i) m.tells y.tells (y.long ∙ n) (kind_of r.same_at k) r.whole }
+        record { value = expr_at u.start (Apply (row_of op) (exprs y.value)); tells = g.call u v r.at op (of_kind (λ k. IsCalling k op) h c) (kind_of t i) m.tells y.tells (y.long ∙ n) (kind_of r.same_at k) r.whole }
 
     same_others : {xs ys : List ExprTree} {ts us : List Token} → Others src xs ts ys → (zs : List ExprTree) → length zs ≡ length xs → Same ts us → Goes src' zs ys us
     same_others g.no_other zs long none_same = record { value = zs; tells = g.no_other; long = long }

@@ -42,4 +42,4 @@ mod Answering
 pub mod Runs
 pub mod Behind
 pub mod Depths
-mod OperatorTokens
+pub mod OperatorTokens

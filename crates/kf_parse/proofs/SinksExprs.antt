@@ -1,12 +1,13 @@
 -- Readers of expressions and distributions leave the count of open brackets, and give up only where it is high.
-use Rattle.std.proofs.Common.{◌≡◌, ℕ, zero, suc, ◌+◌, ◌-◌, ◌==◌, Bool, true, false, if◌then◌else◌, List, refl, ◌∙◌, ap, arith, IfSome}
+use Rattle.std.proofs.Common.{◌≡◌, ℕ, zero, suc, ◌+◌, ◌-◌, ◌==◌, Bool, true, false, if◌then◌else◌, List, refl, ◌∙◌, ap, arith, Option, Some, None, IfSome}
 use Rattle.kf_ops.specs.declared.row.Op.{Op}
 use Rattle.kf_lex.specs.declared.token.Token.{Token}
 use Rattle.kf_lex.specs.declared.token.Tok.{Tok}
 use Rattle.kf_lex.specs.declared.token.Tok.TheVariants as t
 use Rattle.kf_lex.specs.declared.token.Word.TheVariants as w
 use Rattle.kf_lex.specs.declared.token.Sign.TheVariants as s
-use Rattle.kf_parse.specs.Operators.{infix_op, prefix_op, row_of, arity_of}
+use Rattle.kf_parse.specs.Operators.{row_of, arity_of}
+use Rattle.kf_parse.specs.OperatorTokens.{infix_op, prefix_op, called_op}
 use Rattle.kf_parse.specs.Grammar.{named}
 use Rattle.kf_parse.specs.Depth.{opened}
 use Rattle.kf_parse.specs.Tokens.{is}
@@ -32,20 +33,28 @@ pub closing : {A : Type 0} (e : ℕ) (o : Token) {k : Tok} (a : A) → o.kind �
 closing e o a is_kind closes_one = behind_token 1 0 0 0 e o (pure a) (moves_as o 1 0 0 0 is_kind (λ n. closes_one (suc n) ∙ ap (λ b. opens b 0) (omega arith))) (pure_balanced e a)
 
 infix_flat : (k : Tok) (l : ℕ) → r.binds_at l (infix_op k) ≡ true → (n : ℕ) → opened (opens n 0) k ≡ opens n 0
-infix_flat (t.Sign s.ParenOpen) l e n = cc
-infix_flat (t.Sign s.BraceOpen) l e n = cc
-infix_flat (t.Sign s.ParenClose) l e n = cc
-infix_flat (t.Sign s.BraceClose) l e n = cc
-infix_flat (t.Word w.OfWord) l e n = cc
+infix_flat (t.Sign s.ParenOpen) l e n = absurd (let no : false ≡ true = e in cc)
+infix_flat (t.Sign s.BraceOpen) l e n = absurd (let no : false ≡ true = e in cc)
+infix_flat (t.Sign s.ParenClose) l e n = absurd (let no : false ≡ true = e in cc)
+infix_flat (t.Sign s.BraceClose) l e n = absurd (let no : false ≡ true = e in cc)
+infix_flat (t.Word w.OfWord) l e n = absurd (let no : false ≡ true = e in cc)
 infix_flat _ l e n = refl
 
 prefix_flat : (k : Tok) (l : ℕ) → r.binds_at l (prefix_op k) ≡ true → (n : ℕ) → opened (opens n 0) k ≡ opens n 0
-prefix_flat (t.Sign s.ParenOpen) l e n = cc
-prefix_flat (t.Sign s.BraceOpen) l e n = cc
-prefix_flat (t.Sign s.ParenClose) l e n = cc
-prefix_flat (t.Sign s.BraceClose) l e n = cc
-prefix_flat (t.Word w.OfWord) l e n = cc
+prefix_flat (t.Sign s.ParenOpen) l e n = absurd (let no : false ≡ true = e in cc)
+prefix_flat (t.Sign s.BraceOpen) l e n = absurd (let no : false ≡ true = e in cc)
+prefix_flat (t.Sign s.ParenClose) l e n = absurd (let no : false ≡ true = e in cc)
+prefix_flat (t.Sign s.BraceClose) l e n = absurd (let no : false ≡ true = e in cc)
+prefix_flat (t.Word w.OfWord) l e n = absurd (let no : false ≡ true = e in cc)
 prefix_flat _ l e n = refl
+
+called_flat : (k : Tok) (op : Op) → called_op k ≡ Some op → (n : ℕ) → opened (opens n 0) k ≡ opens n 0
+called_flat (t.Sign s.ParenOpen) op e n = absurd (let none : None ≡ Some op = e in cc)
+called_flat (t.Sign s.BraceOpen) op e n = absurd (let none : None ≡ Some op = e in cc)
+called_flat (t.Sign s.ParenClose) op e n = absurd (let none : None ≡ Some op = e in cc)
+called_flat (t.Sign s.BraceClose) op e n = absurd (let none : None ≡ Some op = e in cc)
+called_flat (t.Word w.OfWord) op e n = absurd (let none : None ≡ Some op = e in cc)
+called_flat _ op e n = refl
 
 pub number_balanced : (e : ℕ) → Balanced 0 0 e r.number
 unfolding r.number
@@ -134,6 +143,10 @@ module _ (B : Builder) (src : List ℕ) where
         then_balanced 1 0 d (r.arguments B src expr (arity_of op - 1) (B.one x)) _ (arguments_balanced (arity_of op - 1) (B.one x)) (λ xs.
         expect_balanced 1 0 (suc d) (is (t.Sign s.ParenClose)) _ (λ q c. closing (suc d) q (B.apply f.start (row_of op) xs) (is_same (t.Sign s.ParenClose) q.kind c) (λ n. refl))))))
 
+    called_balanced : (o : Token) (k : Tok) → o.kind ≡ k → (v : Option Op) → called_op k ≡ v → IfSome (r.called B src expr o v) (λ p. Behind 0 0 (suc d) o p)
+    called_balanced o k e (Some op) h = past 0 0 (suc d) o _ e (called_flat k op h) (call_balanced o op)
+    called_balanced o k e None h = tt
+
     operand_by_balanced : (o : Token) (k : Tok) → o.kind ≡ k → IfSome (r.operand_by B src expr o k) (λ p. Behind 0 0 (suc d) o p)
     operand_by_balanced o (t.Number k) e = last 0 (suc d) o (B.number o.start k) e (λ n. refl)
     operand_by_balanced o t.Name e = last 0 (suc d) o (B.variable (named src o)) e (λ n. refl)
@@ -141,9 +154,7 @@ module _ (B : Builder) (src : List ℕ) where
     operand_by_balanced o (t.Word w.FalseWord) e = last 0 (suc d) o (B.truth o.start false) e (λ n. refl)
     operand_by_balanced o (t.Sign s.ParenOpen) e = opening 0 (suc d) o (r.in_parens B src expr o) e (λ n. refl) (in_parens_balanced o)
     operand_by_balanced o (t.Sign s.BraceOpen) e = opening 0 (suc d) o (r.in_braces B src expr o) e (λ n. refl) (in_braces_balanced o)
-    operand_by_balanced o (t.Word w.SizeWord) e = past 0 0 (suc d) o _ e (λ n. refl) (call_balanced o _)
-    operand_by_balanced o (t.Word w.CondWord) e = past 0 0 (suc d) o _ e (λ n. refl) (call_balanced o _)
-    operand_by_balanced o _ e = tt
+    operand_by_balanced o k e = called_balanced o k e (called_op k) refl
 
     postfix_balanced : Balanced 0 0 (suc d) (r.postfix B src expr)
     unfolding r.postfix r.operand

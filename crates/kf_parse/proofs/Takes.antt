@@ -8,13 +8,15 @@ use Rattle.kf_lex.specs.declared.token.Tok.TheVariants as t
 use Rattle.kf_lex.specs.declared.token.Word.TheVariants as w
 use Rattle.kf_lex.specs.declared.token.Sign.TheVariants as s
 use Rattle.kf_ast.specs.Exprs.{ExprTree}
-use Rattle.kf_parse.specs.Operators.{infix_op, prefix_op, level_of}
+use Rattle.kf_parse.specs.Operators.{level_of}
+use Rattle.kf_parse.specs.OperatorTokens.{infix_op, prefix_op}
 use Rattle.kf_parse.specs.Tokens.{is}
 use Rattle.kf_parse.specs.Grammar as g
 use Rattle.kf_parse.specs.Grammar.{IsSign, IsWord, IsNumber, IsName, IsInfix, IsPrefix, IsCalled, named, joined, prefixed, part_of, Parts, E, Chain, Operand, Others}
 use Rattle.kf_parse.specs.Outcomes.{got, Parser, and_then, pure, ◌>>=◌}
 use Rattle.kf_parse.specs.Plain.{plain}
 use Rattle.kf_parse.specs.Reading as r
+use Rattle.kf_parse.proofs.OperatorTokens.{infix_known, prefix_known}
 use Rattle.kf_parse.proofs.TakesTurns.{apart, Leads, Ends, repeat_takes, leads_nowhere, leads_from, leads_on, Reads, Runs, runs_on}
 use Rattle.kf_parse.proofs.TakesSteps as step
 
@@ -41,7 +43,7 @@ infix_no_dot (t.Sign s.Dot) op e = absurd (let none : None ≡ Some op = e in cc
 infix_no_dot _ op e = refl
 
 stops_infix : (l : ℕ) (o : Token) (op : Op) (us : List Token) → IsInfix l op o → Stops (suc l) (o ∷ us)
-stops_infix l o op us i = (let e : binds (infix_op o.kind) ≡ level_of op = ap binds i.0 in omega (arith, i.1), infix_no_dot o.kind op i.0)
+stops_infix l o op us i = (let e : binds (infix_op o.kind) ≡ level_of op = ap binds (infix_known o.kind op i.0) in omega (arith, i.1), infix_no_dot o.kind op (infix_known o.kind op i.0))
 
 loose : (l : ℕ) (v : Option Op) → binds v < l → r.binds_at l v ≡ false
 loose l (Some op) less = step.no_eqb (level_of op) l (λ e. omega arith)
@@ -153,9 +155,10 @@ module _ (src : List ℕ) where
   }
 
   prefix_no_dist : (k : Tok) (op : Op) → prefix_op k ≡ Some op → (d : ℕ) (o : Token) → r.dist_by plain src d o k ≡ None
-  prefix_no_dist (t.Word w.NotWord) op e d o = refl
-  prefix_no_dist (t.Sign s.Minus) op e d o = refl
-  prefix_no_dist _ op e d o = absurd (let none : None ≡ Some op = e in cc)
+  prefix_no_dist (t.Word w.UniformWord) op e d o = absurd (let none : None ≡ Some op = e in cc)
+  prefix_no_dist (t.Word w.ChooseWord) op e d o = absurd (let none : None ≡ Some op = e in cc)
+  prefix_no_dist (t.Word w.FlipWord) op e d o = absurd (let none : None ≡ Some op = e in cc)
+  prefix_no_dist _ op e d o = refl
 
   pub claim_prefix : (l : ℕ) (ts : List Token) (o : Token) (op : Op) (x : ExprTree) → 1 ≤ l → IsPrefix l op o → Claim (suc l) ts x → Claim l (o ∷ ts) (prefixed o op x)
   claim_prefix l ts o op x low i c = record {
@@ -164,8 +167,8 @@ module _ (src : List ℕ) where
       head = o;
       tail = ts;
       whole = refl;
-      says = λ k less. ap (r.binds_at k) i.0 ∙ step.no_eqb (level_of op) k (λ e. omega (arith, i.1));
-      sure = prefix_no_dist o.kind op i.0;
+      says = λ k less. ap (r.binds_at k) (prefix_known o.kind op i.0) ∙ step.no_eqb (level_of op) k (λ e. omega (arith, i.1));
+      sure = prefix_no_dist o.kind op (prefix_known o.kind op i.0);
     };
     reads = record {
       depth = c.reads.depth;

@@ -7,20 +7,17 @@ use Rattle.kf_lex.specs.declared.token.Tok.TheVariants as t
 use Rattle.kf_lex.specs.declared.token.Word.TheVariants as w
 use Rattle.kf_lex.specs.declared.token.Sign.TheVariants as s
 use Rattle.kf_ast.specs.Exprs.{ExprTree, expr_at, Number, Truth, Name, Apply, Tuple, SetOf, exprs, placed}
-use Rattle.kf_parse.specs.Operators.{prefix_op, called_op, row_of, arity_of}
+use Rattle.kf_parse.specs.Operators.{row_of, arity_of}
+use Rattle.kf_parse.specs.OperatorTokens.{prefix_op, called_op}
 use Rattle.kf_parse.specs.Grammar as g
 use Rattle.kf_parse.specs.Grammar.{IsSign, IsWord, IsNumber, IsName, IsCalled, named, joined, E, Chain, Operand, Others}
 use Rattle.kf_parse.specs.Outcomes.{and_then, pure, ◌>>=◌}
 use Rattle.kf_parse.specs.Plain.{plain}
 use Rattle.kf_parse.specs.Reading as r
+use Rattle.kf_parse.proofs.OperatorTokens.{called_known, called_no_prefix}
 use Rattle.kf_parse.proofs.TakesTurns.{apart, before_close, repeat_takes, runs_nowhere, runs_on}
 use Rattle.kf_parse.proofs.TakesSteps as step
 use Rattle.kf_parse.proofs.Takes.{Stops, stops_at, Heads, at_level, Claim, Exprs, expr_reads, Taken, Chains, Lists, claim_chain, claim_alone, claim_compare, claim_prefix, claim_parts, chain_on, parts_lead}
-
-called_no_prefix : (k : Tok) (op : Op) → called_op k ≡ Some op → prefix_op k ≡ None
-called_no_prefix (t.Word w.NotWord) op e = absurd (let none : None ≡ Some op = e in cc)
-called_no_prefix (t.Sign s.Minus) op e = absurd (let none : None ≡ Some op = e in cc)
-called_no_prefix _ op e = refl
 
 module _ (src : List ℕ) where
   -- a list read by the number of its members
@@ -109,19 +106,20 @@ module _ (src : List ℕ) where
   }
 
   called_no_dist : (k : Tok) (op : Op) → called_op k ≡ Some op → (d : ℕ) (o : Token) → r.dist_by plain src d o k ≡ None
-  called_no_dist (t.Word w.SizeWord) op e d o = refl
-  called_no_dist (t.Word w.CondWord) op e d o = refl
-  called_no_dist _ op e d o = absurd (let none : None ≡ Some op = e in cc)
+  called_no_dist (t.Word w.UniformWord) op e d o = absurd (let none : None ≡ Some op = e in cc)
+  called_no_dist (t.Word w.ChooseWord) op e d o = absurd (let none : None ≡ Some op = e in cc)
+  called_no_dist (t.Word w.FlipWord) op e d o = absurd (let none : None ≡ Some op = e in cc)
+  called_no_dist _ op e d o = refl
 
   taken_call : (a b ts : List Token) (f p q : Token) (arity : ℕ) (op : Op) (x : ExprTree) (xs : List ExprTree) → IsCalled arity op f → IsSign s.ParenOpen p → Exprs src a x → Listed (x ∷ []) b xs → length xs ≡ arity → IsSign s.ParenClose q
       → ts ≡ a ++ (b ++ q ∷ []) → Taken src (f ∷ p ∷ ts) (expr_at f.start (Apply (row_of op) (exprs xs)))
   taken_call a b ts f p q arity op x xs c i e l n k w = record {
-    heads = heads_of f f.kind (p ∷ ts) refl (called_no_prefix f.kind op c.0) (called_no_dist f.kind op c.0);
+    heads = heads_of f f.kind (p ∷ ts) refl (called_no_prefix f.kind op (called_known f.kind op c.0)) (called_no_dist f.kind op (called_known f.kind op c.0));
     reads = record {
       depth = e.depth + l.lists.depth + l.counts.depth;
       takes = λ d de rest u. let close = stops_at 1 q (t.Sign s.ParenClose) rest (omega arith) k refl refl in
           ap (λ v. r.operand plain src (r.expr plain src d) (f ∷ p ∷ v)) (before_close a b q rest w)
-          ∙ step.operand_called src (r.expr plain src d) f op (p ∷ (a ++ (b ++ q ∷ rest))) c.0
+          ∙ step.operand_called src (r.expr plain src d) f op (p ∷ (a ++ (b ++ q ∷ rest))) (called_known f.kind op c.0)
           ∙ step.call_goes src (r.expr plain src d) f op p q x xs (a ++ (b ++ q ∷ rest)) (b ++ q ∷ rest) rest i
           (e.takes d (omega arith) (b ++ q ∷ rest) (l.lists.starts (q ∷ rest) close))
           (l.counts.counts d (omega arith) (arity_of op - 1) 0 (omega (arith, l.counts.long, c.1)) (q ∷ rest) close ∙ step.arguments_end src (r.expr plain src d) xs (q ∷ rest)) k;

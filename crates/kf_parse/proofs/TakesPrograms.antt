@@ -11,7 +11,7 @@ use Rattle.kf_ast.specs.TypeForms.{TypeForm}
 use Rattle.kf_ast.specs.Dists.{DistTree}
 use Rattle.kf_ast.specs.Stmts.{StmtTree, stmt_at, Skip, Assign, Observe, If, While, stmts}
 use Rattle.kf_ast.specs.Sources.{DeclTree, declared, ItemTree, SourceTree, source}
-use Rattle.kf_parse.specs.Operators.{infix_op}
+use Rattle.kf_parse.specs.OperatorTokens.{infix_op}
 use Rattle.kf_parse.specs.Tokens.{is}
 use Rattle.kf_parse.specs.Grammar.{IsSign, IsWord, IsName, named}
 use Rattle.kf_parse.specs.Programs as g

@@ -8,12 +8,14 @@ use Rattle.kf_lex.specs.declared.token.Tok.TheVariants as t
 use Rattle.kf_lex.specs.declared.token.Word.TheVariants as w
 use Rattle.kf_lex.specs.declared.token.Sign.TheVariants as s
 use Rattle.kf_ast.specs.Exprs.{ExprTree, expr_at, Number, Truth, Name, Apply, Tuple, SetOf, exprs, placed}
-use Rattle.kf_parse.specs.Operators.{infix_op, prefix_op, called_op, row_of, level_of, arity_of}
+use Rattle.kf_parse.specs.Operators.{row_of, level_of, arity_of}
+use Rattle.kf_parse.specs.OperatorTokens.{infix_op, prefix_op, called_op}
 use Rattle.kf_parse.specs.Tokens.{is}
 use Rattle.kf_parse.specs.Grammar.{IsSign, IsWord, IsNumber, IsName, IsInfix, IsPrefix, named, joined, prefixed, part_of}
 use Rattle.kf_parse.specs.Outcomes.{got, Parser, and_then, behind, where_true, pure, refuse, ◌>>=◌, repeat}
 use Rattle.kf_parse.specs.Plain.{plain}
 use Rattle.kf_parse.specs.Reading as r
+use Rattle.kf_parse.proofs.OperatorTokens.{infix_known, prefix_known}
 
 pub no_eqb : (a b : ℕ) → (a ≡ b → ⊥) → (a == b) ≡ false
 no_eqb a b ne = go (a == b) refl
@@ -32,7 +34,7 @@ prefix_at l op k e h = ap (r.binds_at l) e ∙ eq-eqb (level_of op) l h
 module _ (src : List ℕ) where
   -- an operator's step
   pub operation_goes : (next : Parser ExprTree) (l : ℕ) (o : Token) (op : Op) (x : ExprTree) → IsInfix l op o → r.operation plain src next l o x ≡ Some (next >>= (λ y. pure (joined op x y)))
-  operation_goes next l o op x i = ap (λ b. where_true b (next >>= (λ y. pure (plain.join (r.row_in (infix_op o.kind)) x y)))) (infix_at l op o.kind i.0 i.1) ∙ ap (λ v. Some (next >>= (λ y. pure (plain.join (r.row_in v) x y)))) i.0
+  operation_goes next l o op x i = ap (λ b. where_true b (next >>= (λ y. pure (plain.join (r.row_in (infix_op o.kind)) x y)))) (infix_at l op o.kind (infix_known o.kind op i.0) i.1) ∙ ap (λ v. Some (next >>= (λ y. pure (plain.join (r.row_in v) x y)))) (infix_known o.kind op i.0)
 
   pub operation_ends : (next : Parser ExprTree) (l : ℕ) (o : Token) (x : ExprTree) → r.binds_at l (infix_op o.kind) ≡ false → r.operation plain src next l o x ≡ None
   operation_ends next l o x off = ap (λ b. where_true b (next >>= (λ y. pure (plain.join (r.row_in (infix_op o.kind)) x y)))) off
@@ -60,9 +62,9 @@ module _ (src : List ℕ) where
   pub prefixed_goes : (next : Parser ExprTree) (l : ℕ) (o : Token) (op : Op) (x : ExprTree) (us rest : List Token) → IsPrefix l op o → next us ≡ got x rest → r.prefixed plain src next l (o ∷ us) ≡ got (prefixed o op x) rest
   unfolding r.prefixed
   prefixed_goes next l o op x us rest i e =
-      ap (λ b. behind (where_true b (next >>= (λ x'. pure (plain.apply o.start (r.row_in (prefix_op o.kind)) (plain.one x'))))) (r.infixed plain src next l) o us) (prefix_at l op o.kind i.0 i.1)
+      ap (λ b. behind (where_true b (next >>= (λ x'. pure (plain.apply o.start (r.row_in (prefix_op o.kind)) (plain.one x'))))) (r.infixed plain src next l) o us) (prefix_at l op o.kind (prefix_known o.kind op i.0) i.1)
       ∙ ap (λ v. and_then v (λ x'. pure (plain.apply o.start (r.row_in (prefix_op o.kind)) (plain.one x')))) e
-      ∙ ap (λ v. got (plain.apply o.start (r.row_in v) (plain.one x)) rest) i.0
+      ∙ ap (λ v. got (plain.apply o.start (r.row_in v) (plain.one x)) rest) (prefix_known o.kind op i.0)
 
   pub prefixed_infix : (next : Parser ExprTree) (l : ℕ) (o : Token) (x : ExprTree) (us rest : List Token) → r.binds_at l (prefix_op o.kind) ≡ false → next (o ∷ us) ≡ got x rest → r.prefixed plain src next l (o ∷ us) ≡ r.operations plain src next l x rest
   unfolding r.prefixed r.infixed
@@ -142,9 +144,13 @@ module _ (src : List ℕ) where
     operand_called o op us e = ap (λ v. behind v refuse o us) (by_kind o.kind e)
       where
         by_kind : (k : Tok) → called_op k ≡ Some op → r.operand_by plain src expr o k ≡ Some (r.call plain src expr o op)
-        by_kind (t.Word w.SizeWord) i = ap (r.called plain src expr o) i
-        by_kind (t.Word w.CondWord) i = ap (r.called plain src expr o) i
-        by_kind _ i = absurd (let none : None ≡ Some op = i in cc)
+        by_kind (t.Number n) i = absurd (let none : None ≡ Some op = i in cc)
+        by_kind t.Name i = absurd (let none : None ≡ Some op = i in cc)
+        by_kind (t.Word w.TrueWord) i = absurd (let none : None ≡ Some op = i in cc)
+        by_kind (t.Word w.FalseWord) i = absurd (let none : None ≡ Some op = i in cc)
+        by_kind (t.Sign s.ParenOpen) i = absurd (let none : None ≡ Some op = i in cc)
+        by_kind (t.Sign s.BraceOpen) i = absurd (let none : None ≡ Some op = i in cc)
+        by_kind k i = ap (r.called plain src expr o) i
 
     pub call_goes : (o : Token) (op : Op) (p q : Token) (x : ExprTree) (xs : List ExprTree) (us vs rest : List Token) → IsSign s.ParenOpen p → expr us ≡ got x vs → r.arguments plain src expr (arity_of op - 1) (x ∷ []) vs ≡ got xs (q ∷ rest) → IsSign s.ParenClose q
         → r.call plain src expr o op (p ∷ us) ≡ got (expr_at o.start (Apply (row_of op) (exprs xs))) rest

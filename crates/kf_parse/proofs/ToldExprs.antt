@@ -10,13 +10,15 @@ use Rattle.kf_lex.specs.declared.token.Tok.TheVariants as t
 use Rattle.kf_lex.specs.declared.token.Word.TheVariants as w
 use Rattle.kf_lex.specs.declared.token.Sign.TheVariants as s
 use Rattle.kf_ast.specs.Exprs.{ExprTree, expr_at, Number, Truth, Name, Apply, Tuple, SetOf, exprs, place, placed}
-use Rattle.kf_parse.specs.Operators.{infix_op, prefix_op, called_op, row_of, level_of, arity_of}
+use Rattle.kf_parse.specs.Operators.{row_of, level_of, arity_of}
+use Rattle.kf_parse.specs.OperatorTokens.{infix_op, prefix_op, called_op}
 use Rattle.kf_parse.specs.Grammar as g
 use Rattle.kf_parse.specs.Grammar.{IsSign, IsWord, IsNumber, IsName, IsInfix, IsPrefix, IsCalled, named, joined, prefixed, part_of, Parts, E, Chain, Operand, Others}
 use Rattle.kf_parse.specs.Tokens.{is}
 use Rattle.kf_parse.specs.Outcomes.{Parser, ◌>>=◌, pure, where_true}
 use Rattle.kf_parse.specs.Plain.{plain}
 use Rattle.kf_parse.specs.Reading as r
+use Rattle.kf_parse.proofs.OperatorTokens.{before_told, between_told, calling_told}
 use Rattle.kf_parse.proofs.Told.{Some_of, After, Reader, then_reads, deep_reads, pure_reads, done_reads, reads_as, first_or_reads, first_reads, where_true_some, token_of, expect_reads, repeat_reads}
 use Rattle.kf_parse.proofs.ToldTokens.{is_same}
 
@@ -69,7 +71,7 @@ module _ (src : List ℕ) where
       where
         by_op : (w : Option Op) → infix_op o.kind ≡ w → IfSome (where_true (r.binds_at l w) (next >>= (λ y. pure (expr_at (place x) (Apply (r.row_in w) (exprs (x ∷ y ∷ []))))))) (λ p. Reader (After (o ∷ []) G) p)
         by_op (Some op) e = where_true_some (level_of op == l) _ _ (λ h. then_reads (E src (suc l)) (After (o ∷ []) G) next (λ y. pure (joined op x y)) reads
-            (λ b y k. done_reads (After (o ∷ []) G) b (joined op x y) (made b y op (e, eqb-true (level_of op) l h) k)))
+            (λ b y k. done_reads (After (o ∷ []) G) b (joined op x y) (made b y op ((between_told o.kind op).0 e, eqb-true (level_of op) l h) k)))
         by_op None e = tt
 
     climb_reads : (x : ExprTree) → Reader (Chain src l x) (r.climb plain src next l x)
@@ -106,7 +108,7 @@ module _ (src : List ℕ) where
         by_op : (o : Token) (w : Option Op) → prefix_op o.kind ≡ w
             → IfSome (where_true (r.binds_at l w) (next >>= (λ x. pure (expr_at o.start (Apply (r.row_in w) (exprs (x ∷ []))))))) (λ p. Reader (After (o ∷ []) (E src l)) p)
         by_op o (Some op) e = where_true_some (level_of op == l) _ _ (λ h. then_reads (E src (suc l)) (After (o ∷ []) (E src l)) next (λ x. pure (prefixed o op x)) reads
-            (λ b x k. done_reads (After (o ∷ []) (E src l)) b (prefixed o op x) (g.prefix o op (e, eqb-true (level_of op) l h) k)))
+            (λ b x k. done_reads (After (o ∷ []) (E src l)) b (prefixed o op x) (g.prefix o op ((before_told o.kind op).0 e, eqb-true (level_of op) l h) k)))
         by_op o None e = tt
 
   module _ (expr : Parser ExprTree) (reads : Reader (E src 1) expr) where
@@ -166,11 +168,15 @@ module _ (src : List ℕ) where
         then_reads (More (x ∷ []) (arity_of u - 1) [] (x ∷ [])) _ (r.arguments plain src expr (arity_of u - 1) (x ∷ [])) _ (arguments_reads (x ∷ []) (arity_of u - 1) [] (x ∷ []) g.no_other) (λ b xs m.
         expect_reads _ (is (t.Sign s.ParenClose)) (λ q. pure (expr_at f.start (Apply (row_of u) (exprs xs)))) (t.Sign s.ParenClose) refl (λ q cl.
         pure_reads _ (expr_at f.start (Apply (row_of u) (exprs xs)))
-        (g.call f p q u (c, refl) (is_same (t.Sign s.ParenOpen) p.kind o) e m.0 (m.1 ∙ whole u) (is_same (t.Sign s.ParenClose) q.kind cl) refl)))))
+        (g.call f p q u ((calling_told f.kind u).0 c, refl) (is_same (t.Sign s.ParenOpen) p.kind o) e m.0 (m.1 ∙ whole u) (is_same (t.Sign s.ParenClose) q.kind cl) refl)))))
       where
         whole : (u : Op) → 1 + (arity_of u - 1) ≡ arity_of u
         whole op.Or = refl
         whole _ = refl
+
+    called_reads : (o : Token) (k : Tok) → o.kind ≡ k → (v : Option Op) → called_op k ≡ v → IfSome (r.called plain src expr o v) (λ p. Reader (After (o ∷ []) (Operand src)) p)
+    called_reads o k is (Some u) h = call_reads o u (ap called_op is ∙ h)
+    called_reads o k is None h = tt
 
     operand_by_reads : (o : Token) (k : Tok) → o.kind ≡ k → IfSome (r.operand_by plain src expr o k) (λ p. Reader (After (o ∷ []) (Operand src)) p)
     operand_by_reads o (t.Number k) is = pure_reads _ (expr_at o.start (Number k)) (g.number o is)
@@ -179,9 +185,7 @@ module _ (src : List ℕ) where
     operand_by_reads o (t.Word w.FalseWord) is = pure_reads _ (expr_at o.start (Truth false)) (g.untruth o is)
     operand_by_reads o (t.Sign s.ParenOpen) is = in_parens_reads o is
     operand_by_reads o (t.Sign s.BraceOpen) is = in_braces_reads o is
-    operand_by_reads o (t.Word w.SizeWord) is = call_reads o op.Size (ap called_op is)
-    operand_by_reads o (t.Word w.CondWord) is = call_reads o op.Cond (ap called_op is)
-    operand_by_reads o _ is = tt
+    operand_by_reads o k is = called_reads o k is (called_op k) refl
 
     operand_reads : Reader (Operand src) (r.operand plain src expr)
     unfolding r.operand

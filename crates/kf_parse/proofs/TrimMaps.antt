@@ -9,7 +9,7 @@ use Rattle.kf_lex.specs.declared.token.Sign.TheVariants as s
 use Rattle.kf_ast.specs.Names.{NameTree}
 use Rattle.kf_ast.specs.TypeForms.{TypeForm}
 use Rattle.kf_ast.specs.Sources.{ItemTree}
-use Rattle.kf_parse.specs.Operators.{prefix_op, called_op}
+use Rattle.kf_parse.specs.OperatorTokens.{prefix_op, called_op}
 use Rattle.kf_parse.specs.Grammar.{named}
 use Rattle.kf_parse.specs.Tokens.{is}
 use Rattle.kf_parse.specs.Outcomes.{Parser, ◌>>=◌, pure, expect}

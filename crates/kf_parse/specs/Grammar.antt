@@ -1,6 +1,6 @@
 -- Believed: the grammar of expressions, types and distributions: which tokens make which tree, by cases. The premises of a rule stand in
 -- the order of its tokens, and then how they are put together.
-use Rattle.std.specs.Prelude.{◌≡◌, ℕ, suc, ℤ, pos, neg_ℤ, true, false, Some, List, [], ◌∷◌, ◌++◌, length, slice_range}
+use Rattle.std.specs.Prelude.{◌≡◌, ℕ, suc, ℤ, pos, neg_ℤ, true, false, List, [], ◌∷◌, ◌++◌, length, slice_range}
 use Rattle.kf_lex.specs.declared.token.Token.{Token}
 use Rattle.kf_lex.specs.declared.token.Tok.TheVariants as t
 use Rattle.kf_lex.specs.declared.token.Word.{Word}
@@ -13,7 +13,7 @@ use Rattle.kf_ast.specs.TypeForms.{TypeForm, type_at, Boolean, Range, TupleOf, t
 use Rattle.kf_ast.specs.TypeForms as of_type
 use Rattle.kf_ast.specs.Exprs.{ExprTree, expr_at, Number, Truth, Name, Apply, Tuple, SetOf, Part, exprs, place, placed}
 use Rattle.kf_ast.specs.Dists.{CaseTree, case_of, DistTree, dist_at, Sure, UniformSet, UniformRange, Choose, Flip}
-use Rattle.kf_parse.specs.Operators.{infix_op, prefix_op, called_op, row_of, level_of, arity_of}
+use Rattle.kf_parse.specs.Operators.{IsBetween, IsBefore, IsCalling, row_of, level_of, arity_of}
 
 abbrev pub IsSign : Sign → Token → Type 0
 IsSign sign o = o.kind ≡ t.Sign sign
@@ -29,14 +29,14 @@ IsName o = o.kind ≡ t.Name
 
 -- a token is an operator of a level between two operands, or before one
 abbrev pub IsInfix : ℕ → Op → Token → Type 0
-IsInfix l op o = (infix_op o.kind ≡ Some op) × (level_of op ≡ l)
+IsInfix l op o = IsBetween o.kind op × (level_of op ≡ l)
 
 abbrev pub IsPrefix : ℕ → Op → Token → Type 0
-IsPrefix l op o = (prefix_op o.kind ≡ Some op) × (level_of op ≡ l)
+IsPrefix l op o = IsBefore o.kind op × (level_of op ≡ l)
 
 -- a token is an operator that takes so many arguments in parentheses
 abbrev pub IsCalled : ℕ → Op → Token → Type 0
-IsCalled arity op o = (called_op o.kind ≡ Some op) × (arity_of op ≡ arity)
+IsCalled arity op o = IsCalling o.kind op × (arity_of op ≡ arity)
 
 -- the name whose text is the token's slice of the source
 abbrev pub named : List ℕ → Token → NameTree

@@ -1,58 +1,46 @@
--- For bodies: how the operators of the table are written in a source.
-use Rattle.std.specs.Prelude.{◌≡◌, ◌≤◌, ℕ, slice_get, List, [], Option, Some, None, codes}
-use Rattle.kf_ops.specs.Rows.{Row, operators}
+-- For bodies: the operator that a token is, as a function, and the laws of operators and their tokens.
+use Rattle.std.specs.Prelude.{◌≡◌, ◌≤◌, ◌↔◌, ◌&&◌, ◌==◌, nat_lt, ℕ, Bool, if◌then◌else◌, Option, Some, None}
 use Rattle.kf_ops.specs.declared.row.Op.{Op}
 use Rattle.kf_ops.specs.declared.row.Op.TheVariants as op
 use Rattle.kf_lex.specs.declared.token.Tok.{Tok}
-use Rattle.kf_lex.specs.Lexemes.{Spells}
-use Rattle.kf_parse.specs.Operators.{infix_op, prefix_op, called_op, row_of, level_of, arity_of}
+use Rattle.kf_lex.specs.declared.token.Tok.TheVariants as t
+use Rattle.kf_lex.specs.declared.token.Sign.TheVariants as s
+use Rattle.kf_lex.specs.Operators.{operator_of}
+use Rattle.kf_parse.specs.Operators.{IsBetween, IsBefore, IsCalling, level_of, arity_of}
 
--- the word of a row, and no letters where there is none
-abbrev pub word_in : Option Row → List ℕ
-word_in None = []
-word_in (Some row) = row.word
+-- the operator, where it passes the test
+abbrev pub passed : (Op → Bool) → Option Op → Option Op
+passed test None = None
+passed test (Some op) = if test op then Some op else None
 
--- the word of an operator in the table
-abbrev pub word_of : Op → List ℕ
-word_of op = word_in (slice_get operators (row_of op))
+-- it takes so many arguments, and binds looser than those before parentheses
+abbrev pub is_written_with : ℕ → Op → Bool
+is_written_with n op = (arity_of op == n) && nat_lt (level_of op) 8
 
--- how an operator is written before an operand: as its word, but for the minus, whose word in the table is `~`
-abbrev pub prefix_word : Op → List ℕ
-prefix_word op.Negate = codes "-"
-prefix_word op = word_of op
+-- the operator that a token is between two operands
+abbrev pub infix_op : Tok → Option Op
+infix_op k = passed (is_written_with 2) (operator_of k)
 
--- a token that stands for an operator of two arguments between them
-pub record IsInfixToken (k : Tok) (op : Op) : Type 0 where
-  pub spelled : Spells k (word_of op)
-  pub two : arity_of op ≡ 2
-  pub low : 1 ≤ level_of op
-  pub high : level_of op ≤ 7
+-- the operator that it may be before an operand
+abbrev pub operator_before : Tok → Option Op
+operator_before (t.Sign s.Minus) = Some op.Negate
+operator_before k = operator_of k
 
--- a token that stands for an operator of one argument before it
-pub record IsPrefixToken (k : Tok) (op : Op) : Type 0 where
-  pub spelled : Spells k (prefix_word op)
-  pub one : arity_of op ≡ 1
+abbrev pub prefix_op : Tok → Option Op
+prefix_op k = passed (is_written_with 1) (operator_before k)
 
--- a token that stands for an operator before its arguments in parentheses
-pub record IsCalledToken (k : Tok) (op : Op) : Type 0 where
-  pub spelled : Spells k (word_of op)
-  pub high : level_of op ≡ 8
+-- the operator that it is before arguments in parentheses
+abbrev pub called_op : Tok → Option Op
+called_op k = passed (λ op. level_of op == 8) (operator_of k)
 
-abbrev pub InfixTokens : Type 0
-InfixTokens = (k : Tok) (op : Op) → infix_op k ≡ Some op → IsInfixToken k op
+-- these functions tell exactly the operators of the definitions
+pub record AreTold : Type 0 where
+  pub between : (k : Tok) (op : Op) → (infix_op k ≡ Some op) ↔ IsBetween k op
+  pub before : (k : Tok) (op : Op) → (prefix_op k ≡ Some op) ↔ IsBefore k op
+  pub calling : (k : Tok) (op : Op) → (called_op k ≡ Some op) ↔ IsCalling k op
 
-abbrev pub PrefixTokens : Type 0
-PrefixTokens = (k : Tok) (op : Op) → prefix_op k ≡ Some op → IsPrefixToken k op
-
-abbrev pub CalledTokens : Type 0
-CalledTokens = (k : Tok) (op : Op) → called_op k ≡ Some op → IsCalledToken k op
-
--- and the other way round: no operator is forgotten
-abbrev pub EachBetween : Type 0
-EachBetween = (op : Op) → arity_of op ≡ 2 → level_of op ≤ 7 → (k : Tok) × (infix_op k ≡ Some op)
-
-abbrev pub EachBefore : Type 0
-EachBefore = (op : Op) → arity_of op ≡ 1 → level_of op ≤ 7 → (k : Tok) × (prefix_op k ≡ Some op)
-
-abbrev pub EachCalled : Type 0
-EachCalled = (op : Op) → level_of op ≡ 8 → (k : Tok) × (called_op k ≡ Some op)
+-- no operator is without a token
+pub record HaveTokens : Type 0 where
+  pub between : (op : Op) → arity_of op ≡ 2 → level_of op ≤ 7 → (k : Tok) × IsBetween k op
+  pub before : (op : Op) → arity_of op ≡ 1 → level_of op ≤ 7 → (k : Tok) × IsBefore k op
+  pub calling : (op : Op) → level_of op ≡ 8 → (k : Tok) × IsCalling k op

@@ -1,13 +1,11 @@
--- Believed: which operator a token stands for, by where it stands. How tightly it binds is read from the operator table.
-use Rattle.std.specs.Prelude.{ℕ, slice_get, Option, Some, None}
+-- Believed: which operator a token stands for, by where it stands. All of it is read from the operator table.
+use Rattle.std.specs.Prelude.{◌≡◌, ◌≤◌, ℕ, slice_get, List, [], Option, Some, None, codes}
 use Rattle.kf_ops.specs.Rows.{Row, operators}
 use Rattle.kf_ops.specs.Places.{number_of}
 use Rattle.kf_ops.specs.declared.row.Op.{Op}
 use Rattle.kf_ops.specs.declared.row.Op.TheVariants as op
 use Rattle.kf_lex.specs.declared.token.Tok.{Tok}
-use Rattle.kf_lex.specs.declared.token.Tok.TheVariants as t
-use Rattle.kf_lex.specs.declared.token.Word.TheVariants as w
-use Rattle.kf_lex.specs.declared.token.Sign.TheVariants as s
+use Rattle.kf_lex.specs.Lexemes.{Spells}
 
 -- the row of an operator in the table, counted from 0
 abbrev pub row_of : Op → ℕ
@@ -26,35 +24,33 @@ level_of op = in_row (λ row. row.level) (slice_get operators (row_of op))
 abbrev pub arity_of : Op → ℕ
 arity_of op = in_row (λ row. row.arity) (slice_get operators (row_of op))
 
--- the operator that a token is between two operands
-abbrev pub infix_op : Tok → Option Op
-infix_op (t.Word w.OrWord) = Some op.Or
-infix_op (t.Word w.AndWord) = Some op.And
-infix_op (t.Sign s.Equal) = Some op.Equal
-infix_op (t.Sign s.NotEqual) = Some op.NotEqual
-infix_op (t.Sign s.Less) = Some op.Less
-infix_op (t.Sign s.AtMost) = Some op.AtMost
-infix_op (t.Sign s.Greater) = Some op.Greater
-infix_op (t.Sign s.AtLeast) = Some op.AtLeast
-infix_op (t.Word w.InWord) = Some op.Elem
-infix_op (t.Sign s.Plus) = Some op.Add
-infix_op (t.Sign s.Minus) = Some op.Subtract
-infix_op (t.Word w.UnionWord) = Some op.Union
-infix_op (t.Word w.LessWord) = Some op.Without
-infix_op (t.Sign s.Star) = Some op.Multiply
-infix_op (t.Word w.DivWord) = Some op.Div
-infix_op (t.Word w.ModWord) = Some op.Mod
-infix_op (t.Word w.InterWord) = Some op.Inter
-infix_op _ = None
+-- the word of a row, and no letters where there is none
+abbrev pub word_in : Option Row → List ℕ
+word_in None = []
+word_in (Some row) = row.word
 
--- the operator that it is before an operand
-abbrev pub prefix_op : Tok → Option Op
-prefix_op (t.Word w.NotWord) = Some op.Not
-prefix_op (t.Sign s.Minus) = Some op.Negate
-prefix_op _ = None
+-- its word
+abbrev pub word_of : Op → List ℕ
+word_of op = word_in (slice_get operators (row_of op))
 
--- the operator that it is before arguments in parentheses
-abbrev pub called_op : Tok → Option Op
-called_op (t.Word w.SizeWord) = Some op.Size
-called_op (t.Word w.CondWord) = Some op.Cond
-called_op _ = None
+-- how it is written before an operand: as its word, but for the minus, whose word in the table is `~`
+abbrev pub prefix_word : Op → List ℕ
+prefix_word op.Negate = codes "-"
+prefix_word op = word_of op
+
+-- the token is this operator between two operands
+pub record IsBetween (k : Tok) (op : Op) : Type 0 where
+  pub spelled : Spells k (word_of op)
+  pub two : arity_of op ≡ 2
+  pub low : level_of op ≤ 7
+
+-- the token is this operator before its operand
+pub record IsBefore (k : Tok) (op : Op) : Type 0 where
+  pub spelled : Spells k (prefix_word op)
+  pub one : arity_of op ≡ 1
+  pub low : level_of op ≤ 7
+
+-- the token is this operator before its arguments in parentheses
+pub record IsCalling (k : Tok) (op : Op) : Type 0 where
+  pub spelled : Spells k (word_of op)
+  pub high : level_of op ≡ 8

@@ -1,5 +1,5 @@
 //! Laws of the grammar: small functions whose contracts are facts about tokens and programs.
-ghost use Rattle.kf_parse.specs.OperatorTokens.{CalledTokens, EachBefore, EachBetween, EachCalled, InfixTokens, PrefixTokens};
+ghost use Rattle.kf_parse.specs.OperatorTokens.{AreTold, HaveTokens};
 ghost use Rattle.kf_parse.specs.Laws.{ClosesAll, KindsAlone, NotBoth, OneProgram, OneRefusal, OnlyBuilt, ParsedOrRefused, StandsFirst};
 
 /// The grammar is unambiguous: the tokens of a source are those of one program at most, so that there is one tree to
@@ -23,16 +23,11 @@ pub fn refusals()
     ensures refusal { OneRefusal }
 {}
 
-/// The token that stands for an operator is spelled as the operator's word in the table says, but for the prefix `-`, whose
-/// word there is `~`. Operators between operands take two arguments and bind looser than those before parentheses; operators
-/// before an operand take one. And each operator has such a token: that of two arguments which binds looser than those before
-/// parentheses has one between operands, that of one argument has one before its operand, and the others have one before
-/// parentheses. It does nothing when it runs.
+/// What a token is between operands, before an operand and before parentheses, as the parser tells it, is what the definitions say.
+/// And each operator has such a token: that of two arguments which binds looser than those before parentheses has one between
+/// operands, that of one argument has one before its operand, and the others have one before parentheses. It does nothing when it
+/// runs.
 pub fn operator_tokens()
-    ensures between { InfixTokens }
-    ensures before { PrefixTokens }
-    ensures called { CalledTokens }
-    ensures each_between { EachBetween }
-    ensures each_before { EachBefore }
-    ensures each_called { EachCalled }
+    ensures told { AreTold }
+    ensures each { HaveTokens }
 {}

@@ -1,33 +1,20 @@
 ghost use Rattle.std.specs.Prelude.{◌≡◌};
-ghost use Rattle.kf_parse.specs.Operators.{infix_op, prefix_op, called_op, arity_of, level_of, row_of};
+ghost use Rattle.kf_parse.specs.Operators.{arity_of, level_of, row_of};
+ghost use Rattle.kf_parse.specs.OperatorTokens.{called_op, infix_op, is_written_with, operator_before, prefix_op};
 ghost use Rattle.kf_parse.specs.Reading as r;
 
-use kf_lex::{Sign, Tok, Word};
+use kf_lex::{Sign, Tok, operator_of};
 use kf_ops::{Op, operator_row};
 
 /// The operator that a token is between two operands.
 pub(crate) fn infix(kind: Tok) -> Option<Op>
     ensures { result ≡ infix_op kind }
 {
-    match kind {
-        Tok::Word(Word::OrWord) => Some(Op::Or),
-        Tok::Word(Word::AndWord) => Some(Op::And),
-        Tok::Sign(Sign::Equal) => Some(Op::Equal),
-        Tok::Sign(Sign::NotEqual) => Some(Op::NotEqual),
-        Tok::Sign(Sign::Less) => Some(Op::Less),
-        Tok::Sign(Sign::AtMost) => Some(Op::AtMost),
-        Tok::Sign(Sign::Greater) => Some(Op::Greater),
-        Tok::Sign(Sign::AtLeast) => Some(Op::AtLeast),
-        Tok::Word(Word::InWord) => Some(Op::Elem),
-        Tok::Sign(Sign::Plus) => Some(Op::Add),
-        Tok::Sign(Sign::Minus) => Some(Op::Subtract),
-        Tok::Word(Word::UnionWord) => Some(Op::Union),
-        Tok::Word(Word::LessWord) => Some(Op::Without),
-        Tok::Sign(Sign::Star) => Some(Op::Multiply),
-        Tok::Word(Word::DivWord) => Some(Op::Div),
-        Tok::Word(Word::ModWord) => Some(Op::Mod),
-        Tok::Word(Word::InterWord) => Some(Op::Inter),
-        _ => None,
+    let op = operator_of(kind)?;
+    if is_written_with(2, op) {
+        Some(op)
+    } else {
+        None
     }
 }
 
@@ -35,10 +22,11 @@ pub(crate) fn infix(kind: Tok) -> Option<Op>
 pub(crate) fn prefix(kind: Tok) -> Option<Op>
     ensures { result ≡ prefix_op kind }
 {
-    match kind {
-        Tok::Word(Word::NotWord) => Some(Op::Not),
-        Tok::Sign(Sign::Minus) => Some(Op::Negate),
-        _ => None,
+    let op = operator_before(kind)?;
+    if is_written_with(1, op) {
+        Some(op)
+    } else {
+        None
     }
 }
 
@@ -46,11 +34,25 @@ pub(crate) fn prefix(kind: Tok) -> Option<Op>
 pub(crate) fn called(kind: Tok) -> Option<Op>
     ensures { result ≡ called_op kind }
 {
+    let op = operator_of(kind)?;
+    if level(op) == 8 { Some(op) } else { None }
+}
+
+/// The operator that a token may be before an operand. The word of the prefix `-` in the table is `~`.
+fn operator_before(kind: Tok) -> Option<Op>
+    ensures { result ≡ operator_before kind }
+{
     match kind {
-        Tok::Word(Word::SizeWord) => Some(Op::Size),
-        Tok::Word(Word::CondWord) => Some(Op::Cond),
-        _ => None,
+        Tok::Sign(Sign::Minus) => Some(Op::Negate),
+        _ => operator_of(kind),
     }
+}
+
+/// Whether it takes so many arguments, and binds looser than the operators before parentheses.
+fn is_written_with(count: u8, op: Op) -> bool
+    ensures { result ≡ is_written_with count op }
+{
+    arity(op) == count && level(op) < 8
 }
 
 /// How tightly an operator binds.

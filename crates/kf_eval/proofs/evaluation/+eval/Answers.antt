@@ -10,7 +10,7 @@ use Rattle.kf_core.specs.Evaluation.{Evaluated}
 use Rattle.kf_ops.specs.declared.row.Op.TheVariants as op
 use Rattle.kf_eval.specs.Answers.{Answers}
 use Rattle.kf_eval.specs.Kinds.{shape_kinds}
-use Rattle.kf_eval.proofs.Checking.{calls_row, needed, each_kinded, parts_kinded, members_kinded, fits_row, has_part, store_kinds, slot_within, slot_value, or_first, and_first, cond_second, row_value_is, row_fault_is, values_start, values_step, values_fault, values_end}
+use Rattle.kf_eval.proofs.Checking.{calls_row, needed, row_within, each_kinded, parts_kinded, members_kinded, fits_row, has_part, store_kinds, slot_within, slot_value, or_first, and_first, cond_second, row_value_is, row_fault_is, values_start, values_step, values_fault, values_end}
 use Rattle.kf_eval.proofs.evaluation.+eval.Goals as goal
 
 pub or-returns-then-is_true : goal.or-returns-then-is_true
@@ -28,6 +28,12 @@ cond-returns-then-is_true t c =
     let same = cond_second (store_at (shape_types c.args.shape.now) c.args.store) c.args.args.now c.index-args-0.result c.index-args-1.result (value_tree c.in_ok-test.test) c.requires.three
     c.index-args-0.is c.index-args-1.is c.in_ok-test.ensures (sym c.is_true.ensures ∙ c.if-is_true.true) in
     subst (λ (e : Evaluated). Answers c.value_of-then-is_true.result e) (sym same) c.value_of-then-is_true.ensures
+
+pub operation-code_at-requires : goal.operation-code_at-requires
+operation-code_at-requires t c =
+    let ks = shape_kinds c.args.shape.now in
+    let xs = map ex_tree c.args.args.now in
+    row_within ks c.args.row xs (calls_row ks c.args.row xs c.requires.kinded)
 
 pub operation-or-requires : goal.operation-or-requires
 operation-or-requires t c =

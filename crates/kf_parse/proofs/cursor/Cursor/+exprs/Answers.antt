@@ -1,7 +1,7 @@
 use Rattle.std.proofs.Common.{rules, arith, ◌≡◌, ◌-◌, ◌+◌, ◌∷◌, ◌∙◌, sym, ap}
 use Rattle.std.proofs.lemmas.Result.{err_from_is_err_and}
 use Rattle.kf_parse.specs.Views.{cut_of, cuts_of}
-use Rattle.kf_parse.specs.Operators.{infix_op}
+use Rattle.kf_parse.specs.OperatorTokens.{infix_op}
 use Rattle.kf_parse.specs.Reading as r
 use Rattle.kf_parse.specs.Outcomes.{got}
 use Rattle.kf_parse.specs.Trimmed.{trimmed}

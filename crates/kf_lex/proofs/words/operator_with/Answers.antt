@@ -1,14 +1,14 @@
 use Rattle.std.proofs.Common.{◌≡◌, ◌∙◌, ℕ, List, Option, sym, subst}
 use Rattle.kf_ops.specs.Rows.{Row, operators}
 use Rattle.kf_ops.specs.Views.{row_of, rows_of}
-use Rattle.kf_lex.specs.Words.{operator_word}
-use Rattle.kf_lex.specs.declared.token.Word.{Word}
+use Rattle.kf_ops.specs.declared.row.Op.{Op}
+use Rattle.kf_lex.specs.Words.{operator_with}
 use Rattle.kf_lex.proofs.Spelling.{differs, found, unchosen}
-use Rattle.kf_lex.proofs.words.operator_word.Goals as goal
+use Rattle.kf_lex.proofs.words.operator_with.Goals as goal
 
 -- what is said of the table's rows is said of the operators
-along : (text : List ℕ) (rows : List Row) (w : Option Word) → rows ≡ operators → w ≡ operator_word rows text → w ≡ operator_word operators text
-along text rows w e h = subst (λ rs. w ≡ operator_word rs text) e h
+along : (text : List ℕ) (rows : List Row) (o : Option Op) → rows ≡ operators → o ≡ operator_with rows text → o ≡ operator_with operators text
+along text rows o e h = subst (λ rs. o ≡ operator_with rs text) e h
 
 pub returns-in_err-row : goal.returns-in_err-row
 returns-in_err-row c =
@@ -20,4 +20,4 @@ pub returns : goal.returns
 returns c =
     let text = c.args.text.now in
     along text (rows_of c.operators-table.result) _ c.operators-table.ensures
-    (found row_of text c.operators-table.result _ _ _ (sym c.in_ok-row.ensures.computed) c.word_of.ensures)
+    (found row_of text c.operators-table.result _ _ (sym c.in_ok-row.ensures.computed))

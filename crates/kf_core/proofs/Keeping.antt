@@ -193,6 +193,7 @@ carry op.Cond = record { there = (tt, two); keeps = λ keeps. cond_keeps }
 carry op.Not = carries _ one (λ es. refl)
 carry op.Negate = carries _ one (λ es. refl)
 carry op.Size = carries _ one (λ es. refl)
+carry op.Abs = carries _ one (λ es. refl)
 carry _ = carries _ two (λ es. refl)
 
 rows_carry : Each Carries operators

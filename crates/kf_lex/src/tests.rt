@@ -102,7 +102,8 @@ fn tokens_of_texts(rt: HostRuntime) {
 #[test]
 fn every_word(rt: HostRuntime) {
     let text = "var bool set of about old skip observe if else while uniform \
-                choose flip true false or and not in union less div mod inter size cond";
+                choose flip true false or and not in union less div mod inter size cond \
+                xor implies subset min max abs";
     let words = [
         word(Word::VarWord, 0, 3),
         word(Word::BoolWord, 4, 8),
@@ -131,6 +132,12 @@ fn every_word(rt: HostRuntime) {
         word(Word::InterWord, 117, 122),
         word(Word::SizeWord, 123, 127),
         word(Word::CondWord, 128, 132),
+        word(Word::XorWord, 133, 136),
+        word(Word::ImpliesWord, 137, 144),
+        word(Word::SubsetWord, 145, 151),
+        word(Word::MinWord, 152, 155),
+        word(Word::MaxWord, 156, 159),
+        word(Word::AbsWord, 160, 163),
     ];
     assert!(rt; has_tokens(rt.alloc(), text.as_bytes(), &words));
 }
@@ -144,7 +151,7 @@ fn tells(rt: &impl Abort, kind: Tok, op: Option<Op>) {
 fn operators_of_tokens(rt: HostRuntime) {
     tells(&rt, Tok::Word(Word::OrWord), Some(Op::Or));
     tells(&rt, Tok::Word(Word::LessWord), Some(Op::Without));
-    tells(&rt, Tok::Word(Word::CondWord), Some(Op::Cond));
+    tells(&rt, Tok::Word(Word::AbsWord), Some(Op::Abs));
     tells(&rt, Tok::Sign(Sign::AtLeast), Some(Op::AtLeast));
     tells(&rt, Tok::Sign(Sign::Minus), Some(Op::Subtract));
     tells(&rt, Tok::Word(Word::FalseWord), None);

@@ -53,6 +53,12 @@ pub enum Word {
     InterWord,
     SizeWord,
     CondWord,
+    XorWord,
+    ImpliesWord,
+    SubsetWord,
+    MinWord,
+    MaxWord,
+    AbsWord,
 }
 
 /// The signs: `:=` `:` `;` `,` `(` `)` `{` `}` `..` `.` `/` `=` `!=` `<=` `<` `>=` `>` `+` `-` `*`.

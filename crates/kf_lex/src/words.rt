@@ -64,7 +64,7 @@ fn own_word(text: &str) -> Option<Word>
 }
 
 /// The operators that are written with letters, each with its word. The letters stand in the operator's row.
-pub(crate) const OPERATOR_WORDS: [(Op, Word); 11] = [
+pub(crate) const OPERATOR_WORDS: [(Op, Word); 17] = [
     (Op::Or, Word::OrWord),
     (Op::And, Word::AndWord),
     (Op::Not, Word::NotWord),
@@ -76,6 +76,12 @@ pub(crate) const OPERATOR_WORDS: [(Op, Word); 11] = [
     (Op::Inter, Word::InterWord),
     (Op::Size, Word::SizeWord),
     (Op::Cond, Word::CondWord),
+    (Op::Xor, Word::XorWord),
+    (Op::Implies, Word::ImpliesWord),
+    (Op::Subset, Word::SubsetWord),
+    (Op::Min, Word::MinWord),
+    (Op::Max, Word::MaxWord),
+    (Op::Abs, Word::AbsWord),
 ];
 
 /// The word of an operator, where it is written with letters.

@@ -1,7 +1,7 @@
 -- From fitting arguments comes a value that fits the row's result.
 use Rattle.std.proofs.Common.{ℤ, pos, ◌+ℤ◌, ◌-ℤ◌, ◌*ℤ◌, neg_ℤ, Bool, true, false, not, List, [], ◌∷◌, IfOk, Result, Ok, Err}
 use Rattle.std.specs.Int.{int_div_euclid, int_rem_euclid}
-use Rattle.std.specs.Prelude.{if◌then◌else◌}
+use Rattle.std.specs.Prelude.{if◌then◌else◌, unsigned_abs}
 use Rattle.std.specs.Ordering.{int_eq}
 use Rattle.std.specs.List.{AllByRecursion as Each, filter}
 use Rattle.std.specs.List.Sorted.{IsStrictlySortedBy}
@@ -120,6 +120,7 @@ keeps op.Inter = λ k. two k pat.SetOfAny op.Inter pat.SetOfAny pat.SetOfAny (λ
 keeps op.Negate = λ k. one k pat.Int op.Negate pat.Int (λ a ha. whole_fits (is_i64 (neg_ℤ (whole a))) k (neg_ℤ (whole a)))
 keeps op.Size = λ k. one k pat.Int op.Size pat.SetOfAny (λ a ha. (tt, tt))
 keeps op.Cond = λ k. three k pat.Any op.Cond pat.Bool pat.Any pat.Any (λ a b c ha hb hc. chosen_fits (truth a) k b c hb hc)
+keeps op.Abs = λ k. one k pat.Int op.Abs pat.Int (λ a ha. whole_fits (is_i64 (pos (unsigned_abs (whole a)))) k (pos (unsigned_abs (whole a))))
 keeps code = λ k. two k (row_at code).result code (arg_at code 0) (arg_at code 1) (λ a b ha hb. (tt, tt))
 
 pub keep_kinds : Each KeepsKinds operators

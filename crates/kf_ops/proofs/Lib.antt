@@ -11,4 +11,5 @@ mod OperatorLaws
 mod Readings
 mod SetLaws
 mod Sound
+mod Subsets
 mod Trials

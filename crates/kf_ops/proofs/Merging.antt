@@ -81,7 +81,7 @@ whole_second kept.Both w vs ws h = filtered-second (λ b. b) w vs ws h
 below_same : (v w : ValueTree) (vs : List ValueTree) → order v w ≡ Equal → Below v vs → Below w vs
 below_same v w vs e h = subst (λ u. Below u vs) (same v w e) h
 
-stepped : (k : Kept) {vs ws : List ValueTree} {side : Ordering} {v : ValueTree} {vs' ws' : List ValueTree}
+pub stepped : (k : Kept) {vs ws : List ValueTree} {side : Ordering} {v : ValueTree} {vs' ws' : List ValueTree}
     → IsNext vs ws side v vs' ws' → Ascends vs → Ascends ws → Stepped k vs ws side v vs' ws'
 stepped k (last_first v vs) av aw = record {
   first = sorted-tail order v vs av;

@@ -1,6 +1,6 @@
 -- Each row names the faults that it can have.
 use Rattle.std.proofs.Common.{◌≡◌, ℤ, pos, ◌+ℤ◌, ◌-ℤ◌, ◌*ℤ◌, neg_ℤ, Bool, true, false, List, [], ◌∷◌, refl, Result, Ok, Err}
-use Rattle.std.specs.Prelude.{if◌then◌else◌}
+use Rattle.std.specs.Prelude.{if◌then◌else◌, unsigned_abs}
 use Rattle.std.specs.Int.{int_rem_euclid}
 use Rattle.std.specs.Ordering.{int_eq}
 use Rattle.std.specs.List.{AllByRecursion as Each}
@@ -66,6 +66,7 @@ names op.Multiply = wide_row _ refl (λ a b c. wide_alone (is_i64 (whole a *ℤ 
 names op.Div = both_row _ refl refl
 names op.Mod = zero_row _ refl (λ a b c. zero_alone (int_eq (whole b) (pos 0)) (int_rem_euclid (whole a) (whole b)))
 names op.Negate = wide_row _ refl (λ a b c. wide_alone (is_i64 (neg_ℤ (whole a))) (neg_ℤ (whole a)))
+names op.Abs = wide_row _ refl (λ a b c. wide_alone (is_i64 (pos (unsigned_abs (whole a)))) (pos (unsigned_abs (whole a))))
 names _ = neither _ (λ f a b c h. (cc))
 
 pub name_faults : Each NamesFaults operators

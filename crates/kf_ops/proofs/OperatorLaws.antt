@@ -1,5 +1,5 @@
 -- What each operator gives, in the words of its subject.
-use Rattle.std.proofs.Common.{◌≡◌, ◌≢◌, ◌⊎◌, ◌↔◌, ⊎_elim, ◌^◌, ◌<◌, Bool, true, false, not, ◌&&◌, ◌||◌, T, ℤ, pos, negsuc, ◌+ℤ◌, ◌-ℤ◌, ◌*ℤ◌, neg_ℤ, ◌≤ℤ◌, ◌<ℤ◌, int_lt, int_le, List, [], ◌∷◌, length, Result, Ok, Err, refl, sym, ap, ◌∙◌, subst, arith}
+use Rattle.std.proofs.Common.{◌≡◌, ◌≢◌, ◌⊎◌, ◌↔◌, ⊎_elim, inl, inr, cond, suc, ◌^◌, ◌<◌, Bool, true, false, not, ◌&&◌, ◌||◌, T, ℤ, pos, negsuc, ◌+ℤ◌, ◌-ℤ◌, ◌*ℤ◌, neg_ℤ, ◌≤ℤ◌, ◌<ℤ◌, int_lt, int_le, List, [], ◌∷◌, length, Result, Ok, Err, refl, sym, ap, ◌∙◌, subst, arith}
 use Rattle.std.specs.Prelude.{if◌then◌else◌}
 use Rattle.std.specs.Int.{int_div_euclid, int_rem_euclid}
 use Rattle.std.specs.Int.Signed.{lt_z_yes, le_z_yes}
@@ -10,10 +10,12 @@ use Rattle.std.proofs.lemmas.Int.{ints}
 use Rattle.kf_value.specs.Values.{ValueTree, Truth, Whole, Set, parts, parts_list, is_equal}
 use Rattle.kf_value.specs.Laws.{IsIn}
 use Rattle.kf_value.proofs.Trees.{parts_list-parts}
-use Rattle.kf_ops.specs.Laws.{Gives, GivesOfTwo, IsNarrow, MakesSets, Tells}
-use Rattle.kf_ops.specs.Values.{Fault, DivZero, ArithWide, applied, both, either, is_i64, is_in, narrow, without}
+use Rattle.kf_ops.specs.Laws.{Gives, GivesOfTwo, IsNarrow, IsPicked, MakesSets, PicksOfTwo, Tells}
+use Rattle.kf_ops.specs.Values.{Fault, DivZero, ArithWide, applied, are_in, both, either, is_i64, is_in, narrow, without}
+use Rattle.kf_ops.specs.declared.row.Op.{Op}
 use Rattle.kf_ops.specs.declared.row.Op.TheVariants as op
 use Rattle.kf_ops.proofs.SetLaws.{equal_values, holds, not_both, not_from, union_law, without_law, both_law}
+use Rattle.kf_ops.proofs.Subsets.{all_in}
 
 -- ---- Booleans
 
@@ -46,6 +48,24 @@ and_true a b = tells (a && b) ((a ≡ true) × (b ≡ true)) (both_hold a b)
 
 pub not_true : (a : Bool) → Tells op.Not (Truth a ∷ []) (a ≡ false)
 not_true a = tells (not a) (a ≡ false) (not_holds a)
+
+exactly_one : (a b : Bool) → ((if a then not b else b) ≡ true) ↔ (a ≢ b)
+exactly_one true true = (λ h. absurd (cc), λ differ. absurd (differ refl))
+exactly_one true false = (λ h e. (cc), λ differ. refl)
+exactly_one false true = (λ h e. (cc), λ differ. refl)
+exactly_one false false = (λ h. absurd (cc), λ differ. absurd (differ refl))
+
+follows : (a b : Bool) → ((b || not a) ≡ true) ↔ (a ≡ true → b ≡ true)
+follows true true = (λ h e. refl, λ f. refl)
+follows true false = (λ h. absurd (cc), λ f. f refl)
+follows false true = (λ h e. refl, λ f. refl)
+follows false false = (λ h e. absurd (cc), λ f. refl)
+
+pub xor_true : (a b : Bool) → Tells op.Xor (Truth a ∷ Truth b ∷ []) (a ≢ b)
+xor_true a b = tells (if a then not b else b) (a ≢ b) (exactly_one a b)
+
+pub implies_true : (a b : Bool) → Tells op.Implies (Truth a ∷ Truth b ∷ []) (a ≡ true → b ≡ true)
+implies_true a b = tells (b || not a) (a ≡ true → b ≡ true) (follows a b)
 
 -- ---- equality and order
 
@@ -107,6 +127,13 @@ intersection_made vs ws hv hw = (both vs ws, made both vs ws, both_law vs ws hv 
 pub elements_counted : (vs : List ValueTree) → applied op.Size (Set (parts vs) ∷ []) ≡ Ok (Whole (pos (length vs)))
 elements_counted vs = ap (λ us. Given (Whole (pos (length us)))) (parts_list-parts vs)
 
+pub subset_true : (vs ws : List ValueTree) → Tells op.Subset (Set (parts vs) ∷ Set (parts ws) ∷ []) ((v : ValueTree) → IsIn v vs → IsIn v ws)
+subset_true vs ws =
+    let listed : are_in (parts_list (parts vs)) (parts_list (parts ws)) ≡ are_in vs ws =
+    ap (λ us. are_in us (parts_list (parts ws))) (parts_list-parts vs) ∙ ap (are_in vs) (parts_list-parts ws) in
+    tells (are_in (parts_list (parts vs)) (parts_list (parts ws))) ((v : ValueTree) → IsIn v vs → IsIn v ws)
+    (subst (λ b. (b ≡ true) ↔ ((v : ValueTree) → IsIn v vs → IsIn v ws)) (sym listed) (all_in vs ws))
+
 -- ---- whole numbers
 
 pub narrow_told : (z : ℤ) → (is_i64 z ≡ true) ↔ IsNarrow z
@@ -149,3 +176,38 @@ quotient i j some =
 
 pub remainder : (i j : ℤ) → j ≢ pos 0 → applied op.Mod (Whole i ∷ Whole j ∷ []) ≡ Ok (Whole (int_rem_euclid i j))
 remainder i j some = sym (divided (int_eq j (pos 0)) j (Given (Whole (int_rem_euclid i j))) (Decides-int_eq j (pos 0)).0 some)
+
+picked : {R : ℤ → ℤ → Type 0} (code : Op) (i j : ℤ) (b : Bool) (p q : ℤ) → applied code (Whole i ∷ Whole j ∷ []) ≡ Ok (Whole (cond b p q))
+    → (b ≡ true → IsPicked R i j p) → (b ≡ false → IsPicked R i j q)
+    → (z : ℤ) × (applied code (Whole i ∷ Whole j ∷ []) ≡ Ok (Whole z)) × IsPicked R i j z
+picked code i j true p q is first second = (p, is, first refl)
+picked code i j false p q is first second = (q, is, second refl)
+
+below : (i j : ℤ) → int_lt i j ≡ true → i ≤ℤ j
+below i j h = let l = (less i j).0 h in omega (arith, ints)
+
+not_below : (i j : ℤ) → int_lt i j ≡ false → j ≤ℤ i
+not_below i j h = let no : (i <ℤ j → ⊥) = λ l. (let yes = (less i j).1 l in cc) in omega (arith, ints)
+
+itself : (i : ℤ) → i ≤ℤ i
+itself i = omega (arith, ints)
+
+pub lesser : PicksOfTwo op.Min (λ z i. z ≤ℤ i)
+lesser i j =
+    picked op.Min i j (int_lt j i) j i refl
+    (λ h. record { one = inr refl; first = below j i h; second = itself j })
+    (λ h. record { one = inl refl; first = itself i; second = not_below j i h })
+
+pub greater : PicksOfTwo op.Max (λ z i. i ≤ℤ z)
+greater i j =
+    picked op.Max i j (int_lt j i) i j refl
+    (λ h. record { one = inl refl; first = itself i; second = below j i h })
+    (λ h. record { one = inr refl; first = not_below j i h; second = itself j })
+
+pub absolute : (i : ℤ) → pos 0 ≤ℤ i → Gives (applied op.Abs (Whole i ∷ [])) i
+absolute (pos n) h = narrow_gives (pos n)
+absolute (negsuc n) h = absurd (let low = h in omega (arith, ints))
+
+pub absolute_below : (i : ℤ) → i <ℤ pos 0 → Gives (applied op.Abs (Whole i ∷ [])) (neg_ℤ i)
+absolute_below (pos n) h = absurd (let low = h in omega (arith, ints))
+absolute_below (negsuc n) h = narrow_gives (pos (suc n))

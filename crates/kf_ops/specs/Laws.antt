@@ -1,5 +1,5 @@
 -- For bodies: what holds of the values of the operators.
-use Rattle.std.specs.Prelude.{◌≡◌, ◌↔◌, ◌-◌, ◌^◌, ℤ, pos, negsuc, ◌+ℤ◌, ◌*ℤ◌, ◌≤ℤ◌, ◌<ℤ◌, unsigned_abs, List, [], ◌∷◌, true, Result, Ok, Err, IfOk}
+use Rattle.std.specs.Prelude.{◌≡◌, ◌↔◌, ◌⊎◌, ◌-◌, ◌^◌, ℤ, pos, negsuc, ◌+ℤ◌, ◌*ℤ◌, ◌≤ℤ◌, ◌<ℤ◌, unsigned_abs, List, [], ◌∷◌, true, Result, Ok, Err, IfOk}
 use Rattle.std.specs.List.Sorted.{IsStrictlySortedBy}
 use Rattle.kf_value.specs.Values.{ValueTree, Truth, Whole, Set, parts, order}
 use Rattle.kf_value.specs.Laws.{IsIn}
@@ -43,6 +43,15 @@ pub record Gives (result : Result ValueTree Fault) (z : ℤ) : Type 0 where
 -- the operator gives the number of two whole numbers
 abbrev pub GivesOfTwo : Op → (ℤ → ℤ → ℤ) → Type 0
 GivesOfTwo code number = (i j : ℤ) → Gives (applied code (Whole i ∷ Whole j ∷ [])) (number i j)
+
+-- the operator gives the one of two whole numbers that is so related to both
+pub record IsPicked (IsBetter : ℤ → ℤ → Type 0) (i j z : ℤ) : Type 0 where
+  pub one : (z ≡ i) ⊎ (z ≡ j)
+  pub first : IsBetter z i
+  pub second : IsBetter z j
+
+abbrev pub PicksOfTwo : Op → (ℤ → ℤ → Type 0) → Type 0
+PicksOfTwo code IsBetter = (i j : ℤ) → (z : ℤ) × (applied code (Whole i ∷ Whole j ∷ []) ≡ Ok (Whole z)) × IsPicked IsBetter i j z
 
 -- a fitting value of the row's result comes from fitting arguments, unless there is a fault
 abbrev pub KeepsKinds : Row → Type 0

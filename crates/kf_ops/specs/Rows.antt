@@ -69,4 +69,10 @@ operators =
     ∷ may_be_wide (unary (codes "~") 7 pat.Int pat.Int op.Negate)
     ∷ unary (codes "size") 8 pat.SetOfAny pat.Int op.Size
     ∷ ternary (codes "cond") 8 pat.Bool pat.Any pat.Any pat.Any op.Cond
+    ∷ binary (codes "xor") 1 pat.Bool pat.Bool pat.Bool op.Xor
+    ∷ binary (codes "implies") 1 pat.Bool pat.Bool pat.Bool op.Implies
+    ∷ binary (codes "subset") 4 pat.SetOfAny pat.SetOfAny pat.Bool op.Subset
+    ∷ binary (codes "min") 8 pat.Int pat.Int pat.Int op.Min
+    ∷ binary (codes "max") 8 pat.Int pat.Int pat.Int op.Max
+    ∷ may_be_wide (unary (codes "abs") 8 pat.Int pat.Int op.Abs)
     ∷ []

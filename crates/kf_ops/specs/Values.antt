@@ -1,7 +1,7 @@
 -- Believed: what each operator gives at its arguments.
-use Rattle.std.specs.Prelude.{ℤ, pos, negsuc, ◌+ℤ◌, ◌-ℤ◌, ◌*ℤ◌, ◌^◌, neg_ℤ, int_lt, int_le, nat_lt, Bool, false, not, ◌&&◌, ◌||◌, if◌then◌else◌, List, [], ◌∷◌, length, Result, Ok, Err}
-use Rattle.std.specs.Int.{int_div_euclid, int_rem_euclid}
-use Rattle.std.specs.List.{filter, list_any}
+use Rattle.std.specs.Prelude.{ℤ, pos, negsuc, ◌+ℤ◌, ◌-ℤ◌, ◌*ℤ◌, ◌^◌, neg_ℤ, int_lt, int_le, nat_lt, unsigned_abs, Bool, false, not, ◌&&◌, ◌||◌, if◌then◌else◌, List, [], ◌∷◌, length, Result, Ok, Err}
+use Rattle.std.specs.Int.{int_div_euclid, int_rem_euclid, int_min, int_max}
+use Rattle.std.specs.List.{filter, list_all, list_any}
 use Rattle.std.specs.Ordering.{int_eq, match_ordering}
 use Rattle.kf_value.specs.Values.{ValueTree, Truth, Whole, Set, parts, order, truth, whole, elements, is_equal}
 use Rattle.kf_ops.specs.declared.row.Op.{Op}
@@ -15,6 +15,10 @@ pub data Fault : Type 0 where
 -- the value is one of the list
 abbrev pub is_in : ValueTree → List ValueTree → Bool
 is_in v ws = list_any (is_equal v) ws
+
+-- each value is one of the list
+abbrev pub are_in : List ValueTree → List ValueTree → Bool
+are_in vs ws = list_all (λ v. is_in v ws) vs
 
 -- an ascending list and one more value, which stands before the first greater one, unless the list has it
 abbrev pub inserted : ValueTree → List ValueTree → List ValueTree
@@ -70,6 +74,12 @@ row_value op.Inter a b c = Ok (Set (parts (both (elements a) (elements b))))
 row_value op.Negate a b c = narrow (neg_ℤ (whole a))
 row_value op.Size a b c = Ok (Whole (pos (length (elements a))))
 row_value op.Cond a b c = Ok (if truth a then b else c)
+row_value op.Xor a b c = Ok (Truth (if truth a then not (truth b) else truth b))
+row_value op.Implies a b c = Ok (Truth (truth b || not (truth a)))
+row_value op.Subset a b c = Ok (Truth (are_in (elements a) (elements b)))
+row_value op.Min a b c = Ok (Whole (int_min (whole a) (whole b)))
+row_value op.Max a b c = Ok (Whole (int_max (whole a) (whole b)))
+row_value op.Abs a b c = narrow (pos (unsigned_abs (whole a)))
 
 -- the same of arguments in a list, where the first stands for those that a row leaves aside; no row takes none
 abbrev pub applied : Op → List ValueTree → Result ValueTree Fault

@@ -9,7 +9,7 @@ use crate::row::{Op, OpRow};
 use crate::table::OPS;
 
 /// The table by value, for a caller whose contract speaks of its rows: in a body, one call in place of all rows written out.
-pub fn operators() -> [OpRow; 21]
+pub fn operators() -> [OpRow; 27]
     ensures { rows_of result ≡ operator_rows }
 {
     OPS

@@ -4,7 +4,7 @@ ghost use Rattle.std.specs.List.{All};
 ghost use Rattle.kf_value.specs.Values.{ValueTree, Truth, Whole, Set, parts, is_equal};
 ghost use Rattle.kf_value.specs.Laws.{IsIn};
 ghost use Rattle.kf_ops.specs.Rows.{operators};
-ghost use Rattle.kf_ops.specs.Laws.{Gives, GivesOfTwo, IsEuclidean, IsNarrow, KeepsKinds, MakesSets, NamesFaults, Tells};
+ghost use Rattle.kf_ops.specs.Laws.{Gives, GivesOfTwo, IsEuclidean, IsNarrow, KeepsKinds, MakesSets, NamesFaults, PicksOfTwo, Tells};
 ghost use Rattle.kf_ops.specs.Values.{applied, is_i64, is_in, DivZero};
 ghost use Rattle.kf_ops.specs.declared.row.Op.TheVariants as op;
 
@@ -40,6 +40,13 @@ pub fn row_laws()
     ensures euclid { (a b : ℤ) → b ≢ pos 0 → IsEuclidean a b (int_div_euclid a b) (int_rem_euclid a b) }
     ensures first_choice { (v w : ValueTree) → applied op.Cond (Truth true ∷ v ∷ w ∷ []) ≡ Ok v }
     ensures second_choice { (v w : ValueTree) → applied op.Cond (Truth false ∷ v ∷ w ∷ []) ≡ Ok w }
+    ensures xor_true { (a b : Bool) → Tells op.Xor (Truth a ∷ Truth b ∷ []) (a ≢ b) }
+    ensures implies_true { (a b : Bool) → Tells op.Implies (Truth a ∷ Truth b ∷ []) (a ≡ true → b ≡ true) }
+    ensures subset_true { (vs ws : List ValueTree) → Tells op.Subset (Set (parts vs) ∷ Set (parts ws) ∷ []) ((v : ValueTree) → IsIn v vs → IsIn v ws) }
+    ensures lesser { PicksOfTwo op.Min (λ z i. z ≤ℤ i) }
+    ensures greater { PicksOfTwo op.Max (λ z i. i ≤ℤ z) }
+    ensures absolute { (i : ℤ) → pos 0 ≤ℤ i → Gives (applied op.Abs (Whole i ∷ [])) i }
+    ensures absolute_below { (i : ℤ) → i <ℤ pos 0 → Gives (applied op.Abs (Whole i ∷ [])) (neg_ℤ i) }
     ensures kinds { All KeepsKinds operators }
     ensures faults { All NamesFaults operators }
 {}

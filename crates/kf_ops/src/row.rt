@@ -35,6 +35,12 @@ pub enum Op {
     Negate,
     Size,
     Cond,
+    Xor,
+    Implies,
+    Subset,
+    Min,
+    Max,
+    Abs,
 }
 
 /// One operator: how it is written, what it takes and gives, and what can go wrong.

@@ -5,7 +5,7 @@ ghost use Rattle.std.specs.List.Sorted.{IsStrictlySortedBy};
 ghost use Rattle.kf_value.specs.Values.{order, elements as elements_in};
 ghost use Rattle.kf_value.specs.Forms.{IsWellFormed};
 ghost use Rattle.kf_value.specs.Views.{value_tree, value_trees};
-ghost use Rattle.kf_ops.specs.Values.{is_in};
+ghost use Rattle.kf_ops.specs.Values.{are_in, is_in};
 ghost use Rattle.kf_ops.specs.Merging.{IsNext, is_kept, kept_of};
 
 use crate::arguments::elements;
@@ -131,4 +131,31 @@ pub fn combined(alloc: Global, a: &Value, b: &Value, kept: Kept) -> Result<Value
     ensures { IfOk result (λ m. value_trees m ≡ kept_of kept (elements_in (value_tree a.now)) (elements_in (value_tree b.now))) }
 {
     Ok(ValueList::new(merge(alloc, elements(a), elements(b), kept)?))
+}
+
+/// Whether no element of the first ascending list is missing in the second, in one pass over both.
+fn has_all(xs: &[Value], ys: &[Value]) -> bool
+    requires first { IsStrictlySortedBy order (map value_tree xs.now) }
+    requires second { IsStrictlySortedBy order (map value_tree ys.now) }
+    ensures { result ≡ are_in (map value_tree xs.now) (map value_tree ys.now) }
+{
+    let mut wanted = xs;
+    let mut there = ys;
+    while let Some(next) = next_of(wanted, there) {
+        if next.side == Ordering::Less {
+            return false;
+        }
+        wanted = next.xs;
+        there = next.ys;
+    }
+    true
+}
+
+/// Whether each element of the first set is in the second.
+pub fn is_subset(a: &Value, b: &Value) -> bool
+    requires first { IsWellFormed (value_tree a.now) }
+    requires second { IsWellFormed (value_tree b.now) }
+    ensures { result ≡ are_in (elements_in (value_tree a.now)) (elements_in (value_tree b.now)) }
+{
+    has_all(elements(a), elements(b))
 }

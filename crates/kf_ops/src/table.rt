@@ -1,7 +1,7 @@
 use crate::row::{Op, OpRow, Pat};
 
 /// The operators. A row's place is its number, counted from 0.
-pub(crate) const OPS: [OpRow; 21] = [
+pub(crate) const OPS: [OpRow; 27] = [
     OpRow {
         word: "or",
         level: 1,
@@ -211,5 +211,65 @@ pub(crate) const OPS: [OpRow; 21] = [
         code: Op::Cond,
         div_zero: false,
         wide: false,
+    },
+    OpRow {
+        word: "xor",
+        level: 1,
+        arity: 2,
+        args: [Pat::Bool, Pat::Bool, Pat::Nothing],
+        result: Pat::Bool,
+        code: Op::Xor,
+        div_zero: false,
+        wide: false,
+    },
+    OpRow {
+        word: "implies",
+        level: 1,
+        arity: 2,
+        args: [Pat::Bool, Pat::Bool, Pat::Nothing],
+        result: Pat::Bool,
+        code: Op::Implies,
+        div_zero: false,
+        wide: false,
+    },
+    OpRow {
+        word: "subset",
+        level: 4,
+        arity: 2,
+        args: [Pat::SetOfAny, Pat::SetOfAny, Pat::Nothing],
+        result: Pat::Bool,
+        code: Op::Subset,
+        div_zero: false,
+        wide: false,
+    },
+    OpRow {
+        word: "min",
+        level: 8,
+        arity: 2,
+        args: [Pat::Int, Pat::Int, Pat::Nothing],
+        result: Pat::Int,
+        code: Op::Min,
+        div_zero: false,
+        wide: false,
+    },
+    OpRow {
+        word: "max",
+        level: 8,
+        arity: 2,
+        args: [Pat::Int, Pat::Int, Pat::Nothing],
+        result: Pat::Int,
+        code: Op::Max,
+        div_zero: false,
+        wide: false,
+    },
+    OpRow {
+        word: "abs",
+        level: 8,
+        arity: 1,
+        args: [Pat::Int, Pat::Nothing, Pat::Nothing],
+        result: Pat::Int,
+        code: Op::Abs,
+        div_zero: false,
+        wide: true,
     },
 ];

@@ -3,9 +3,9 @@
 use super::*;
 use std::process::Abort;
 
-const WORDS: [&str; 21] = [
+const WORDS: [&str; 27] = [
     "or", "and", "not", "=", "!=", "<", "<=", ">", ">=", "in", "+", "-", "union", "less", "*",
-    "div", "mod", "inter", "~", "size", "cond",
+    "div", "mod", "inter", "~", "size", "cond", "xor", "implies", "subset", "min", "max", "abs",
 ];
 
 /// Each word is found at its place.
@@ -26,7 +26,7 @@ fn has_none(rt: &impl Abort, table: &[OpRow], words: &[&str]) {
 fn finds_first_places(rt: HostRuntime) {
     let rows = operators();
     has_places(&rt, &rows, &WORDS);
-    has_none(&rt, &rows, &["xor", "", "OR", "orr", "o", "<>"]);
+    has_none(&rt, &rows, &["nor", "", "OR", "orr", "o", "<>"]);
     has_none(&rt, &[], &WORDS);
     let twice = [rows[4], rows[0], rows[1], rows[0]];
     assert_eq!(rt; find(&twice, "or"), Some(1), "the first of two");
@@ -44,7 +44,7 @@ const TWO_SETS: &[Pat] = &[Pat::SetOfAny, Pat::SetOfAny];
 
 const TWO_ALIKE: &[Pat] = &[Pat::Any, Pat::Any];
 
-const LINES: [Line; 21] = [
+const LINES: [Line; 27] = [
     (1, TWO_TRUTHS, Pat::Bool, false, false),
     (2, TWO_TRUTHS, Pat::Bool, false, false),
     (3, &[Pat::Bool], Pat::Bool, false, false),
@@ -66,6 +66,12 @@ const LINES: [Line; 21] = [
     (7, &[Pat::Int], Pat::Int, false, true),
     (8, &[Pat::SetOfAny], Pat::Int, false, false),
     (8, &[Pat::Bool, Pat::Any, Pat::Any], Pat::Any, false, false),
+    (1, TWO_TRUTHS, Pat::Bool, false, false),
+    (1, TWO_TRUTHS, Pat::Bool, false, false),
+    (4, TWO_SETS, Pat::Bool, false, false),
+    (8, TWO_NUMBERS, Pat::Int, false, false),
+    (8, TWO_NUMBERS, Pat::Int, false, false),
+    (8, &[Pat::Int], Pat::Int, false, true),
 ];
 
 /// The row says what the line says.
@@ -85,7 +91,7 @@ fn is_line(rt: &impl Abort, row: OpRow, line: Line) {
 #[test]
 fn has_the_rows(rt: HostRuntime) {
     let rows = operators();
-    for place in 0..21 {
+    for place in 0..27 {
         assert_eq!(rt; rows[place].word, WORDS[place], "the word of row {place}");
         is_line(&rt, rows[place], LINES[place]);
     }

@@ -241,6 +241,53 @@ fn negates_and_joins_truths(rt: HostRuntime) -> Result<(), Fail> {
     Ok(())
 }
 
+#[test]
+fn joins_truths_by_xor_and_implies(rt: HostRuntime) -> Result<(), Fail> {
+    let alloc = rt.alloc();
+    has_truths(&rt, alloc, 21, ["false", "true", "true", "false"])?;
+    has_truths(&rt, alloc, 22, ["true", "false", "true", "true"])?;
+    Ok(())
+}
+
+#[test]
+fn picks_the_lesser_and_the_greater(rt: HostRuntime) -> Result<(), Fail> {
+    let alloc = rt.alloc();
+    has_wholes(
+        &rt,
+        alloc,
+        24,
+        &[
+            (i64::MIN, i64::MAX, "-9223372036854775808"),
+            (i64::MAX, i64::MIN, "-9223372036854775808"),
+            (3, 3, "3"),
+            (-1, 0, "-1"),
+        ],
+    )?;
+    has_wholes(
+        &rt,
+        alloc,
+        25,
+        &[
+            (i64::MIN, i64::MAX, "9223372036854775807"),
+            (i64::MAX, i64::MIN, "9223372036854775807"),
+            (3, 3, "3"),
+            (-1, 0, "0"),
+        ],
+    )?;
+    Ok(())
+}
+
+#[test]
+fn drops_the_sign(rt: HostRuntime) -> Result<(), Fail> {
+    let alloc = rt.alloc();
+    has_whole(&rt, alloc, 26, i64::MIN, "ArithWide")?;
+    has_whole(&rt, alloc, 26, -i64::MAX, "9223372036854775807")?;
+    has_whole(&rt, alloc, 26, i64::MAX, "9223372036854775807")?;
+    has_whole(&rt, alloc, 26, 0, "0")?;
+    has_whole(&rt, alloc, 26, -1, "1")?;
+    Ok(())
+}
+
 /// The set of one value.
 fn single(alloc: Global, value: Value) -> Result<Value, OpFault>
     ensures { (k : KindTree) → FitsWell k pat.Any (value_tree value) → IfOk result (λ s. FitsWell k pat.SetOfAny (value_tree s)) }
@@ -326,6 +373,26 @@ fn joins_sets(rt: HostRuntime) -> Result<(), Fail> {
     Ok(())
 }
 
+#[test]
+fn finds_sets_in_sets(rt: HostRuntime) -> Result<(), Fail> {
+    let alloc = rt.alloc();
+    has_sets(
+        &rt,
+        alloc,
+        23,
+        &[
+            (&[], &[], "true"),
+            (&[], &[1], "true"),
+            (&[1], &[], "false"),
+            (&[2, 0], &[0, 2], "true"),
+            (&[2, 0], &[0, 1, 2], "true"),
+            (&[0, 1, 2], &[2, 0], "false"),
+            (&[i64::MIN, 3], &[i64::MIN, 4], "false"),
+        ],
+    )?;
+    Ok(())
+}
+
 /// The set of two sets of whole numbers.
 fn nested(alloc: Global, a: &[i64], b: &[i64]) -> Result<Value, OpFault>
     ensures { IfOk result (λ s. FitsWell (SetKind WholeKind) pat.SetOfAny (value_tree s)) }
@@ -355,6 +422,7 @@ fn joins_sets_of_sets(rt: HostRuntime) -> Result<(), Fail> {
     has_nested(&rt, alloc, 12, "{{}, {1}, {1, 2}}")?;
     has_nested(&rt, alloc, 13, "{{}}")?;
     has_nested(&rt, alloc, 17, "{{1}}")?;
+    has_nested(&rt, alloc, 23, "false")?;
     Ok(())
 }
 

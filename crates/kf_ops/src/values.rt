@@ -18,7 +18,7 @@ use crate::arguments::{elements, truth, whole};
 use crate::facts::operators;
 use crate::fault::OpFault;
 use crate::row::Op;
-use crate::sets::{Kept, combined, contains};
+use crate::sets::{Kept, combined, contains, is_subset};
 use kf_value::{Value, compare};
 use std::alloc::Global;
 use std::cmp::Ordering;
@@ -84,6 +84,12 @@ fn value_of(alloc: Global, code: Op, a: &Value, b: &Value, c: &Value) -> Result<
         } else {
             c.copy(alloc)?
         }),
+        Op::Xor => logic!(truth(a) != truth(b)),
+        Op::Implies => logic!(truth(b) | !truth(a)),
+        Op::Subset => logic!(is_subset(a, b)),
+        Op::Min => Ok(Value::Int(whole(a).min(whole(b)))),
+        Op::Max => Ok(Value::Int(whole(a).max(whole(b)))),
+        Op::Abs => arithmetic!(whole(a).checked_abs()),
     }
 }
 

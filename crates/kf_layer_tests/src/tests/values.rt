@@ -104,7 +104,7 @@ fn have_values(rt: &(impl Abort + AllocGlobal), rows: &[(&str, &str)]) -> Result
     Ok(())
 }
 
-const NUMBERS: [(&str, &str); 33] = [
+const NUMBERS: [(&str, &str); 49] = [
     ("007", "7"),
     ("-0", "0"),
     ("1 + 2 * 3", "7"),
@@ -138,10 +138,26 @@ const NUMBERS: [(&str, &str); 33] = [
     ("1 div 0", "DivZero"),
     ("1 mod 0", "DivZero"),
     ("1 div x", "DivZero"),
+    ("min(1, 2)", "1"),
+    ("min(2, 1)", "1"),
+    ("max(1, 2)", "2"),
+    ("max(2, 1)", "2"),
+    ("min(-1, -2)", "-2"),
+    ("max(-1, -2)", "-1"),
+    ("min(3, 3)", "3"),
+    ("max(3, 3)", "3"),
+    ("abs(5)", "5"),
+    ("abs(-5)", "5"),
+    ("abs(0)", "0"),
+    ("-abs(-3)", "-3"),
+    ("max(3, abs(2 - 9))", "7"),
+    ("min(2, 3) * 2 + 1", "5"),
+    ("min(x, 1)", "0"),
+    ("max(x, -1)", "0"),
 ];
 
 // Numbers at the limits of an i64, from -9223372036854775808 to 9223372036854775807.
-const LIMITS: [(&str, &str); 13] = [
+const LIMITS: [(&str, &str); 20] = [
     ("1000000000 * 1000000000", "1000000000000000000"),
     ("1000000000 * 1000000000 * 1000000000", "ArithWide"),
     (
@@ -188,9 +204,37 @@ const LIMITS: [(&str, &str); 13] = [
         "(9 * 1000000000 * 1000000000 + 223372036 * 1000000000 + 854775807) mod 10",
         "7",
     ),
+    (
+        "min(-9 * 1000000000 * 1000000000 - 223372036 * 1000000000 - 854775808, 9 * 1000000000 * 1000000000 + 223372036 * 1000000000 + 854775807)",
+        "-9223372036854775808",
+    ),
+    (
+        "min(9 * 1000000000 * 1000000000 + 223372036 * 1000000000 + 854775807, -9 * 1000000000 * 1000000000 - 223372036 * 1000000000 - 854775808)",
+        "-9223372036854775808",
+    ),
+    (
+        "max(-9 * 1000000000 * 1000000000 - 223372036 * 1000000000 - 854775808, 9 * 1000000000 * 1000000000 + 223372036 * 1000000000 + 854775807)",
+        "9223372036854775807",
+    ),
+    (
+        "max(9 * 1000000000 * 1000000000 + 223372036 * 1000000000 + 854775807, -9 * 1000000000 * 1000000000 - 223372036 * 1000000000 - 854775808)",
+        "9223372036854775807",
+    ),
+    (
+        "abs(9 * 1000000000 * 1000000000 + 223372036 * 1000000000 + 854775807)",
+        "9223372036854775807",
+    ),
+    (
+        "abs(-(9 * 1000000000 * 1000000000 + 223372036 * 1000000000 + 854775807))",
+        "9223372036854775807",
+    ),
+    (
+        "abs(-9 * 1000000000 * 1000000000 - 223372036 * 1000000000 - 854775808)",
+        "ArithWide",
+    ),
 ];
 
-const TRUTHS: [(&str, &str); 27] = [
+const TRUTHS: [(&str, &str); 45] = [
     ("true", "true"),
     ("false", "false"),
     ("true and true", "true"),
@@ -218,6 +262,26 @@ const TRUTHS: [(&str, &str); 27] = [
     ("true = false", "false"),
     ("true != false", "true"),
     ("x = 0 and not x in {1}", "true"),
+    ("true xor true", "false"),
+    ("true xor false", "true"),
+    ("false xor true", "true"),
+    ("false xor false", "false"),
+    ("true implies true", "true"),
+    ("true implies false", "false"),
+    ("false implies true", "true"),
+    ("false implies false", "true"),
+    // Of one level the left one binds first: from the right each of these would be the other value.
+    ("true xor true or true", "true"),
+    ("true or true xor true", "false"),
+    ("false implies true implies false", "false"),
+    ("false implies true xor true", "false"),
+    // `not` and `and` bind tighter.
+    ("not true implies true", "true"),
+    ("true xor not true", "true"),
+    ("false and true xor true", "true"),
+    ("true xor true and false", "true"),
+    ("false implies false and false", "true"),
+    ("1 = 1 xor 2 = 2", "false"),
 ];
 
 const COMPARISONS: [(&str, &str); 21] = [
@@ -244,7 +308,7 @@ const COMPARISONS: [(&str, &str); 21] = [
     ("{{1}, {2}} = {{2}, {1}, {1, 1}}", "true"),
 ];
 
-const SETS: [(&str, &str); 27] = [
+const SETS: [(&str, &str); 40] = [
     ("{2, 1, 2}", "{1, 2}"),
     ("{3, -1, 0}", "{-1, 0, 3}"),
     ("{true, false, true}", "{false, true}"),
@@ -275,6 +339,19 @@ const SETS: [(&str, &str); 27] = [
     ("{1} in {{1, 2}}", "false"),
     ("{1} less {1} in {{2} less {2}}", "true"),
     ("(1, 2) in {(2, 1), (1, 2)}", "true"),
+    ("{1} subset {1}", "true"),
+    ("{1} subset {1, 2}", "true"),
+    ("{1, 2} subset {1}", "false"),
+    ("{1, 3} subset {1, 2}", "false"),
+    ("{3} subset {1, 2}", "false"),
+    ("{2, 1, 2} subset {1, 2}", "true"),
+    ("{1} less {1} subset {2} less {2}", "true"),
+    ("{1} less {1} subset {1}", "true"),
+    ("{1} subset {1} less {1}", "false"),
+    ("{1} subset {2} union {1}", "true"),
+    ("not {1} subset {1}", "false"),
+    ("{{1, 1}} subset {{2}, {1}}", "true"),
+    ("{1} subset {1} xor {2} subset {1}", "true"),
 ];
 
 const PARTS: [(&str, &str); 20] = [
@@ -301,7 +378,7 @@ const PARTS: [(&str, &str); 20] = [
 ];
 
 // Of several faults the first from left to right.
-const FAULTS: [(&str, &str); 20] = [
+const FAULTS: [(&str, &str); 31] = [
     ("1 div 0 + 1000000000 * 1000000000 * 1000000000", "DivZero"),
     (
         "1000000000 * 1000000000 * 1000000000 + 1 div 0",
@@ -341,6 +418,23 @@ const FAULTS: [(&str, &str); 20] = [
     ),
     (
         "(1000000000 * 1000000000 * 1000000000 = 1 or 1 div 0 = 1) and false",
+        "ArithWide",
+    ),
+    ("true implies 1 div 0 = 1", "DivZero"),
+    ("false implies 1 div 0 = 1", "DivZero"),
+    ("1 div 0 = 1 implies true", "DivZero"),
+    ("false xor 1 div 0 = 1", "DivZero"),
+    ("true xor 1 div 0 = 1", "DivZero"),
+    ("{1} less {1} subset {1 div 0}", "DivZero"),
+    ("min(1, 1 div 0)", "DivZero"),
+    ("max(1 div 0, 1)", "DivZero"),
+    ("abs(1 div 0)", "DivZero"),
+    (
+        "min(1 div 0, 1000000000 * 1000000000 * 1000000000)",
+        "DivZero",
+    ),
+    (
+        "max(1000000000 * 1000000000 * 1000000000, 1 div 0)",
         "ArithWide",
     ),
 ];

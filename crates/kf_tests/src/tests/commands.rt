@@ -18,7 +18,7 @@ fn answers(
 }
 
 // What is known of a target behind each program.
-fn hypers() -> [(&'static str, &'static str); 11] {
+fn hypers() -> [(&'static str, &'static str); 13] {
     [
         (
             "var x : 0..3 := uniform 0..3;\nobserve flip 1/3;\n",
@@ -61,6 +61,15 @@ fn hypers() -> [(&'static str, &'static str); 11] {
         (
             "var x : 0..5 := choose { 1 div 0 : 0, 2 : 5 };\n",
             "target x\nscale 1\ninners 1\ninner 0 outer 1\n  2 1\n",
+        ),
+        (
+            "var x : 0..9 := max(3, abs(2 - 9));\n",
+            "target x\nscale 1\ninners 1\ninner 0 outer 1\n  7 1\n",
+        ),
+        // Where `x` is 0 the first holds alone, where it is 1 both hold, and else neither.
+        (
+            "var x : 0..3 := uniform 0..3;\nobserve {x} subset {0, 1} xor x = 1;\n",
+            "target x\nscale 4\ninners 2\ninner 0 outer 1/4\n  0 1\ninner 1 outer 3/4\n  1 1/3\n  2 1/3\n  3 1/3\n",
         ),
         (
             "var s : set of 0..2 := choose { {0, 1} : 1, {2} : 1 };\nvar p : (bool, -1..1) := (0 in s, -1);\nabout s, p;\nobserve size(s) + p.1;\n",

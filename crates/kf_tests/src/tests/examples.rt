@@ -83,9 +83,9 @@ var a : bool := flip 1/2;
 var b : bool := flip 1/2;
 var c : bool := flip 1/2;
 about payer;
-observe (a != b) != (payer = 1);
-observe (b != c) != (payer = 2);
-observe (c != a) != (payer = 3);
+observe a xor b xor payer = 1;
+observe b xor c xor payer = 2;
+observe c xor a xor payer = 3;
 ";
 
 const DINNER_HYPER: &str = "target payer

@@ -82,6 +82,33 @@ fn choosing() -> [(&'static str, &'static str); 17] {
     ]
 }
 
+// Faults of arguments that decide nothing, and of a result: but for `or`, `and` and `cond` all arguments are evaluated.
+fn operators() -> [(&'static str, &'static str); 9] {
+    [
+        (
+            "var x : bool := false implies 1 div 0 = 1;",
+            "1:17: DivZero",
+        ),
+        ("var x : bool := true implies 1 div 0 = 1;", "1:17: DivZero"),
+        ("var x : bool := false xor 1 div 0 = 1;", "1:17: DivZero"),
+        (
+            "var x : bool := {1} less {1} subset {1 div 0};",
+            "1:17: DivZero",
+        ),
+        ("var x : 0..3 := min(1, 1 div 0);", "1:17: DivZero"),
+        ("var x : 0..3 := max(1 div 0, 1);", "1:17: DivZero"),
+        (
+            "var x : 0..3 := uniform 0..3;\nobserve abs(1 div x);\n",
+            "2:9: DivZero",
+        ),
+        (
+            "var x : 0..3 := abs(-9 * 1000000000 * 1000000000 - 223372036 * 1000000000 - 854775808);",
+            "1:17: ArithWide",
+        ),
+        ("var x : 0..3 := 0;\nx := max(x, 4);\n", "2:6: OutOfRange"),
+    ]
+}
+
 // Two faults in one program: the first one, in both orders of place, of store and of branch.
 fn order() -> [(&'static str, &'static str); 11] {
     [
@@ -169,6 +196,7 @@ fn bounded() -> [(&'static str, &'static str); 7] {
 #[test]
 fn first_faults(rt: HostRuntime) -> Result<(), Fail> {
     faults(&rt, HYPER, &choosing())?;
+    faults(&rt, HYPER, &operators())?;
     faults(&rt, HYPER, &order())
 }
 

@@ -53,12 +53,47 @@ fn rows() -> [(&'static [u8], &'static str); 16] {
     ]
 }
 
-#[test]
-fn texts_that_are_no_programs(rt: HostRuntime) -> Result<(), Fail> {
-    for (text, err) in rows() {
-        refused(&rt, text.to_vec(rt.alloc())?, err)?;
+// Operators that stand where none may, go on where they don't, or have too few or too many arguments.
+fn operators() -> [(&'static [u8], &'static str); 14] {
+    [
+        (
+            b"observe {1} subset {1} = true;",
+            "kuifje: p.kf:1:24: Syntax\n",
+        ),
+        (
+            b"observe {1} subset {1} subset {1};",
+            "kuifje: p.kf:1:24: Syntax\n",
+        ),
+        (b"observe xor true;", "kuifje: p.kf:1:9: Syntax\n"),
+        (b"observe true implies;", "kuifje: p.kf:1:21: Syntax\n"),
+        (b"observe subset({1}, {1});", "kuifje: p.kf:1:9: Syntax\n"),
+        (b"observe 1 min 2;", "kuifje: p.kf:1:11: Syntax\n"),
+        (b"observe max(1);", "kuifje: p.kf:1:14: Syntax\n"),
+        (b"observe max(1, 2, 3);", "kuifje: p.kf:1:17: Syntax\n"),
+        (b"observe min();", "kuifje: p.kf:1:13: Syntax\n"),
+        (b"observe min 1;", "kuifje: p.kf:1:13: Syntax\n"),
+        (b"observe min;", "kuifje: p.kf:1:12: Syntax\n"),
+        (b"observe abs(1, 2);", "kuifje: p.kf:1:14: Syntax\n"),
+        (b"observe abs 1;", "kuifje: p.kf:1:13: Syntax\n"),
+        (b"max := 1;", "kuifje: p.kf:1:1: Syntax\n"),
+    ]
+}
+
+// Each text ends with status 5 and its line.
+fn are_refused(
+    rt: &(impl Abort + AllocGlobal),
+    rows: &[(&'static [u8], &'static str)],
+) -> Result<(), Fail> {
+    for (text, err) in rows {
+        refused(rt, text.to_vec(rt.alloc())?, err)?;
     }
     Ok(())
+}
+
+#[test]
+fn texts_that_are_no_programs(rt: HostRuntime) -> Result<(), Fail> {
+    are_refused(&rt, &rows())?;
+    are_refused(&rt, &operators())
 }
 
 // Pieces, each so many times.
@@ -75,6 +110,19 @@ fn repeated(alloc: Global, pieces: &[(&str, u32)]) -> Result<Vec<u8>, AllocError
 // A text of these pieces ends with status 5 and this line.
 fn refuses(rt: &(impl Abort + AllocGlobal), pieces: &[(&str, u32)], err: &str) -> Result<(), Fail> {
     refused(rt, repeated(rt.alloc(), pieces)?, err)
+}
+
+// The words of operators are no names.
+#[test]
+fn names_that_are_reserved(rt: HostRuntime) -> Result<(), Fail> {
+    for word in ["xor", "implies", "subset", "min", "max", "abs"] {
+        refuses(
+            &rt,
+            &[("var ", 1), (word, 1), (" : 0..1 := 0;", 1)],
+            "kuifje: p.kf:1:5: Syntax\n",
+        )?;
+    }
+    Ok(())
 }
 
 #[test]

@@ -78,6 +78,41 @@ fn kinds() -> [(&'static str, &'static str); 16] {
     ]
 }
 
+// Arguments of another kind than the operator takes, and a result of another kind than is asked for.
+fn operands() -> [(&'static str, &'static str); 14] {
+    [
+        ("var x : 0..3 := 0;\nobserve 1 xor true;\n", "2:9: Clash"),
+        ("var x : 0..3 := 0;\nobserve true xor 1;\n", "2:9: Clash"),
+        (
+            "var x : 0..3 := 0;\nobserve x implies true;\n",
+            "2:9: Clash",
+        ),
+        (
+            "var x : 0..3 := 0;\nobserve {1} subset {true};\n",
+            "2:9: Clash",
+        ),
+        ("var x : 0..3 := 0;\nobserve 1 subset {1};\n", "2:9: Clash"),
+        ("var x : 0..3 := 0;\nobserve {1} subset 1;\n", "2:9: Clash"),
+        ("var x : 0..3 := 0;\nobserve max(true, 1);\n", "2:9: Clash"),
+        ("var x : 0..3 := 0;\nobserve min(1, true);\n", "2:9: Clash"),
+        ("var x : 0..3 := 0;\nobserve abs({1});\n", "2:9: Clash"),
+        (
+            "var x : 0..3 := 0;\nobserve 1 + max(true, 1);\n",
+            "2:13: Clash",
+        ),
+        (
+            "var x : 0..3 := 0;\nobserve true xor abs(true) = 1;\n",
+            "2:18: Clash",
+        ),
+        (
+            "var x : 0..3 := 0;\nobserve max(y, true);\n",
+            "2:13: Unknown",
+        ),
+        ("var x : 0..3 := true xor false;", "1:17: Clash"),
+        ("var x : bool := min(1, 2);", "1:17: Clash"),
+    ]
+}
+
 // Ranges that are none, types with too many values, and probabilities that are none.
 fn types() -> [(&'static str, &'static str); 14] {
     [
@@ -163,6 +198,7 @@ fn order() -> [(&'static str, &'static str); 22] {
 fn broken_type_rules(rt: HostRuntime) -> Result<(), Fail> {
     break_rules(&rt, &variables())?;
     break_rules(&rt, &kinds())?;
+    break_rules(&rt, &operands())?;
     break_rules(&rt, &types())?;
     break_rules(&rt, &order())
 }

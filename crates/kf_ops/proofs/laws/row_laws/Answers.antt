@@ -39,6 +39,13 @@ returns c = record {
   euclid = euclidean;
   first_choice = λ v w. refl;
   second_choice = λ v w. refl;
+  xor_true = law.xor_true;
+  implies_true = law.implies_true;
+  subset_true = law.subset_true;
+  lesser = law.lesser;
+  greater = law.greater;
+  absolute = law.absolute;
+  absolute_below = law.absolute_below;
   kinds = All-from_recursion KeepsKinds operators keep_kinds;
   faults = All-from_recursion NamesFaults operators name_faults;
 }

@@ -1,9 +1,11 @@
-// The layers from hypers to printed texts, and files, one or more at a time.
+// Fractions, types and values, the layers from hypers to printed texts, and files, one or more at a time.
 mod certificates;
 mod channels;
 mod files;
+mod fractions;
 mod gains;
 mod hyper_texts;
+mod hypers;
 mod json_values;
 mod plain_gains;
 mod plain_refining;
@@ -14,4 +16,5 @@ mod small_hypers;
 mod tables;
 mod trace_texts;
 mod trail_texts;
+mod types_and_values;
 mod verdicts;

@@ -17,6 +17,3 @@ pub use shares::share;
 
 /// The greatest absolute value of a part.
 const LIMIT: u128 = i128::MAX as u128;
-
-#[cfg(test)]
-mod tests;

@@ -25,6 +25,3 @@ pub use merging::merge;
 pub use projection::project;
 pub use sums::column_of;
 pub use traces::{TraceRow, TraceRowList, TraceTable};
-
-#[cfg(test)]
-mod tests;

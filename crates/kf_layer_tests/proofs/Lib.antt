@@ -1,1 +1,2 @@
+mod Trials
 mod Ways

@@ -1,10 +1,13 @@
-// The layers from texts to hypers, one or more at a time.
+// Operators, tokens, and the layers from texts to hypers, one or more at a time.
 ghost use Rattle.std.specs.Prelude.{◌≤◌, length, IfOk};
 ghost use Rattle.kf_core.specs.Views.{program_tree};
 ghost use Rattle.kf_core.specs.Checked.{IsChecked};
 
 mod choices;
+mod lexing;
 mod making;
+mod operator_values;
+mod operators;
 mod parsing;
 mod plain;
 mod plain_hypers;

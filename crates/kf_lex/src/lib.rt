@@ -4,8 +4,6 @@
 mod cuts;
 mod law;
 mod lexer;
-#[cfg(test)]
-mod tests;
 mod token;
 mod words;
 

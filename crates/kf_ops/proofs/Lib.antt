@@ -12,4 +12,3 @@ mod Readings
 mod SetLaws
 mod Sound
 mod Subsets
-mod Trials

@@ -17,8 +17,3 @@ pub use laws::row_laws;
 pub use lookup::find;
 pub use row::{Op, OpRow, Pat};
 pub use values::apply;
-
-#[cfg(test)]
-mod tests;
-#[cfg(test)]
-mod value_tests;

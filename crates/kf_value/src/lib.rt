@@ -35,6 +35,3 @@ pub use target_item::{TargetItem, TargetItemList};
 pub use truth::is_true;
 pub use ty::{Ty, TyFault, TyList};
 pub use value::{Value, ValueList};
-
-#[cfg(test)]
-mod tests;

@@ -78,7 +78,7 @@ module _ (Takes : ℕ → ℕ → Type 0) where
 
   abbrev pub AreDeclsBuilt : List DeclTree → Type 0
   AreDeclsBuilt [] = Unit {0}
-  AreDeclsBuilt (declared n y d ∷ ds) = IsTypeBuilt y × IsDistBuilt d × AreDeclsBuilt ds
+  AreDeclsBuilt (declared visible n y d ∷ ds) = IsTypeBuilt y × IsDistBuilt d × AreDeclsBuilt ds
 
   abbrev pub AreListedBuilt : List StmtTree → Type 0
   AreListedBuilt [] = Unit {0}

@@ -5,8 +5,12 @@ use Rattle.kf_ast.specs.TypeForms.{TypeForm}
 use Rattle.kf_ast.specs.Dists.{DistTree}
 use Rattle.kf_ast.specs.Stmts.{StmtTree}
 
+-- whether the variable is visible, its name, its type, and the distribution of its first value
 pub data DeclTree : Type 0 where
-  declared : NameTree → TypeForm → DistTree → DeclTree
+  declared : Bool → NameTree → TypeForm → DistTree → DeclTree
+
+abbrev pub is_visible : DeclTree → Bool
+is_visible (declared visible n y d) = visible
 
 -- an item of the target, and whether it is the variable before the first statement
 pub data ItemTree : Type 0 where

@@ -120,7 +120,7 @@ abbrev pub target_items : ItemList → List Item
 target_items l = l.items.items
 
 abbrev pub decl_tree : Decl → DeclTree
-decl_tree d = declared (name_tree d.name) (type_form d.ty) (dist_tree d.dist)
+decl_tree d = declared d.visible (name_tree d.name) (type_form d.ty) (dist_tree d.dist)
 
 abbrev pub item_tree : Item → ItemTree
 item_tree i = item i.initial (name_tree i.name)

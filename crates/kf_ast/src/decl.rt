@@ -23,6 +23,8 @@ pub struct Source {
 /// A variable, its type and the distribution of its first value.
 #[derive(Drop)]
 pub struct Decl {
+    /// Whether it is declared by `vis`: each later assignment to the variable is shown to the observer.
+    pub visible: bool,
     pub name: Ident,
     pub ty: TyTree,
     pub dist: Dist,

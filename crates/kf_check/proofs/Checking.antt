@@ -1,5 +1,5 @@
 -- The program of a source that breaks no rule is checked.
-use Rattle.std.proofs.Common.{◌≡◌, ℕ, suc, zero, ◌≤◌, ◌<◌, ◌+◌, true, false, List, [], ◌∷◌, ◌++◌, length, map, take, slice_get, Option, Some, None, Ok, length-append, append_assoc, get_or, refl, sym, ap, ◌∙◌, subst, arith}
+use Rattle.std.proofs.Common.{◌≡◌, ℕ, suc, zero, ◌≤◌, ◌<◌, ◌+◌, Bool, true, false, List, [], ◌∷◌, ◌++◌, length, map, take, slice_get, Option, Some, None, Ok, length-append, append_assoc, get_or, refl, sym, ap, ◌∙◌, subst, arith}
 use Rattle.std.proofs.lemmas.List.{length-map, map-append, take-append-le}
 use Rattle.std.proofs.lemmas.List.FromFn.{length-range_with_len}
 use Rattle.std.specs.Option.{option_map}
@@ -57,11 +57,11 @@ module _ (names : List (List ℕ)) (apart : Differ names) where
   decls_kinded : (vs ws : List Variable) (ds : List DeclTree) → JudgesDecls vs ds (Ok ws) → names ≡ names_of ws → AreDeclsBuilt Takes ds
       → (i : ℕ) (e : DxTree) (t : TypeTree) → slice_get (map (decl_of names) ds) i ≡ Some e → slice_get (types_of ws) (length vs + i) ≡ Some t → DistKinded (map kind_of (take (length vs + i) (types_of ws))) e (kind_of t)
   decls_kinded vs ws [] js same b i e t h g = absurd (cc)
-  decls_kinded vs ws (declared (name n at) y d ∷ ds) js same b zero e t h g =
+  decls_kinded vs ws (declared visible (name n at) y d ∷ ds) js same b zero e t h g =
       let rest = grown (vs ++ js.0 ∷ []) ws ds js.2 in
       first_kinded vs ws rest.0 js.0 e (dx_of names d) t same (rest.1 ∙ append_assoc vs (js.0 ∷ []) rest.0) h g
-      (λ alike. dist_kinded (known_of vs) names (map kind_of (types_of vs)) alike d (kind_of (js.0).type) (good_decl vs n at y d js.0 js.1).drawn b.1)
-  decls_kinded vs ws (declared (name n at) y d ∷ ds) js same b (suc i) e t h g =
+      (λ alike. dist_kinded (known_of vs) names (map kind_of (types_of vs)) alike d (kind_of (js.0).type) (good_decl vs visible n at y d js.0 js.1).drawn b.1)
+  decls_kinded vs ws (declared visible (name n at) y d ∷ ds) js same b (suc i) e t h g =
       let longer : length (vs ++ js.0 ∷ []) ≡ length vs + 1 = length-append vs (js.0 ∷ []) in
       let shift : length (vs ++ js.0 ∷ []) + i ≡ length vs + suc i = omega arith in
       subst (λ m. DistKinded (map kind_of (take m (types_of ws))) e (kind_of t)) shift (decls_kinded (vs ++ js.0 ∷ []) ws ds js.2 same b.2 i e t h (ap (slice_get (types_of ws)) shift ∙ g))
@@ -186,20 +186,20 @@ module _ (vs : List Variable) (types : List TypeTree) (p : ProgramTree) (as_many
         decls_kinded (names_of vs) (variables_differ vs ds js) [] vs ds js refl built i d t (ap (λ es. slice_get es i) (sym decls) ∙ h) (ap (slice_get (types_of vs)) zeroth ∙ sym (inside i within) ∙ g) in
         subst (λ ts. DistKinded (map kind_of ts) d (kind_of t)) (ap (λ n. take n (types_of vs)) zeroth ∙ sym (taken i within)) ours
 
-    body_sound : (xs : List StmtTree) → AreListedBuilt Takes xs → JudgesStmts (known_of vs) (stmts xs) (Ok tt) → p.body ≡ map (st_of (names_of vs)) xs → AreSound (declared_kinds p) p.body
-    body_sound xs built ss body =
+    body_sound : (flags : List Bool) (xs : List StmtTree) → AreListedBuilt Takes xs → JudgesStmts (known_of vs) (stmts xs) (Ok tt) → p.body ≡ map (st_of (names_of vs) flags) xs → AreSound (declared_kinds p) p.body
+    body_sound flags xs built ss body =
         let alike : Agree (known_of vs) (names_in (known_of vs)) (kinds_in (known_of vs)) = agree (known_of vs) (known_differ vs (variables_differ vs ds js)) in
         let ours : Agree (known_of vs) (names_of vs) (declared_kinds p) =
         subst (λ ts. Agree (known_of vs) (names_of vs) (map kind_of ts)) (sym all_types)
         (subst (λ ks. Agree (known_of vs) (names_of vs) ks) (kinds_of_known vs) (subst (λ ns. Agree (known_of vs) ns (kinds_in (known_of vs))) (names_of_known vs) alike)) in
-        let whole : sts_list (sts_of (names_of vs) (stmts xs)) ≡ p.body = sym (ap sts_list (sts_of_all (names_of vs) xs)) ∙ sts_list-sts (map (st_of (names_of vs)) xs) ∙ sym body in
-        subst (λ ys. AreSound (declared_kinds p) ys) whole (all_sound (known_of vs) (names_of vs) (declared_kinds p) ours (stmts xs) tt ss (listed_built xs built))
+        let whole : sts_list (sts_of (names_of vs) flags (stmts xs)) ≡ p.body = sym (ap sts_list (sts_of_all (names_of vs) flags xs)) ∙ sts_list-sts (map (st_of (names_of vs) flags) xs) ∙ sym body in
+        subst (λ ys. AreSound (declared_kinds p) ys) whole (all_sound (known_of vs) (names_of vs) (declared_kinds p) ours flags (stmts xs) tt ss (listed_built xs built))
 
 -- the program of a source whose declarations, target and statements break no rule is checked
-pub checked : (ds : List DeclTree) (items : List ItemTree) (xs : List StmtTree) (vs : List Variable) (types : List TypeTree) (p : ProgramTree) → IsWellBuilt (source ds items xs)
+pub checked : (ds : List DeclTree) (items : List ItemTree) (xs : List StmtTree) (flags : List Bool) (vs : List Variable) (types : List TypeTree) (p : ProgramTree) → IsWellBuilt (source ds items xs)
     → JudgesDecls [] ds (Ok vs) → JudgesItems vs [] (types_of vs) items (Ok p.types) → JudgesStmts (known_of vs) (stmts xs) (Ok tt) → p.types ≡ types_of vs ++ types → AreCopied vs p.copies types
-    → p.decls ≡ map (decl_of (names_of vs)) ds → IsTarget vs items p.copies p.target p.target_slots → p.body ≡ map (st_of (names_of vs)) xs → IsChecked p
-checked ds items xs vs types p built js ls ss whole copied decls target body =
+    → p.decls ≡ map (decl_of (names_of vs)) ds → IsTarget vs items p.copies p.target p.target_slots → p.body ≡ map (st_of (names_of vs) flags) xs → IsChecked p
+checked ds items xs flags vs types p built js ls ss whole copied decls target body =
     let all = counted [] vs ds js in
     let listed : length p.decls ≡ length ds = ap length decls ∙ length-map ds (decl_of (names_of vs)) in
     let many : length p.decls ≡ length vs = omega arith in
@@ -207,7 +207,7 @@ checked ds items xs vs types p built js ls ss whole copied decls target body =
       counted = all_counted vs types p many whole copied;
       declared = dists_kinded vs types p many whole copied ds js built.0 decls;
       copied = copied_from vs types p many whole copied;
-      sound = body_sound vs types p many whole copied ds js xs built.1 ss body;
+      sound = body_sound vs types p many whole copied ds js flags xs built.1 ss body;
       targeted = target_length target;
       read = target_read vs p many (first_type vs types p many whole copied) target (copy_read vs types p many whole copied);
       apart = target_apart vs (types_of vs) target p.types ls;

@@ -47,7 +47,7 @@ more_facts vs n y d v built facts good =
 
 all_facts : (vs ws : List Variable) (ds : List DeclTree) → AreDeclsBuilt Takes ds → Facts vs → JudgesDecls vs ds (Ok ws) → Facts ws
 all_facts vs ws [] built facts j = subst Facts (sym (same_ok ws vs j)) facts
-all_facts vs ws (declared (name n at) y d ∷ ds) built facts j = all_facts (vs ++ j.0 ∷ []) ws ds built.2 (more_facts vs n y d j.0 built.0 facts (good_decl vs n at y d j.0 j.1)) j.2
+all_facts vs ws (declared visible (name n at) y d ∷ ds) built facts j = all_facts (vs ++ j.0 ∷ []) ws ds built.2 (more_facts vs n y d j.0 built.0 facts (good_decl vs visible n at y d j.0 j.1)) j.2
 
 pub facts_of : (vs : List Variable) → AreDeclared vs → Facts vs
 facts_of vs h = all_facts [] vs h.0 h.1 no_facts h.2

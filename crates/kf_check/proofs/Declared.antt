@@ -1,5 +1,5 @@
 -- The variables of declarations: their names differ, and earlier ones keep their places.
-use Rattle.std.proofs.Common.{◌≡◌, ℕ, suc, zero, List, [], ◌∷◌, ◌++◌, length, map, take, slice_get, Some, Ok, ◌*◌, ◌^◌, ◌<◌, ◌≤◌, append-nil, append_assoc, length-append, ◌+◌, refl, sym, ap, ◌∙◌, subst, arith, ◌⊎◌, inl, inr, ⊎_elim}
+use Rattle.std.proofs.Common.{◌≡◌, ℕ, Bool, suc, zero, List, [], ◌∷◌, ◌++◌, length, map, take, slice_get, Some, Ok, ◌*◌, ◌^◌, ◌<◌, ◌≤◌, append-nil, append_assoc, length-append, ◌+◌, refl, sym, ap, ◌∙◌, subst, arith, ◌⊎◌, inl, inr, ⊎_elim}
 use Rattle.std.proofs.lemmas.List.{length-map, map-append}
 use Rattle.std.proofs.lemmas.List.Elements.{All-head, All-tail}
 use Rattle.std.proofs.Math.Seq.{take-append_seam}
@@ -65,8 +65,8 @@ pub record GoodDecl (vs : List Variable) (n : List ℕ) (y : TypeForm) (d : Dist
   pub narrow : product (map count (types_of vs)) * count v.type ≤ 2 ^ 63
   pub drawn : JudgesDist (known_of vs) d (Ok (kind_of v.type))
 
-pub good_decl : (vs : List Variable) (n : List ℕ) (at : ℕ) (y : TypeForm) (d : DistTree) (v : Variable) → JudgesDecl vs (declared (name n at) y d) (Ok v) → GoodDecl vs n y d v
-good_decl vs n at y d v h =
+pub good_decl : (vs : List Variable) (visible : Bool) (n : List ℕ) (at : ℕ) (y : TypeForm) (d : DistTree) (v : Variable) → JudgesDecl vs (declared visible (name n at) y d) (Ok v) → GoodDecl vs n y d v
+good_decl vs visible n at y d v h =
     let t = h.2.0 in
     let room = h.2.2.1 in
     let is : v ≡ record { name = n; type = t } = same_ok v (record { name = n; type = t }) h.2.2.2.2 in
@@ -75,7 +75,7 @@ good_decl vs n at y d v h =
 
 pub differ-declared : (vs ws : List Variable) (ds : List DeclTree) → JudgesDecls vs ds (Ok ws) → Differ (names_of vs) → Differ (names_of ws)
 differ-declared vs ws [] h apart = subst (λ us. Differ (names_of us)) (sym (same_ok ws vs h)) apart
-differ-declared vs ws (declared (name n at) y d ∷ ds) h apart = differ-declared (vs ++ h.0 ∷ []) ws ds h.2 (differ-new vs h.0 (good_decl vs n at y d h.0 h.1).new apart)
+differ-declared vs ws (declared visible (name n at) y d ∷ ds) h apart = differ-declared (vs ++ h.0 ∷ []) ws ds h.2 (differ-new vs h.0 (good_decl vs visible n at y d h.0 h.1).new apart)
 
 pub none_differ : Differ (names_of [])
 none_differ n i j h g = (cc)

@@ -55,9 +55,9 @@ sts_list-sts [] = refl
 sts_list-sts (y ∷ ys) = ap (λ zs. y ∷ zs) (sts_list-sts ys)
 
 -- the statements one by one
-pub sts_of_all : (names : List (List ℕ)) (xs : List StmtTree) → sts (map (st_of names) xs) ≡ sts_of names (stmts xs)
-sts_of_all names [] = refl
-sts_of_all names (x ∷ xs) = ap (λ ys. more_sts (st_of names x) ys) (sts_of_all names xs)
+pub sts_of_all : (names : List (List ℕ)) (flags : List Bool) (xs : List StmtTree) → sts (map (st_of names flags) xs) ≡ sts_of names flags (stmts xs)
+sts_of_all names flags [] = refl
+sts_of_all names flags (x ∷ xs) = ap (λ ys. more_sts (st_of names flags x) ys) (sts_of_all names flags xs)
 
 -- where a name stands at all, it stands at its place
 pub stands_at : (names : List (List ℕ)) (n : List ℕ) (i : ℕ) → IsVariable names n i → IsVariable names n (place_of names n)
@@ -173,22 +173,23 @@ module _ (known : List Known) (names : List (List ℕ)) (ks : List KindTree) (al
       (has.choose at (cases_kinded j.0 k (case_of x y ∷ cs) j.2 b.1) (omega arith))
   dist_kinded (dist_at at (Flip num den)) k j b = subst (DistKinded ks (dx_of names (dist_at at (Flip num den)))) (sym j.1) (has.flip at num den j.0.0 j.0.1)
 
-  mutual
-    sound : (x : StmtTree) (u : Unit {0}) → JudgesStmt known x (Ok u) → IsStmtBuilt Takes x → IsSound ks (st_of names x)
-    sound (stmt_at at shape) u j b = shape_sound shape u j b
+  module _ (flags : List Bool) where
+    mutual
+      sound : (x : StmtTree) (u : Unit {0}) → JudgesStmt known x (Ok u) → IsStmtBuilt Takes x → IsSound ks (st_of names flags x)
+      sound (stmt_at at shape) u j b = shape_sound shape u j b
 
-    shape_sound : (shape : StmtShape) (u : Unit {0}) → JudgesStmtShape known shape (Ok u) → IsStmtShapeBuilt Takes shape → IsSound ks (st_of_shape names shape)
-    shape_sound Skip u j b = has.skip
-    shape_sound (Assign (name n at) d) u j b = has.assign (place_of names n) (alike n j.1.0 j.0 j.1.1) (dist_kinded d j.0 (asked known j.0 j.2.0 d j.2.1) b)
-    shape_sound (Observe d) u j b = has.observe (dist_kinded d j.0 j.1 b)
-    shape_sound (If d xs ys) u j b =
-        subst (λ zs. IsSound ks (st.If (dx_of names d) zs (sts_of names ys))) (sts-sts_list (sts_of names xs))
-        (subst (λ zs. IsSound ks (st.If (dx_of names d) (sts (sts_list (sts_of names xs))) zs)) (sts-sts_list (sts_of names ys))
-        (has.if_else (dist_kinded d TruthKind (asked known TruthKind j.0 d j.1) b.0) (all_sound xs j.2.0 j.2.1 b.1) (all_sound ys u j.2.2 b.2)))
-    shape_sound (While d xs) u j b =
-        subst (λ zs. IsSound ks (st.While (dx_of names d) zs)) (sts-sts_list (sts_of names xs)) (has.while (dist_kinded d TruthKind (asked known TruthKind j.0 d j.1) b.0) (all_sound xs u j.2 b.1))
+      shape_sound : (shape : StmtShape) (u : Unit {0}) → JudgesStmtShape known shape (Ok u) → IsStmtShapeBuilt Takes shape → IsSound ks (st_of_shape names flags shape)
+      shape_sound Skip u j b = has.skip
+      shape_sound (Assign (name n at) d) u j b = has.assign (place_of names n) (alike n j.1.0 j.0 j.1.1) (dist_kinded d j.0 (asked known j.0 j.2.0 d j.2.1) b)
+      shape_sound (Observe d) u j b = has.observe (dist_kinded d j.0 j.1 b)
+      shape_sound (If d xs ys) u j b =
+          subst (λ zs. IsSound ks (st.If (dx_of names d) zs (sts_of names flags ys))) (sts-sts_list (sts_of names flags xs))
+          (subst (λ zs. IsSound ks (st.If (dx_of names d) (sts (sts_list (sts_of names flags xs))) zs)) (sts-sts_list (sts_of names flags ys))
+          (has.if_else (dist_kinded d TruthKind (asked known TruthKind j.0 d j.1) b.0) (all_sound xs j.2.0 j.2.1 b.1) (all_sound ys u j.2.2 b.2)))
+      shape_sound (While d xs) u j b =
+          subst (λ zs. IsSound ks (st.While (dx_of names d) zs)) (sts-sts_list (sts_of names flags xs)) (has.while (dist_kinded d TruthKind (asked known TruthKind j.0 d j.1) b.0) (all_sound xs u j.2 b.1))
 
-    -- statements that break no rule
-    pub all_sound : (xs : StmtTrees) (u : Unit {0}) → JudgesStmts known xs (Ok u) → AreStmtsBuilt Takes xs → AreSound ks (sts_list (sts_of names xs))
-    all_sound no_stmts u j b = has.none
-    all_sound (more_stmts x xs) u j b = has.more (sound x j.0 j.1 b.0) (all_sound xs u j.2 b.1)
+      -- statements that break no rule
+      pub all_sound : (xs : StmtTrees) (u : Unit {0}) → JudgesStmts known xs (Ok u) → AreStmtsBuilt Takes xs → AreSound ks (sts_list (sts_of names flags xs))
+      all_sound no_stmts u j b = has.none
+      all_sound (more_stmts x xs) u j b = has.more (sound x j.0 j.1 b.0) (all_sound xs u j.2 b.1)

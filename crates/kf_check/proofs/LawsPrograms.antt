@@ -5,7 +5,7 @@ use Rattle.kf_value.specs.Types.{TypeTree}
 use Rattle.kf_value.specs.Targets.{Item}
 use Rattle.kf_ast.specs.Names.{name}
 use Rattle.kf_ast.specs.Stmts.{StmtTree, stmts}
-use Rattle.kf_ast.specs.Sources.{DeclTree, ItemTree, item, SourceTree, source}
+use Rattle.kf_ast.specs.Sources.{DeclTree, is_visible, ItemTree, item, SourceTree, source}
 use Rattle.kf_core.specs.Programs.{ProgramTree}
 use Rattle.kf_check.specs.declared.errors.TypeError.{TypeError}
 use Rattle.kf_check.specs.declared.errors.TypeError.TheVariants as broken
@@ -60,7 +60,7 @@ module _ (ds : List DeclTree) (items : List ItemTree) (xs : List StmtTree) (buil
   program : (vs : List Variable) (us : List TypeTree) → JudgesDecls [] ds (Ok vs) → JudgesItems vs [] (types_of vs) items (Ok us) → JudgesStmts (known_of vs) (stmts xs) (Ok tt) → Ends (source ds items xs)
   program vs us js ls ss =
       let aim = aimed vs items (carried vs 0 [] (types_of vs) items us ls) in
-      let p : ProgramTree = record { types = us; decls = map (decl_of (names_of vs)) ds; copies = aim.places; body = map (st_of (names_of vs)) xs; target = aim.found; target_slots = aim.slots } in
+      let p : ProgramTree = record { types = us; decls = map (decl_of (names_of vs)) ds; copies = aim.places; body = map (st_of (names_of vs) (map is_visible ds)) xs; target = aim.found; target_slots = aim.slots } in
       inl (p, typed items xs ds some vs js p ls ss refl aim.is refl)
 
   body_ends : (vs : List Variable) (us : List TypeTree) → JudgesDecls [] ds (Ok vs) → JudgesItems vs [] (types_of vs) items (Ok us) → (r : Result (Unit {0}) TypeError) → JudgesStmts (known_of vs) (stmts xs) r → Ends (source ds items xs)
@@ -110,7 +110,7 @@ module _ (vs : List Variable) (apart : Differ (names_of vs)) where
 -- programs of the same declarations, target and statements
 same_typed : (ds : List DeclTree) (items : List ItemTree) (xs : List StmtTree) (vs : List Variable) (p q : ProgramTree) → JudgesDecls [] ds (Ok vs)
     → JudgesItems vs [] (types_of vs) items (Ok p.types) → JudgesItems vs [] (types_of vs) items (Ok q.types) → p.decls ≡ map (decl_of (names_of vs)) ds → q.decls ≡ map (decl_of (names_of vs)) ds
-    → IsTarget vs items p.copies p.target p.target_slots → IsTarget vs items q.copies q.target q.target_slots → p.body ≡ map (st_of (names_of vs)) xs → q.body ≡ map (st_of (names_of vs)) xs → p ≡ q
+    → IsTarget vs items p.copies p.target p.target_slots → IsTarget vs items q.copies q.target q.target_slots → p.body ≡ map (st_of (names_of vs) (map is_visible ds)) xs → q.body ≡ map (st_of (names_of vs) (map is_visible ds)) xs → p ≡ q
 same_typed ds items xs vs p q js types types' decls decls' target target' body body' =
     let apart = variables_differ vs ds js in
     let aim = one_target vs apart target target' in
@@ -133,7 +133,8 @@ one_typed s p q t u =
     t.is_target
     (subst (λ vs. IsTarget vs t.items q.copies q.target q.target_slots) vs (subst (λ is. IsTarget u.variables is q.copies q.target q.target_slots) items u.is_target))
     t.are_statements
-    (subst (λ vs. q.body ≡ map (st_of (names_of vs)) t.body) vs (subst (λ xs. q.body ≡ map (st_of (names_of u.variables)) xs) xs u.are_statements))
+    (subst (λ vs. q.body ≡ map (st_of (names_of vs) (map is_visible t.decls)) t.body) vs
+    (subst (λ ds. q.body ≡ map (st_of (names_of u.variables) (map is_visible ds)) t.body) ds (subst (λ xs. q.body ≡ map (st_of (names_of u.variables) (map is_visible u.decls)) xs) xs u.are_statements)))
 
 -- ---- the program of a well-built source is checked
 
@@ -148,5 +149,5 @@ pub checked_if_typed : CheckedIfTyped
 checked_if_typed s p built t =
     let judged = subst (λ s. JudgesSource s None) t.is_source t.judged in
     let behind = target_types t.variables (variables_differ t.variables t.decls t.are_variables) t.is_target p.types t.are_types in
-    checked t.decls t.items t.body t.variables behind.0 p (subst IsWellBuilt t.is_source built) t.are_variables t.are_types (unbroken_body t.decls t.items t.body t.variables t.are_variables judged) behind.1 behind.2
+    checked t.decls t.items t.body (map is_visible t.decls) t.variables behind.0 p (subst IsWellBuilt t.is_source built) t.are_variables t.are_types (unbroken_body t.decls t.items t.body t.variables t.are_variables judged) behind.1 behind.2
     t.are_decls t.is_target t.are_statements

@@ -195,7 +195,7 @@ one_grows ts t at =
 
 module _ (vs : List Variable) (apart : Differ (names_of vs)) where
   one_decl : (d : DeclTree) → HasOne (JudgesDecl vs d)
-  one_decl (declared (name n at) y d) =
+  one_decl (declared visible (name n at) y d) =
       one_after (Where (IsUnknown (known_of vs) n) n (broken.Twice at)) _ (one_where (IsUnknown (known_of vs) n) n (broken.Twice at))
       (λ _ h. one_after (JudgesType greatest_size y) (λ t. After (Grows (types_of vs) t at) (λ _. After (AsksDist (known_of vs) (kind_of t) d) (λ _. Is (record { name = n; type = t })))) (one_written greatest_size y)
       (λ t a. one_after (Grows (types_of vs) t at) (λ _. After (AsksDist (known_of vs) (kind_of t) d) (λ _. Is (record { name = n; type = t }))) (one_grows (types_of vs) t at)

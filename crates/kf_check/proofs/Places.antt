@@ -159,7 +159,7 @@ told_grows ts t at =
     (told_where (length ts < 32) t (broken.TooManyVariables at) (too_many at)) (λ _. told_where (product (map count ts) * count t ≤ 2 ^ 63) t (broken.StoreTooWide at) (too_wide at))
 
 told_decl : (vs : List Variable) (d : DeclTree) → IsTold (JudgesDecl vs d)
-told_decl vs (declared (name n at) y d) =
+told_decl vs (declared visible (name n at) y d) =
     let found : TypeTree → Variable = λ t. record { name = n; type = t } in
     told_after (Where (IsUnknown (known_of vs) n) n (broken.Twice at)) (λ _. After (JudgesType greatest_size y) (λ t. After (Grows (types_of vs) t at) (λ _. After (AsksDist (known_of vs) (kind_of t) d) (λ _. Is (found t)))))
     (told_where (IsUnknown (known_of vs) n) n (broken.Twice at) (twice at))

@@ -7,7 +7,7 @@ use Rattle.std.proofs.lemmas.Option.{slice_get_within}
 use Rattle.kf_value.specs.Types.{TypeTree, count, product}
 use Rattle.kf_value.specs.Targets.{Item}
 use Rattle.kf_ast.specs.Stmts.{StmtTree, stmts}
-use Rattle.kf_ast.specs.Sources.{DeclTree, ItemTree, source}
+use Rattle.kf_ast.specs.Sources.{DeclTree, is_visible, ItemTree, source}
 use Rattle.kf_core.specs.Programs.{ProgramTree}
 use Rattle.kf_check.specs.declared.errors.TypeError.{TypeError}
 use Rattle.kf_check.specs.Statements.{JudgesStmts}
@@ -102,7 +102,7 @@ module _ (items : List ItemTree) (xs : List StmtTree) where
 
       -- this is the source's program
       pub typed : (p : ProgramTree) → JudgesItems vs [] (types_of vs) items (Ok p.types) → JudgesStmts (known_of vs) (stmts xs) (Ok tt) → p.decls ≡ map (decl_of (names_of vs)) ds
-          → IsTarget vs items p.copies p.target p.target_slots → p.body ≡ map (st_of (names_of vs)) xs → Typed (source ds items xs) p
+          → IsTarget vs items p.copies p.target p.target_slots → p.body ≡ map (st_of (names_of vs) (map is_visible ds)) xs → Typed (source ds items xs) p
       typed p is ss decls target body = record {
         decls = ds;
         items = items;

@@ -223,7 +223,7 @@ unheard known n = by (finding known n)
     by (inr u) = yes u
 
 some_decl : (vs : List Variable) (d : DeclTree) → AreDeclsBuilt Takes (d ∷ []) → HasSome (JudgesDecl vs d)
-some_decl vs (declared (name n at) y d) b =
+some_decl vs (declared visible (name n at) y d) b =
     some_after (Where (IsUnknown (known_of vs) n) n (broken.Twice at)) _ (some_where (IsUnknown (known_of vs) n) n (broken.Twice at) (unheard (known_of vs) n))
     (λ _ h. some_after (JudgesType greatest_size y) (λ t. After (Grows (types_of vs) t at) (λ _. After (AsksDist (known_of vs) (kind_of t) d) (λ _. Is (record { name = n; type = t })))) (some_type greatest_size y)
     (λ t a. some_after (Grows (types_of vs) t at) (λ _. After (AsksDist (known_of vs) (kind_of t) d) (λ _. Is (record { name = n; type = t }))) (some_grows (types_of vs) t at)
@@ -231,7 +231,7 @@ some_decl vs (declared (name n at) y d) b =
     (λ _ e. some_is (record { name = n; type = t })))))
 
 first_built : (d : DeclTree) (ds : List DeclTree) → AreDeclsBuilt Takes (d ∷ ds) → AreDeclsBuilt Takes (d ∷ []) × AreDeclsBuilt Takes ds
-first_built (declared n y d) ds b = ((b.0, b.1, tt), b.2)
+first_built (declared visible n y d) ds b = ((b.0, b.1, tt), b.2)
 
 pub some_decls : (vs : List Variable) (ds : List DeclTree) → AreDeclsBuilt Takes ds → HasSome (JudgesDecls vs ds)
 some_decls vs [] b = some_is vs

@@ -10,7 +10,7 @@ use Rattle.kf_ops.specs.Fitting.{Takes}
 use Rattle.kf_ast.specs.declared.decl.Decl.{Decl}
 use Rattle.kf_ast.specs.Built.{AreDeclsBuilt}
 use Rattle.kf_ast.specs.Stmts.{StmtTree, StmtTrees, stmts}
-use Rattle.kf_ast.specs.Sources.{DeclTree, ItemTree, source}
+use Rattle.kf_ast.specs.Sources.{DeclTree, is_visible, ItemTree, source}
 use Rattle.kf_ast.specs.Views.{decl_tree}
 use Rattle.kf_core.specs.Sts.{StTree}
 use Rattle.kf_check.specs.declared.errors.TypeError.{TypeError}
@@ -55,11 +55,11 @@ fits_variables ws ds {cs = cs} built j target =
     }
 
 -- statements stand behind the declared variables
-pub stmts_declared : (vs : List Variable) (known : List Known) (xs : List StmtTree) (ys : List StTree) → known ≡ known_of vs → JudgesStmts known (stmts xs) (Ok tt) × (ys ≡ map (st_of (names_in known)) xs)
-    → JudgesStmts (known_of vs) (stmts xs) (Ok tt) × (ys ≡ map (st_of (names_of vs)) xs)
-stmts_declared vs known xs ys same h = (
+pub stmts_declared : (vs : List Variable) (known : List Known) (ds : List DeclTree) (flags : List Bool) (xs : List StmtTree) (ys : List StTree) → known ≡ known_of vs → flags ≡ map is_visible ds
+    → JudgesStmts known (stmts xs) (Ok tt) × (ys ≡ map (st_of (names_in known) flags) xs) → JudgesStmts (known_of vs) (stmts xs) (Ok tt) × (ys ≡ map (st_of (names_of vs) (map is_visible ds)) xs)
+stmts_declared vs known ds flags xs ys same flagged h = (
   subst (λ k. JudgesStmts k (stmts xs) (Ok tt)) same h.0,
-  h.1 ∙ ap (λ k. map (st_of (names_in k)) xs) same ∙ ap (λ names. map (st_of names) xs) (names_of_known vs),
+  h.1 ∙ ap (λ k. map (st_of (names_in k) flags) xs) same ∙ ap (λ names. map (st_of names flags) xs) (names_of_known vs) ∙ ap (λ bs. map (st_of (names_of vs) bs) xs) flagged,
 )
 
 pub stmts_broken : (vs : List Variable) (known : List Known) (xs : StmtTrees) (e : TypeError) → known ≡ known_of vs → JudgesStmts known xs (Err e) → JudgesStmts (known_of vs) xs (Err e)

@@ -6,7 +6,7 @@ use Rattle.kf_value.specs.Targets.{Item}
 use Rattle.kf_value.specs.TypeViews.{item_of}
 use Rattle.kf_value.specs.Views.{items_of}
 use Rattle.kf_ast.specs.Stmts.{StmtTree, stmts}
-use Rattle.kf_ast.specs.Sources.{DeclTree, ItemTree, item}
+use Rattle.kf_ast.specs.Sources.{DeclTree, is_visible, ItemTree, item}
 use Rattle.kf_ast.specs.Names.{name}
 use Rattle.kf_core.specs.Views.{dx_tree, st_tree, st_items}
 use Rattle.kf_core.specs.declared.st.St.{St}
@@ -23,16 +23,17 @@ use Rattle.kf_check.specs.Sources.{Variable, types_of, JudgesDecl, JudgesDecls, 
 use Rattle.kf_check.specs.Translation.{st_of, decl_of, AreItems, IsTarget, names_of}
 use Rattle.kf_check.specs.Picks.{names_in}
 use Rattle.kf_check.specs.Variables.{variable_of, variables_in, AreCopied}
+use Rattle.kf_check.specs.Views.{flags_in}
 
--- a statement
-abbrev pub AnswersSt : List Known → StmtTree → Result St TypeError → Type 0
-AnswersSt known x (Ok s) = JudgesStmt known x (Ok tt) × (st_tree s ≡ st_of (names_in known) x)
-AnswersSt known x (Err e) = e ≢ broken.Mem → JudgesStmt known x (Err e)
+-- a statement, where it is told of each known variable whether it is visible
+abbrev pub AnswersSt : List Known → List Bool → StmtTree → Result St TypeError → Type 0
+AnswersSt known flags x (Ok s) = JudgesStmt known x (Ok tt) × (st_tree s ≡ st_of (names_in known) flags x)
+AnswersSt known flags x (Err e) = e ≢ broken.Mem → JudgesStmt known x (Err e)
 
 -- statements one after the other
-abbrev pub AnswersSts : List Known → List StmtTree → Result StList TypeError → Type 0
-AnswersSts known xs (Ok l) = JudgesStmts known (stmts xs) (Ok tt) × (map st_tree (st_items l) ≡ map (st_of (names_in known)) xs)
-AnswersSts known xs (Err e) = e ≢ broken.Mem → JudgesStmts known (stmts xs) (Err e)
+abbrev pub AnswersSts : List Known → List Bool → List StmtTree → Result StList TypeError → Type 0
+AnswersSts known flags xs (Ok l) = JudgesStmts known (stmts xs) (Ok tt) × (map st_tree (st_items l) ≡ map (st_of (names_in known) flags) xs)
+AnswersSts known flags xs (Err e) = e ≢ broken.Mem → JudgesStmts known (stmts xs) (Err e)
 
 -- how many stores there are with one variable more, which has so many values
 abbrev pub AnswersGrowth : ℕ → ℕ → ℕ → ℕ → Result ℕ TypeError → Type 0
@@ -50,6 +51,7 @@ AnswersDecl vs d (Err e) = e ≢ broken.Mem → JudgesDecl vs d (Err e)
 abbrev pub AnswersDecls : List DeclTree → Result Declared TypeError → Type 0
 AnswersDecls ds (Ok x) =
     JudgesDecls [] ds (Ok (variables_in x)) × (map dx_tree x.dists.items ≡ map (decl_of (names_of (variables_in x))) ds)
+    × (flags_in x.names ≡ map is_visible ds)
 AnswersDecls ds (Err e) = e ≢ broken.Mem → JudgesDecls [] ds (Err e)
 
 -- the item stands here, at some place

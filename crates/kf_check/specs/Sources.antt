@@ -31,7 +31,7 @@ Grows ts t at =
 
 -- a declaration behind those of these variables: its name, its type, room for it, and its distribution, in which only they are known
 abbrev pub JudgesDecl : List Variable → DeclTree → Judgement Variable
-JudgesDecl vs (declared (name n at) y d) =
+JudgesDecl vs (declared visible (name n at) y d) =
     After (Where (IsUnknown (known_of vs) n) n (broken.Twice at))
     (λ _. After (JudgesType greatest_size y)
     (λ t. After (Grows (types_of vs) t at)

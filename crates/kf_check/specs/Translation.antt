@@ -1,5 +1,6 @@
--- Believed: which program a source is: names become places of variables, numbers and truth values constants, and nothing else changes.
-use Rattle.std.specs.Prelude.{◌≡◌, ℕ, suc, ◌+◌, pos, true, false, List, [], ◌∷◌, length, map, slice_get, Some, None, Ok, if◌then◌else◌}
+-- Believed: which program a source is: names become places of variables, numbers and truth values constants, an assignment tells whether
+-- its variable is visible, and nothing else changes.
+use Rattle.std.specs.Prelude.{◌≡◌, ℕ, suc, ◌+◌, pos, Bool, true, false, List, [], ◌∷◌, length, map, get_or, slice_get, Some, None, Ok, if◌then◌else◌}
 use Rattle.std.specs.List.{range_with_len}
 use Rattle.std.specs.Str.{bytes_eq}
 use Rattle.kf_value.specs.Values as value
@@ -9,7 +10,7 @@ use Rattle.kf_ast.specs.Names.{name}
 use Rattle.kf_ast.specs.Exprs.{ExprTree, ExprShape, ExprTrees, expr_at, Number, Truth, Name, Apply, Tuple, SetOf, Part, no_exprs, more_exprs}
 use Rattle.kf_ast.specs.Dists.{CaseTree, case_of, DistTree, DistShape, dist_at, Sure, UniformSet, UniformRange, Choose, Flip}
 use Rattle.kf_ast.specs.Stmts.{StmtTree, StmtShape, StmtTrees, stmt_at, Skip, Assign, Observe, If, While, no_stmts, more_stmts}
-use Rattle.kf_ast.specs.Sources.{DeclTree, declared, ItemTree, item, SourceTree, source}
+use Rattle.kf_ast.specs.Sources.{DeclTree, declared, is_visible, ItemTree, item, SourceTree, source}
 use Rattle.kf_core.specs.Exs.{ExTree, ExTrees, no_exs, more_exs}
 use Rattle.kf_core.specs.Exs as ex
 use Rattle.kf_core.specs.Dxs.{DxCaseTree, DxShape, DxTree, dx_at}
@@ -56,23 +57,25 @@ module _ (names : List (List ℕ)) where
   abbrev pub dx_of : DistTree → DxTree
   dx_of (dist_at at shape) = dx_at at (dx_of_shape shape)
 
+  abbrev pub decl_of : DeclTree → DxTree
+  decl_of (declared visible n y d) = dx_of d
+
+-- where variables have these names, and it is told of each whether it is visible
+module _ (names : List (List ℕ)) (visible : List Bool) where
   abbrev mutual
     pub st_of : StmtTree → StTree
     st_of (stmt_at at shape) = st_of_shape shape
 
     pub st_of_shape : StmtShape → StTree
     st_of_shape Skip = st.Skip
-    st_of_shape (Assign (name n at) d) = st.Assign (place_of names n) (dx_of d)
-    st_of_shape (Observe d) = st.Observe (dx_of d)
-    st_of_shape (If d xs ys) = st.If (dx_of d) (sts_of xs) (sts_of ys)
-    st_of_shape (While d xs) = st.While (dx_of d) (sts_of xs)
+    st_of_shape (Assign (name n at) d) = st.Assign (place_of names n) (dx_of names d) (get_or visible (place_of names n) false)
+    st_of_shape (Observe d) = st.Observe (dx_of names d)
+    st_of_shape (If d xs ys) = st.If (dx_of names d) (sts_of xs) (sts_of ys)
+    st_of_shape (While d xs) = st.While (dx_of names d) (sts_of xs)
 
     pub sts_of : StmtTrees → StTrees
     sts_of no_stmts = no_sts
     sts_of (more_stmts x xs) = more_sts (st_of x) (sts_of xs)
-
-  abbrev pub decl_of : DeclTree → DxTree
-  decl_of (declared n y d) = dx_of d
 
 -- Items of a target, behind so many carried copies: the variable of each further copy, the items with their types, and the variable from
 -- which each is read. A value behind the declarations is read from its copy, which stands behind the declared variables.
@@ -114,4 +117,4 @@ pub record Typed (s : SourceTree) (p : ProgramTree) : Type 0 where
   pub are_types : JudgesItems variables [] (types_of variables) items (Ok p.types)
   pub are_decls : p.decls ≡ map (decl_of (names_of variables)) decls
   pub is_target : IsTarget variables items p.copies p.target p.target_slots
-  pub are_statements : p.body ≡ map (st_of (names_of variables)) body
+  pub are_statements : p.body ≡ map (st_of (names_of variables) (map is_visible decls)) body

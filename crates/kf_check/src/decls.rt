@@ -70,7 +70,7 @@ pub fn check_decls(alloc: Global, decls: &[Decl]) -> Result<Declared, TypeError>
             dist,
             stores: grown,
         } = check_decl(alloc, &names, &variables, stores, decl)?;
-        names.push(alloc, &variable.name, kind)?;
+        names.push(alloc, &variable.name, kind, decl.visible)?;
         variables.push(variable)?;
         dists.push(dist)?;
         stores = grown;

@@ -3,7 +3,7 @@ ghost use Rattle.kf_ast.specs.Stmts.{stmts};
 ghost use Rattle.kf_ast.specs.Views.{stmt_tree};
 ghost use Rattle.kf_ast.specs.Built.{IsStmtBuilt, AreListedBuilt};
 ghost use Rattle.kf_ops.specs.Fitting.{Takes};
-ghost use Rattle.kf_check.specs.Views.{known_in};
+ghost use Rattle.kf_check.specs.Views.{known_in, flags_in};
 ghost use Rattle.kf_check.specs.SourceAnswers.{AnswersSt, AnswersSts};
 
 use crate::TypeError;
@@ -18,7 +18,7 @@ use std::alloc::Global;
 #[cycle(check_stmt)]
 pub fn check_stmt(alloc: Global, known: &Names, stmt: &Stmt) -> Result<St, TypeError>
     requires { IsStmtBuilt Takes (stmt_tree stmt.now) }
-    ensures { AnswersSt (known_in known.now) (stmt_tree stmt.now) result }
+    ensures { AnswersSt (known_in known.now) (flags_in known.now) (stmt_tree stmt.now) result }
 {
     Ok(match &stmt.node {
         StmtNode::Skip => St::Skip,
@@ -29,6 +29,7 @@ pub fn check_stmt(alloc: Global, known: &Names, stmt: &Stmt) -> Result<St, TypeE
             St::Assign {
                 slot,
                 dist: asks_dist(alloc, known, kind, dist)?,
+                shown: known.is_visible(slot),
             }
         }
         StmtNode::Observe(observed) => St::Observe(dist(alloc, known, observed)?.dx),
@@ -48,7 +49,7 @@ pub fn check_stmt(alloc: Global, known: &Names, stmt: &Stmt) -> Result<St, TypeE
 #[cycle(check_stmt)]
 pub fn check_stmts(alloc: Global, known: &Names, stmts: &[Stmt]) -> Result<StList, TypeError>
     requires { AreListedBuilt Takes (map stmt_tree stmts.now) }
-    ensures { AnswersSts (known_in known.now) (map stmt_tree stmts.now) result }
+    ensures { AnswersSts (known_in known.now) (flags_in known.now) (map stmt_tree stmts.now) result }
 {
     let mut checked = Vec::new(alloc);
     for stmt in stmts {

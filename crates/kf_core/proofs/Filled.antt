@@ -7,7 +7,7 @@ use Rattle.kf_value.specs.Values.{ValueTree, truth}
 use Rattle.kf_core.specs.Choices.{total}
 use Rattle.kf_core.specs.Dxs.{DxTree}
 use Rattle.kf_core.specs.Sts.{StTree, StTrees, Skip, Assign, Observe, If, While, no_sts, more_sts}
-use Rattle.kf_core.specs.Runs.{Run, Halted, Tried, tried, place, LoopBound, joined, onward, chain, choice_run, branched, silent, shown, stay, stopped, moved, replaced, assigned, guarded, looped, runs, all_runs, declared}
+use Rattle.kf_core.specs.Runs.{Run, Halted, Tried, tried, place, LoopBound, joined, onward, chain, choice_run, branched, silent, shown, stay, stopped, moved, replaced, assigned, guarded, looped, runs, all_runs, declared, leaks}
 use Rattle.kf_core.proofs.Measures.{Full}
 
 abbrev pub Filled : Tried → Type 0
@@ -62,7 +62,7 @@ module _ (guard : ℕ → Tried) (filled : (n : ℕ) → Filled (guard n)) where
 abbrev mutual
   pub Solid : List TypeTree → StTree → Type 0
   Solid ts Skip = Unit {0}
-  Solid ts (Assign i d) = (n : ℕ) → Filled (tried ts d n)
+  Solid ts (Assign i d visible) = (n : ℕ) → Filled (tried ts d n)
   Solid ts (Observe d) = (n : ℕ) → Filled (tried ts d n)
   Solid ts (If d xs ys) = ((n : ℕ) → Filled (tried ts d n)) × AllSolid ts xs × AllSolid ts ys
   Solid ts (While d xs) = ((n : ℕ) → Filled (tried ts d n)) × AllSolid ts xs
@@ -71,14 +71,14 @@ abbrev mutual
   AllSolid ts no_sts = Unit {0}
   AllSolid ts (more_sts x xs) = Solid ts x × AllSolid ts xs
 
-pub assigned_full : (ts : List TypeTree) (i : ℕ) (d : DxTree) → ((n : ℕ) → Filled (tried ts d n)) → (n : ℕ) → Full (assigned ts i d n)
-assigned_full ts i d filled n = branched_full silent n (λ v. moved (place d) (replaced ts i v n)) (λ v. moved_some (place d) (replaced ts i v n)) (tried ts d n) (filled n)
+pub assigned_full : (leak : ValueTree → List ValueTree) (ts : List TypeTree) (i : ℕ) (d : DxTree) → ((n : ℕ) → Filled (tried ts d n)) → (n : ℕ) → Full (assigned leak ts i d n)
+assigned_full leak ts i d filled n = branched_full leak n (λ v. moved (place d) (replaced ts i v n)) (λ v. moved_some (place d) (replaced ts i v n)) (tried ts d n) (filled n)
 
 module _ (ts : List TypeTree) (turns : ℕ) where
   mutual
     pub runs_full : (x : StTree) → Solid ts x → (n : ℕ) → Full (runs ts turns x n)
     runs_full Skip h n = tt
-    runs_full (Assign i d) h n = assigned_full ts i d h n
+    runs_full (Assign i d visible) h n = assigned_full (leaks visible) ts i d h n
     runs_full (Observe d) h n = branched_full shown n (λ v. stay n) (λ v. tt) (tried ts d n) (h n)
     runs_full (If d xs ys) h n = guarded_full (tried ts d) h.0 (all_runs ts turns xs) (all_runs ts turns ys) (all_full xs h.1) (all_full ys h.2) n
     runs_full (While d xs) h n = looped_full (tried ts d) h.0 turns (place d) (all_runs ts turns xs) (all_full xs h.1) n
@@ -92,4 +92,4 @@ DeclsSolid ts ds = Each (λ d. (n : ℕ) → Filled (tried ts d n)) ds
 
 pub declared_full : (ts : List TypeTree) (i : ℕ) (ds : List DxTree) → DeclsSolid ts ds → (n : ℕ) → Full (declared ts i ds n)
 declared_full ts i [] h n = tt
-declared_full ts i (d ∷ ds) h n = chain_full (declared ts (suc i) ds) (declared_full ts (suc i) ds h.1) (assigned ts i d n) (assigned_full ts i d h.0 n)
+declared_full ts i (d ∷ ds) h n = chain_full (declared ts (suc i) ds) (declared_full ts (suc i) ds h.1) (assigned silent ts i d n) (assigned_full silent ts i d h.0 n)

@@ -133,9 +133,9 @@ assign_tells at go (Ok ws) =
     (moves_tell at (map (λ w. go w.value) ws))
 assign_tells at go (Err f) = refl
 
-pub assign_follows : (ts : List TypeTree) (i : ℕ) (d : DxTree) → Follows (assign_pass ts i d) (assigned ts i d)
-assign_follows ts i d =
-    choice_follows silent (λ n v. moved (place d) (replaced ts i v n)) (tried ts d)
+pub assign_follows : (leak : ValueTree → List ValueTree) (ts : List TypeTree) (i : ℕ) (d : DxTree) → Follows (assign_pass ts i d) (assigned leak ts i d)
+assign_follows leak ts i d =
+    choice_follows leak (λ n v. moved (place d) (replaced ts i v n)) (tried ts d)
     (λ n. then_ok (tried ts d n) (λ ws. each_moved (place d) (map (λ w. replaced ts i w.value n) ws)))
     (λ n. assign_tells (place d) (λ v. replaced ts i v n) (tried ts d n))
 

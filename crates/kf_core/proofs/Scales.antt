@@ -18,7 +18,7 @@ use Rattle.kf_core.specs.Choices.{Weighted, Chosen, listed, gathered, lowest, to
 use Rattle.kf_core.specs.ChoiceLaws.{ChoicesAreShares}
 use Rattle.kf_core.specs.Dxs.{DxTree, DxShape, dx_at}
 use Rattle.kf_core.specs.Sts.{StTree, StTrees, Skip, Assign, Observe, If, While, no_sts, more_sts, sts}
-use Rattle.kf_core.specs.Runs.{Run, Halted, Tried, LoopBound, placed_at, tried, store_at, place, ended, stay, stopped, joined, onward, chain, choice_run, branched, silent, shown, moved, replaced, assigned, guarded, looped, runs, all_runs, declared, copied, program_runs}
+use Rattle.kf_core.specs.Runs.{Run, Halted, Tried, LoopBound, placed_at, tried, store_at, place, ended, stay, stopped, joined, onward, chain, choice_run, branched, silent, shown, moved, replaced, assigned, guarded, looped, runs, all_runs, declared, copied, program_runs, leaks}
 use Rattle.kf_core.specs.Scale.{common_scale}
 use Rattle.kf_core.specs.SupportLaws.{CommonScaleIsLeast, ScalesArePositive}
 
@@ -131,15 +131,15 @@ module _ (shares : ChoicesAreShares) where
   pub weighty : (ts : List TypeTree) (d : DxTree) (n : ℕ) → Weighty (tried ts d n)
   weighty ts (dx_at at d) n = listed_weighty (store_at ts n) at d (listed (store_at ts n) d) refl
 
-  assigned_scaled : (ts : List TypeTree) (i : ℕ) (d : DxTree) (n : ℕ) → Scaled (assigned ts i d n)
-  assigned_scaled ts i d n =
-      branched_scaled silent n (λ v. moved (place d) (replaced ts i v n)) (λ v. moved_scaled (place d) (replaced ts i v n)) (tried ts d n) (weighty ts d n)
+  assigned_scaled : (leak : ValueTree → List ValueTree) (ts : List TypeTree) (i : ℕ) (d : DxTree) (n : ℕ) → Scaled (assigned leak ts i d n)
+  assigned_scaled leak ts i d n =
+      branched_scaled leak n (λ v. moved (place d) (replaced ts i v n)) (λ v. moved_scaled (place d) (replaced ts i v n)) (tried ts d n) (weighty ts d n)
 
   module _ (ts : List TypeTree) (turns : ℕ) where
     mutual
       runs_scaled : (x : StTree) (n : ℕ) → Scaled (runs ts turns x n)
       runs_scaled Skip n = ended_scaled (Ok n)
-      runs_scaled (Assign i d) n = assigned_scaled ts i d n
+      runs_scaled (Assign i d visible) n = assigned_scaled (leaks visible) ts i d n
       runs_scaled (Observe d) n = branched_scaled shown n (λ v. stay n) (λ v. ended_scaled (Ok n)) (tried ts d n) (weighty ts d n)
       runs_scaled (If d xs ys) n = guarded_scaled (tried ts d) (weighty ts d) (all_runs ts turns xs) (all_runs ts turns ys) (all_scaled xs) (all_scaled ys) n
       runs_scaled (While d xs) n = looped_scaled (tried ts d) (weighty ts d) turns (place d) (all_runs ts turns xs) (all_scaled xs) n
@@ -150,7 +150,7 @@ module _ (shares : ChoicesAreShares) where
 
   declared_scaled : (ts : List TypeTree) (i : ℕ) (ds : List DxTree) (n : ℕ) → Scaled (declared ts i ds n)
   declared_scaled ts i [] n = ended_scaled (Ok n)
-  declared_scaled ts i (d ∷ ds) n = chain_scaled (declared ts (suc i) ds) (declared_scaled ts (suc i) ds) (assigned ts i d n) (assigned_scaled ts i d n)
+  declared_scaled ts i (d ∷ ds) n = chain_scaled (declared ts (suc i) ds) (declared_scaled ts (suc i) ds) (assigned silent ts i d n) (assigned_scaled silent ts i d n)
 
   pub scales_positive : ScalesArePositive
   scales_positive turns p =

@@ -20,7 +20,7 @@ use Rattle.kf_core.specs.Dxs.{DxTree, DxCaseTree, case_of, DxShape, dx_at}
 use Rattle.kf_core.specs.Evaluation.{Evaluated, ev, set_of}
 use Rattle.kf_core.specs.Programs.{ProgramTree}
 use Rattle.kf_core.specs.Sts.{StTree, StTrees, Skip, Assign, Observe, If, While, no_sts, more_sts, sts}
-use Rattle.kf_core.specs.Runs.{Run, Halted, Tried, tried, placed_at, store_at, place, LoopBound, ended, stay, stopped, joined, onward, chain, choice_run, branched, silent, shown, moved, replaced, assigned, guarded, looped, runs, all_runs, declared, copied, program_runs}
+use Rattle.kf_core.specs.Runs.{Run, Halted, Tried, tried, placed_at, store_at, place, LoopBound, ended, stay, stopped, joined, onward, chain, choice_run, branched, silent, shown, moved, replaced, assigned, guarded, looped, runs, all_runs, declared, copied, program_runs, leaks}
 use Rattle.kf_core.proofs.Shares.{passes_test}
 use Rattle.kf_core.proofs.Scales.{Weighty, weighty}
 use Rattle.kf_core.proofs.Measures.{Full}
@@ -203,14 +203,14 @@ module _ (guard : ℕ → Tried) (weights : (n : ℕ) → Weighty (guard n)) whe
       guarded_heavy (λ m. chain (body m) (looped k guard at body)) stay (λ m. chain_heavy (looped k guard at body) (looped_heavy k at body h) (body m) (h m)) (λ m. ended_heavy (Ok m)) n
 
 module _ (shares : ChoicesAreShares) where
-  assigned_heavy : (ts : List TypeTree) (i : ℕ) (d : DxTree) (n : ℕ) → Heavy (assigned ts i d n)
-  assigned_heavy ts i d n = branched_heavy silent n (λ v. moved (place d) (replaced ts i v n)) (λ v. moved_heavy (place d) (replaced ts i v n)) (tried ts d n) (weighty shares ts d n)
+  assigned_heavy : (leak : ValueTree → List ValueTree) (ts : List TypeTree) (i : ℕ) (d : DxTree) (n : ℕ) → Heavy (assigned leak ts i d n)
+  assigned_heavy leak ts i d n = branched_heavy leak n (λ v. moved (place d) (replaced ts i v n)) (λ v. moved_heavy (place d) (replaced ts i v n)) (tried ts d n) (weighty shares ts d n)
 
   module _ (ts : List TypeTree) (turns : ℕ) where
     mutual
       runs_heavy : (x : StTree) (n : ℕ) → Heavy (runs ts turns x n)
       runs_heavy Skip n = ended_heavy (Ok n)
-      runs_heavy (Assign i d) n = assigned_heavy ts i d n
+      runs_heavy (Assign i d visible) n = assigned_heavy (leaks visible) ts i d n
       runs_heavy (Observe d) n = branched_heavy shown n (λ v. stay n) (λ v. ended_heavy (Ok n)) (tried ts d n) (weighty shares ts d n)
       runs_heavy (If d xs ys) n = guarded_heavy (tried ts d) (weighty shares ts d) (all_runs ts turns xs) (all_runs ts turns ys) (all_heavy xs) (all_heavy ys) n
       runs_heavy (While d xs) n = looped_heavy (tried ts d) (weighty shares ts d) turns (place d) (all_runs ts turns xs) (all_heavy xs) n
@@ -221,7 +221,7 @@ module _ (shares : ChoicesAreShares) where
 
   declared_heavy : (ts : List TypeTree) (i : ℕ) (ds : List DxTree) (n : ℕ) → Heavy (declared ts i ds n)
   declared_heavy ts i [] n = ended_heavy (Ok n)
-  declared_heavy ts i (d ∷ ds) n = chain_heavy (declared ts (suc i) ds) (declared_heavy ts (suc i) ds) (assigned ts i d n) (assigned_heavy ts i d n)
+  declared_heavy ts i (d ∷ ds) n = chain_heavy (declared ts (suc i) ds) (declared_heavy ts (suc i) ds) (assigned silent ts i d n) (assigned_heavy silent ts i d n)
 
   pub program_heavy : (turns : ℕ) (p : ProgramTree) → Each (λ r. 0 < r.weight) (program_runs turns p)
   program_heavy turns p =

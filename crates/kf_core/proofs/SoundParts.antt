@@ -1,5 +1,5 @@
 -- The parts of a sound statement, and those of a checked program, in the words of the code.
-use Rattle.std.proofs.Common.{◌≡◌, ℕ, ◌<◌, List, [], ◌∷◌, length, map, get_or, slice_get, Some, refl, sym, ap, ◌∙◌, subst, rules, arith}
+use Rattle.std.proofs.Common.{◌≡◌, ℕ, Bool, ◌<◌, List, [], ◌∷◌, length, map, get_or, slice_get, Some, refl, sym, ap, ◌∙◌, subst, rules, arith}
 use Rattle.std.specs.Option.{option_map}
 use Rattle.std.proofs.lemmas.List.{length-map}
 use Rattle.std.proofs.lemmas.Option.{slice_get_within, slice_get-map, slice_get-get_or}
@@ -21,8 +21,8 @@ use Rattle.kf_core.proofs.Wider.{checked_decl, checked_body}
 pub tree-Skip : st_tree code.Skip ≡ Skip
 tree-Skip = search (rules, the_lemmas)
 
-pub tree-Assign : (i : ℕ) (d : Dx) → st_tree (code.Assign i d) ≡ Assign i (dx_tree d)
-tree-Assign i d = search (rules, the_lemmas)
+pub tree-Assign : (i : ℕ) (d : Dx) (visible : Bool) → st_tree (code.Assign i d visible) ≡ Assign i (dx_tree d) visible
+tree-Assign i d visible = search (rules, the_lemmas)
 
 pub tree-Observe : (d : Dx) → st_tree (code.Observe d) ≡ Observe (dx_tree d)
 tree-Observe d = search (rules, the_lemmas)
@@ -40,7 +40,7 @@ sts_list-sts (s ∷ ss) = ap (λ us. s ∷ us) (sts_list-sts ss)
 module _ (ks : List KindTree) where
   abbrev Parts : StTree → Type 0
   Parts Skip = Unit {0}
-  Parts (Assign i d) = (k : KindTree) × ((slice_get ks i ≡ Some k) × DistKinded ks d k)
+  Parts (Assign i d visible) = (k : KindTree) × ((slice_get ks i ≡ Some k) × DistKinded ks d k)
   Parts (Observe d) = (k : KindTree) × DistKinded ks d k
   Parts (If d xs ys) = DistKinded ks d TruthKind × (AreSound ks (sts_list xs) × AreSound ks (sts_list ys))
   Parts (While d xs) = DistKinded ks d TruthKind × AreSound ks (sts_list xs)
@@ -59,8 +59,9 @@ module _ (ks : List KindTree) where
   listed us xs same h = subst (λ vs. AreSound ks (map st_tree vs)) (sym same) (subst (AreSound ks) (sts_list-sts (map st_tree (st_items xs))) h)
 
   module _ (s : St) (sound : IsSound ks (st_tree s)) where
-    pub assign_parts : (i : ℕ) (d : Dx) → s ≡ code.Assign i d → (k : KindTree) × ((slice_get ks i ≡ Some k) × DistKinded ks (dx_tree d) k)
-    assign_parts i d is = parts (subst (IsSound ks) (ap st_tree is ∙ tree-Assign i d) sound)
+    pub assign_parts : (i : ℕ) (d : Dx) (visible : Bool) → s ≡ code.Assign i d visible
+        → (k : KindTree) × ((slice_get ks i ≡ Some k) × DistKinded ks (dx_tree d) k)
+    assign_parts i d visible is = parts (subst (IsSound ks) (ap st_tree is ∙ tree-Assign i d visible) sound)
 
     pub observe_parts : (d : Dx) → s ≡ code.Observe d → (k : KindTree) × DistKinded ks (dx_tree d) k
     observe_parts d is = parts (subst (IsSound ks) (ap st_tree is ∙ tree-Observe d) sound)

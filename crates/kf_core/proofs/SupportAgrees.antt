@@ -6,7 +6,7 @@ use Rattle.kf_value.specs.Types.{TypeTree}
 use Rattle.kf_core.specs.Dxs.{DxTree}
 use Rattle.kf_core.specs.Sts.{StTree, StTrees, Skip, Assign, Observe, If, While, no_sts, more_sts, sts}
 use Rattle.kf_core.specs.Programs.{ProgramTree}
-use Rattle.kf_core.specs.Runs.{Run, Halted, tried, place, chain, assigned, runs, all_runs, declared, copied, program_runs}
+use Rattle.kf_core.specs.Runs.{Run, Halted, tried, place, chain, assigned, runs, all_runs, declared, copied, program_runs, leaks, silent}
 use Rattle.kf_core.specs.Support.{StoreSet, Passed, assign_pass, pass, all_pass, declare_pass, program_pass}
 use Rattle.kf_core.specs.SupportLaws.{Agrees, PassAgrees, BlockAgrees, ProgramAgrees, FaultIsOfARun}
 use Rattle.kf_core.proofs.Among.{any_from_among, among_from_any}
@@ -20,7 +20,7 @@ module _ (ts : List TypeTree) (turns : ℕ) where
   mutual
     pub pass_follows : (x : StTree) → Follows (pass ts turns x) (runs ts turns x)
     pass_follows Skip = stay_follows
-    pass_follows (Assign i d) = assign_follows ts i d
+    pass_follows (Assign i d visible) = assign_follows (leaks visible) ts i d
     pass_follows (Observe d) = observe_follows (tried ts d)
     pass_follows (If d xs ys) =
         guard_follows (tried ts d) (all_pass ts turns xs) (all_pass ts turns ys) (all_runs ts turns xs) (all_runs ts turns ys) (all_follow xs) (all_follow ys)
@@ -32,7 +32,7 @@ module _ (ts : List TypeTree) (turns : ℕ) where
 
 declare_follows : (ts : List TypeTree) (i : ℕ) (ds : List DxTree) → Follows (declare_pass ts i ds) (declared ts i ds)
 declare_follows ts i [] = stay_follows
-declare_follows ts i (d ∷ ds) = chain_follows (assign_pass ts i d) (declare_pass ts (suc i) ds) (assigned ts i d) (declared ts (suc i) ds) (assign_follows ts i d) (declare_follows ts (suc i) ds)
+declare_follows ts i (d ∷ ds) = chain_follows (assign_pass ts i d) (declare_pass ts (suc i) ds) (assigned silent ts i d) (declared ts (suc i) ds) (assign_follows silent ts i d) (declare_follows ts (suc i) ds)
 
 -- ---- in the words of contracts
 

@@ -1,5 +1,5 @@
 -- That a program is checked can be settled: where it is only said to be, the facts are at hand again.
-use Rattle.std.proofs.Common.{◌≡◌, ℕ, ◌+◌, List, [], ◌∷◌, length, map, take, slice_get, Option, Some, None, true, refl, ap, ◌∙◌, subst, sym}
+use Rattle.std.proofs.Common.{◌≡◌, ℕ, ◌+◌, Bool, List, [], ◌∷◌, length, map, take, slice_get, Option, Some, None, true, refl, ap, ◌∙◌, subst, sym}
 use Rattle.std.proofs.Math.Bool.{Bool-discrete}
 use Rattle.std.proofs.Math.Logic.{∥∥₁_map}
 use Rattle.kf_value.specs.Kinds.{KindTree, TruthKind, kind_of}
@@ -27,7 +27,7 @@ module _ (ks : List KindTree) where
   -- what is asked of the parts of a statement
   abbrev Parts : StTree → Type 0
   Parts Skip = Unit {0}
-  Parts (Assign slot d) = (k : KindTree) × (slice_get ks slot ≡ Some k) × DistKinded ks d k
+  Parts (Assign slot d visible) = (k : KindTree) × (slice_get ks slot ≡ Some k) × DistKinded ks d k
   Parts (Observe d) = (k : KindTree) × DistKinded ks d k
   Parts (If d xs ys) = DistKinded ks d TruthKind × AreSound ks (sts_list xs) × AreSound ks (sts_list ys)
   Parts (While d xs) = DistKinded ks d TruthKind × AreSound ks (sts_list xs)
@@ -45,9 +45,9 @@ module _ (ks : List KindTree) where
   while_of : (d : DxTree) (xs : StTrees) → DistKinded ks d TruthKind → AreSound ks (sts_list xs) → IsSound ks (While d xs)
   while_of d xs h hs = subst (λ zs. IsSound ks (While d zs)) (sts-sts_list xs) (rule.while h hs)
 
-  assign_parts : (slot : ℕ) (d : DxTree) (o : Option KindTree) → slice_get ks slot ≡ o → Dec (Parts (Assign slot d))
-  assign_parts slot d None e = no (λ p. let clash : None ≡ Some p.0 = sym e ∙ p.1 in cc)
-  assign_parts slot d (Some k) e = as_well (dist_kinded ks d k) (λ h. (k, e, h)) (λ p. let same : Some k ≡ Some p.0 = sym e ∙ p.1 in subst (DistKinded ks d) (let inner : k ≡ p.0 = cc in sym inner) p.2)
+  assign_parts : (slot : ℕ) (d : DxTree) (visible : Bool) (o : Option KindTree) → slice_get ks slot ≡ o → Dec (Parts (Assign slot d visible))
+  assign_parts slot d visible None e = no (λ p. let clash : None ≡ Some p.0 = sym e ∙ p.1 in cc)
+  assign_parts slot d visible (Some k) e = as_well (dist_kinded ks d k) (λ h. (k, e, h)) (λ p. let same : Some k ≡ Some p.0 = sym e ∙ p.1 in subst (DistKinded ks d) (let inner : k ≡ p.0 = cc in sym inner) p.2)
 
   head_sound : {x : StTree} {xs : List StTree} → AreSound ks (x ∷ xs) → IsSound ks x
   head_sound (rule.more h hs) = h
@@ -58,7 +58,7 @@ module _ (ks : List KindTree) where
   mutual
     sound : (x : StTree) → Dec (IsSound ks x)
     sound Skip = yes rule.skip
-    sound (Assign slot d) = as_well (assign_parts slot d (slice_get ks slot) refl) (λ p. rule.assign slot p.1 p.2) parts_of
+    sound (Assign slot d visible) = as_well (assign_parts slot d visible (slice_get ks slot) refl) (λ p. rule.assign slot p.1 p.2) parts_of
     sound (Observe d) = as_well (dist_of_some ks d) (λ p. rule.observe p.1) parts_of
     sound (If d xs ys) = both (dist_kinded ks d TruthKind)
         (both (all_sound xs) (all_sound ys) (λ hs gs. (hs, gs)) (λ (p : AreSound ks (sts_list xs) × AreSound ks (sts_list ys)). p.0) (λ p. p.1))

@@ -9,7 +9,7 @@ use Rattle.kf_value.specs.Values.{ValueTree, truth}
 use Rattle.kf_core.specs.Choices.{Weighted, total}
 use Rattle.kf_core.specs.Dxs.{DxTree}
 use Rattle.kf_core.specs.Sts.{StTree, StTrees, Skip, Assign, Observe, If, While, no_sts, more_sts}
-use Rattle.kf_core.specs.Runs.{Run, Halted, Tried, tried, place, LoopBound, chain, branched, silent, shown, stay, stopped, moved, replaced, assigned, guarded, looped, runs, all_runs, declared}
+use Rattle.kf_core.specs.Runs.{Run, Halted, Tried, tried, place, LoopBound, chain, branched, silent, shown, stay, stopped, moved, replaced, assigned, guarded, looped, runs, all_runs, declared, leaks}
 use Rattle.kf_core.proofs.Sums.{adds, adds_same}
 use Rattle.kf_core.proofs.Measures.{Measure, Trace, Ends, end_value, RunsWithin, runs_value, ahead, Full, chain_runs, choices_run, choices_first, ChosenWithin, stay_value}
 use Rattle.kf_core.proofs.Filled.{Filled, Solid, AllSolid, DeclsSolid, looped_full, moved_some, side_full, all_full, declared_full, chain_full}
@@ -88,15 +88,15 @@ module _ (guard : ℕ → Tried) (filled : (n : ℕ) → Filled (guard n)) where
       guarded_keeps (λ m. chain (body m) (looped k guard at body)) stay (λ m. chain_full (looped k guard at body) rest (body m) (full m)) (λ m. tt)
       (chain_keeps (looped k guard at body) (looped_keeps k at body full h) body rest h) stay_keeps
 
-assigned_keeps : (ts : List TypeTree) (i : ℕ) (d : DxTree) → ((n : ℕ) → Filled (tried ts d n)) → Keeps (assigned ts i d)
-assigned_keeps ts i d filled t n v within =
-    branched_keeps silent n (λ u. moved (place d) (replaced ts i u n)) (λ u. moved_some (place d) (replaced ts i u n)) (λ u. moved_keeps_all (place d) (replaced ts i u n)) (tried ts d n) (filled n) t v within
+assigned_keeps : (leak : ValueTree → List ValueTree) (ts : List TypeTree) (i : ℕ) (d : DxTree) → ((n : ℕ) → Filled (tried ts d n)) → Keeps (assigned leak ts i d)
+assigned_keeps leak ts i d filled t n v within =
+    branched_keeps leak n (λ u. moved (place d) (replaced ts i u n)) (λ u. moved_some (place d) (replaced ts i u n)) (λ u. moved_keeps_all (place d) (replaced ts i u n)) (tried ts d n) (filled n) t v within
 
 module _ (ts : List TypeTree) (turns : ℕ) where
   mutual
     pub keeps : (x : StTree) → Solid ts x → Keeps (runs ts turns x)
     keeps Skip h = stay_keeps
-    keeps (Assign i d) h = assigned_keeps ts i d h
+    keeps (Assign i d visible) h = assigned_keeps (leaks visible) ts i d h
     keeps (Observe d) h = λ t n v within. branched_keeps shown n (λ u. stay n) (λ u. tt) (λ u t v k. stay_value all_weight t v n) (tried ts d n) (h n) t v within
     keeps (If d xs ys) h =
         guarded_keeps (tried ts d) h.0 (all_runs ts turns xs) (all_runs ts turns ys) (all_full ts turns xs h.1) (all_full ts turns ys h.2) (all_keep xs h.1) (all_keep ys h.2)
@@ -109,4 +109,4 @@ module _ (ts : List TypeTree) (turns : ℕ) where
 pub decls_keep : (ts : List TypeTree) (i : ℕ) (ds : List DxTree) → DeclsSolid ts ds → Keeps (declared ts i ds)
 decls_keep ts i [] h = stay_keeps
 decls_keep ts i (d ∷ ds) h =
-    chain_keeps (declared ts (suc i) ds) (decls_keep ts (suc i) ds h.1) (assigned ts i d) (declared_full ts (suc i) ds h.1) (assigned_keeps ts i d h.0)
+    chain_keeps (declared ts (suc i) ds) (decls_keep ts (suc i) ds h.1) (assigned silent ts i d) (declared_full ts (suc i) ds h.1) (assigned_keeps silent ts i d h.0)

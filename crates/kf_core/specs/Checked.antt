@@ -56,7 +56,8 @@ mutual
   -- where variables have these kinds, each node of the statement has the kind that is asked of it
   pub data IsSound (ks : List KindTree) : StTree → Type 0 where
     skip : IsSound ks Skip
-    assign : (slot : ℕ) {d : DxTree} {k : KindTree} → slice_get ks slot ≡ Some k → DistKinded ks d k → IsSound ks (Assign slot d)
+    assign : (slot : ℕ) {d : DxTree} {k : KindTree} {shown : Bool} → slice_get ks slot ≡ Some k → DistKinded ks d k
+        → IsSound ks (Assign slot d shown)
     observe : {d : DxTree} {k : KindTree} → DistKinded ks d k → IsSound ks (Observe d)
     if_else : {d : DxTree} {xs ys : List StTree} → DistKinded ks d TruthKind → AreSound ks xs → AreSound ks ys
         → IsSound ks (If d (sts xs) (sts ys))

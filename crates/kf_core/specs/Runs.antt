@@ -1,6 +1,6 @@
 -- Believed: runs: every way through statements from a store, to its end or to a fault, with its trace and its weight (Gibbons et al.
 -- 2020, weighted pairs of trace and state; the loop here has a bound on its turns). A store is named by its number in the shape.
-use Rattle.std.specs.Prelude.{ℕ, suc, zero, ◌*◌, List, [], ◌∷◌, ◌++◌, false, map, take, length, get_or, slice_set, if◌then◌else◌, Option, None, Some, Result, Ok, Err, flat_map}
+use Rattle.std.specs.Prelude.{ℕ, suc, zero, ◌*◌, List, [], ◌∷◌, ◌++◌, Bool, true, false, map, take, length, get_or, slice_set, if◌then◌else◌, Option, None, Some, Result, Ok, Err, flat_map}
 use Rattle.std.specs.List.{position}
 use Rattle.std.specs.Cmp.Lexicographic.{pointwise}
 use Rattle.kf_value.specs.Values.{ValueTree, Truth, truth, is_equal}
@@ -91,13 +91,18 @@ silent v = []
 abbrev pub shown : ValueTree → List ValueTree
 shown v = v ∷ []
 
+-- what an assignment leaks: the value, where the variable is visible
+abbrev pub leaks : Bool → ValueTree → List ValueTree
+leaks true = shown
+leaks false = silent
+
 abbrev pub moved : ℕ → Option ℕ → List Run
 moved at (Some n) = stay n
 moved at None = stopped OutOfRange at
 
--- variable i takes a value, and nothing is leaked
-abbrev pub assigned : List TypeTree → ℕ → DxTree → ℕ → List Run
-assigned ts i d n = branched silent n (λ v. moved (place d) (replaced ts i v n)) (tried ts d n)
+-- variable i takes a value
+abbrev pub assigned : (ValueTree → List ValueTree) → List TypeTree → ℕ → DxTree → ℕ → List Run
+assigned leak ts i d n = branched leak n (λ v. moved (place d) (replaced ts i v n)) (tried ts d n)
 
 -- the guard's value is leaked and decides
 abbrev pub guarded : (ℕ → Tried) → (ℕ → List Run) → (ℕ → List Run) → ℕ → List Run
@@ -112,7 +117,7 @@ looped (suc k) guard at body = guarded guard (λ n. chain (body n) (looped k gua
 abbrev mutual
   pub runs : List TypeTree → ℕ → StTree → ℕ → List Run
   runs ts turns Skip n = stay n
-  runs ts turns (Assign i d) n = assigned ts i d n
+  runs ts turns (Assign i d visible) n = assigned (leaks visible) ts i d n
   runs ts turns (Observe d) n = branched shown n (λ v. stay n) (tried ts d n)
   runs ts turns (If d xs ys) n = guarded (tried ts d) (all_runs ts turns xs) (all_runs ts turns ys) n
   runs ts turns (While d xs) n = looped turns (tried ts d) (place d) (all_runs ts turns xs) n
@@ -121,10 +126,10 @@ abbrev mutual
   all_runs ts turns no_sts n = stay n
   all_runs ts turns (more_sts x xs) n = chain (runs ts turns x n) (all_runs ts turns xs)
 
--- declarations from variable i on, each an assignment
+-- declarations from variable i on, each an assignment that leaks nothing, whether or not the variable is visible
 abbrev pub declared : List TypeTree → ℕ → List DxTree → ℕ → List Run
 declared ts i [] n = stay n
-declared ts i (d ∷ ds) n = chain (assigned ts i d n) (declared ts (suc i) ds)
+declared ts i (d ∷ ds) n = chain (assigned silent ts i d n) (declared ts (suc i) ds)
 
 -- the values of a store where each carried copy has the value of its variable
 abbrev pub carried : ProgramTree → List ValueTree → List ValueTree

@@ -1,11 +1,12 @@
 -- Believed: statements of a checked program as plain trees.
-use Rattle.std.specs.Prelude.{ℕ, List, [], ◌∷◌}
+use Rattle.std.specs.Prelude.{ℕ, Bool, List, [], ◌∷◌}
 use Rattle.kf_core.specs.Dxs.{DxTree}
 
 mutual
   pub data StTree : Type 0 where
     Skip : StTree
-    Assign : ℕ → DxTree → StTree
+    -- a variable takes a value, which is shown or not
+    Assign : ℕ → DxTree → Bool → StTree
     Observe : DxTree → StTree
     If : DxTree → StTrees → StTrees → StTree
     While : DxTree → StTrees → StTree

@@ -79,7 +79,7 @@ loop_pass (suc k) guard at body ns = guard_pass guard (λ turn. then_ok (body tu
 abbrev mutual
   pub pass : List TypeTree → ℕ → StTree → StoreSet → Passed StoreSet
   pass ts turns Skip ns = Ok ns
-  pass ts turns (Assign i d) ns = assign_pass ts i d ns
+  pass ts turns (Assign i d visible) ns = assign_pass ts i d ns
   pass ts turns (Observe d) ns = step (λ n. same n (tried ts d n)) ns
   pass ts turns (If d xs ys) ns = guard_pass (tried ts d) (all_pass ts turns xs) (all_pass ts turns ys) ns
   pass ts turns (While d xs) ns = loop_pass turns (tried ts d) (place d) (all_pass ts turns xs) ns

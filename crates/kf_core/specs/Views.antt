@@ -69,7 +69,7 @@ sts_list (more_sts s ss) = s ∷ sts_list ss
 -- a statement of the program as a tree
 abbrev pub st_step : St-F StTree (List StTree) → StTree
 st_step St-F.Skip = Skip
-st_step (St-F.Assign slot d) = Assign slot (dx_tree d)
+st_step (St-F.Assign slot d shown) = Assign slot (dx_tree d) shown
 st_step (St-F.Observe d) = Observe (dx_tree d)
 st_step (St-F.If d xs ys) = If (dx_tree d) (sts xs) (sts ys)
 st_step (St-F.While d xs) = While (dx_tree d) (sts xs)

@@ -8,8 +8,8 @@ use crate::Dx;
 #[derive(Drop)]
 pub enum St {
     Skip,
-    /// Gives a variable, named by its place in the shape, a new value.
-    Assign { slot: u8, dist: Dx },
+    /// Gives a variable, named by its place in the shape, a new value. A visible variable's new value is shown to the observer.
+    Assign { slot: u8, dist: Dx, shown: bool },
     Observe(Dx),
     If { guard: Dx, yes: StList, no: StList },
     While { guard: Dx, body: StList },

@@ -39,11 +39,11 @@ sign_text sign.Star = codes "*"
 -- the reserved words that are no operators, each with its letters
 abbrev pub own_words : List (List ℕ × Word)
 own_words =
-    (codes "var", word.VarWord) ∷ (codes "bool", word.BoolWord) ∷ (codes "set", word.SetWord)
-    ∷ (codes "of", word.OfWord) ∷ (codes "about", word.AboutWord) ∷ (codes "old", word.OldWord)
-    ∷ (codes "skip", word.SkipWord) ∷ (codes "observe", word.ObserveWord) ∷ (codes "if", word.IfWord)
-    ∷ (codes "else", word.ElseWord) ∷ (codes "while", word.WhileWord) ∷ (codes "uniform", word.UniformWord)
-    ∷ (codes "choose", word.ChooseWord) ∷ (codes "flip", word.FlipWord)
+    (codes "var", word.VarWord) ∷ (codes "vis", word.VisWord) ∷ (codes "bool", word.BoolWord)
+    ∷ (codes "set", word.SetWord) ∷ (codes "of", word.OfWord) ∷ (codes "about", word.AboutWord)
+    ∷ (codes "old", word.OldWord) ∷ (codes "skip", word.SkipWord) ∷ (codes "observe", word.ObserveWord)
+    ∷ (codes "if", word.IfWord) ∷ (codes "else", word.ElseWord) ∷ (codes "while", word.WhileWord)
+    ∷ (codes "uniform", word.UniformWord) ∷ (codes "choose", word.ChooseWord) ∷ (codes "flip", word.FlipWord)
     ∷ (codes "true", word.TrueWord) ∷ (codes "false", word.FalseWord) ∷ []
 
 -- the word that the list pairs with the operator

@@ -27,6 +27,7 @@ pub enum Tok {
 #[derive(Clone, Copy, Debug, PartialEq, Eq)]
 pub enum Word {
     VarWord,
+    VisWord,
     BoolWord,
     SetWord,
     OfWord,

@@ -44,6 +44,7 @@ fn own_word(text: &str) -> Option<Word>
 {
     match text {
         "var" => Some(Word::VarWord),
+        "vis" => Some(Word::VisWord),
         "bool" => Some(Word::BoolWord),
         "set" => Some(Word::SetWord),
         "of" => Some(Word::OfWord),

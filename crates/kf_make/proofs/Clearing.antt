@@ -83,7 +83,7 @@ module _ (h at : ℕ) (low : h < 65536) where
   full_once [] some = absurd (omega arith)
   full_once (v ∷ vs) some = tt
 
-  uniform_ends : AllEndOn (h + 1) (assigned types 0 uniform 0)
+  uniform_ends : AllEndOn (h + 1) (assigned silent types 0 uniform 0)
   uniform_ends =
       let vs = values (numbers h) in
       let next : ValueTree → List Run = λ v. moved at (replaced types 0 v 0) in
@@ -93,7 +93,7 @@ module _ (h at : ℕ) (low : h < 65536) where
       (each_map (λ (w : Weighted). AllEndOn 1 (next w.value)) once vs (each_placed (λ v. AllEndOn 1 (next v)) vs value_ends)))
 
   declared_ends : AllEndOn (h + 1) (declared types 0 (uniform ∷ []) 0)
-  declared_ends = chain_ends (h + 1) 1 (h + 1) (omega arith) (declared types 1 []) stay_ends (assigned types 0 uniform 0) uniform_ends
+  declared_ends = chain_ends (h + 1) 1 (h + 1) (omega arith) (declared types 1 []) stay_ends (assigned silent types 0 uniform 0) uniform_ends
 
 -- ---- the program
 

@@ -1,5 +1,5 @@
 -- The tokens of the made text are those of its source, by the grammar.
-use Rattle.std.proofs.Common.{◌≡◌, ◌+◌, ◌-◌, ℕ, zero, suc, List, [], ◌∷◌, ◌++◌, codes, length, length-append, append-nil, append_assoc, pos, take, drop, slice_range, refl, sym, ap, ◌∙◌, subst, arith}
+use Rattle.std.proofs.Common.{◌≡◌, ◌+◌, ◌-◌, ℕ, zero, suc, false, List, [], ◌∷◌, ◌++◌, codes, length, length-append, append-nil, append_assoc, pos, take, drop, slice_range, refl, sym, ap, ◌∙◌, subst, arith}
 use Rattle.std.proofs.Math.Seq.{drop-append_seam, take-append_seam}
 use Rattle.kf_lex.specs.declared.token.Sign.TheVariants as s
 use Rattle.kf_lex.specs.declared.token.Tok.TheVariants as t
@@ -116,10 +116,10 @@ module _ (src : List ℕ) where
       let alike = g.uniform_range (token_at (t.Word w.UniformWord) 17 24) (token_at (t.Sign s.Range) 26 28) refl
       (number (token_at (t.Number 0) 25 26) refl) refl (number (token_at (t.Number 63) 28 30) refl) refl in
       let there : (text : List ℕ) → DeclTree =
-      λ text. declared (name text 4) (type_at 8 (Range (pos 0) (pos 63))) (dist_at 17 (UniformRange (number_at 25 0) (number_at 28 63))) in
+      λ text. declared false (name text 4) (type_at 8 (Range (pos 0) (pos 63))) (dist_at 17 (UniformRange (number_at 25 0) (number_at 28 63))) in
       subst (λ text. Declaration src (tokens_of 0 0 head_fragments []) (there text)) spelt
-      (p.var (token_at (t.Word w.VarWord) 0 3) (token_at t.Name 4 5) (token_at (t.Sign s.Colon) 6 7) (token_at (t.Sign s.Assign) 14 16)
-      (token_at (t.Sign s.Semi) 30 31) refl refl refl values refl alike refl refl)
+      (p.variable (token_at (t.Word w.VarWord) 0 3) (token_at t.Name 4 5) (token_at (t.Sign s.Colon) 6 7) (token_at (t.Sign s.Assign) 14 16)
+      (token_at (t.Sign s.Semi) 30 31) (p.var refl) refl refl values refl alike refl refl)
 
 pub made_derived : (count : ℕ) → IsProgram (make_source count) (made_tokens count) (made_tree count)
 made_derived count =

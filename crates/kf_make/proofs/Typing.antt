@@ -1,5 +1,5 @@
 -- The made source breaks no rule, and has the made program.
-use Rattle.std.proofs.Common.{◌≡◌, ℕ, zero, suc, ◌+◌, ◌*◌, ◌^◌, ◌≤◌, pos, List, [], ◌∷◌, map, codes, None, Ok, refl, ap, arith}
+use Rattle.std.proofs.Common.{◌≡◌, ℕ, zero, suc, ◌+◌, ◌*◌, ◌^◌, ◌≤◌, pos, false, List, [], ◌∷◌, map, codes, None, Ok, refl, ap, arith}
 use Rattle.std.proofs.lemmas.List.Elements.{All-nil}
 use Rattle.kf_value.specs.Kinds.{WholeKind}
 use Rattle.kf_value.specs.Types.{Range}
@@ -66,9 +66,9 @@ are_statements : (k at : ℕ) → JudgesStmts known (stmts (made_statements at k
 are_statements zero at = refl
 are_statements (suc k) at = (tt, is_statement at, are_statements k _)
 
-same_statements : (k at : ℕ) → made_body at k ≡ map (st_of (codes "x" ∷ [])) (made_statements at k)
+same_statements : (k at : ℕ) → made_body at k ≡ map (st_of (codes "x" ∷ []) (false ∷ [])) (made_statements at k)
 same_statements zero at = refl
-same_statements (suc k) at = ap (λ ss. st_of (codes "x" ∷ []) (made_statement at) ∷ ss) (same_statements k _)
+same_statements (suc k) at = ap (λ ss. st_of (codes "x" ∷ []) (false ∷ []) (made_statement at) ∷ ss) (same_statements k _)
 
 -- ---- the declaration
 

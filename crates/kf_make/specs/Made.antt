@@ -42,7 +42,7 @@ made_statements at zero = []
 made_statements at (suc k) = made_statement at ∷ made_statements (at + 49) k
 
 abbrev pub made_declaration : DeclTree
-made_declaration = declared (name (codes "x") 4) (type_at 8 (Range (pos 0) (pos 63))) (dist_at 17 (UniformRange (number_at 25 0) (number_at 28 63)))
+made_declaration = declared false (name (codes "x") 4) (type_at 8 (Range (pos 0) (pos 63))) (dist_at 17 (UniformRange (number_at 25 0) (number_at 28 63)))
 
 abbrev pub made_tree : ℕ → SourceTree
 made_tree count = source (made_declaration ∷ []) [] (made_statements 32 count)

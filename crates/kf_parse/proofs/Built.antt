@@ -65,7 +65,7 @@ listed_built (x ∷ xs) b = (b.0, listed_built xs b.1)
 
 push_decls : (xs : List DeclTree) (y : DeclTree) → AreDeclsBuilt Takes xs → AreDeclsBuilt Takes (y ∷ []) → AreDeclsBuilt Takes (xs ++ y ∷ [])
 push_decls [] y b c = c
-push_decls (declared n t d ∷ xs) y b c = (b.0, b.1, push_decls xs y b.2 c)
+push_decls (declared visible n t d ∷ xs) y b c = (b.0, b.1, push_decls xs y b.2 c)
 
 -- ---- expressions
 
@@ -161,7 +161,7 @@ module _ (src : List ℕ) where
     statements_built (p.statement {xs = xs} {x = x} l e w) = push_listed xs x (statements_built l) (statement_built e)
 
   declaration_built : {ts : List Token} {x : DeclTree} → Declaration src ts x → AreDeclsBuilt Takes (x ∷ [])
-  declaration_built (p.var v n c a e i j k y l d m w) = (type_built y, dist_built d, tt)
+  declaration_built (p.variable v n c a e i j k y l d m w) = (type_built y, dist_built d, tt)
 
   declarations_built : {ts : List Token} {xs : List DeclTree} → Declarations src ts xs → AreDeclsBuilt Takes xs
   declarations_built p.no_declaration = tt

@@ -1,5 +1,5 @@
 -- A relation that is kept by the steps of reading holds of each function of reading, at one depth and a greater one.
-use Rattle.std.proofs.Common.{ℕ, zero, suc, ◌-◌, ◌≤◌, ◌==◌, List, [], ◌∷◌, ◌++◌, arith, true, false, Option, Some, None}
+use Rattle.std.proofs.Common.{ℕ, zero, suc, ◌-◌, ◌≤◌, ◌==◌, List, [], ◌∷◌, ◌++◌, arith, true, false, Option, Some, None, Bool}
 use Rattle.std.specs.Prelude.{ℤ, pos, neg_ℤ}
 use Rattle.kf_ops.specs.declared.row.Op.{Op}
 use Rattle.kf_lex.specs.declared.token.Token.{Token}
@@ -14,6 +14,7 @@ use Rattle.kf_parse.specs.OperatorTokens.{infix_op, prefix_op, called_op}
 use Rattle.kf_parse.specs.Grammar.{named}
 use Rattle.kf_parse.specs.Tokens.{is}
 use Rattle.kf_parse.specs.Outcomes.{Parser, pure}
+use Rattle.kf_parse.specs.Begins.{begins_declaration}
 use Rattle.kf_parse.specs.Builders.{Builder}
 use Rattle.kf_parse.specs.Reading as r
 use Rattle.kf_parse.proofs.Closed.{Closed, Started, then_kept, first_kept, where_kept, if_first_kept, expect_kept, repeat_kept, if_kept}
@@ -275,14 +276,14 @@ module _ (K : Closed) where
   type_kept (suc d) (suc e) low = sets_kept (r.type d) (r.type e) (type_kept d e (omega arith)) (type_same e) (suc d) (suc e) (omega arith)
 
 module _ (K : Closed) (B : Builder) (src : List ℕ) where
-  pub declaration_kept : (d e : ℕ) → d ≤ e → (ds : B.Ds) → K.R (r.declaration B src d ds) (r.declaration B src e ds)
+  pub declaration_kept : (d e : ℕ) → d ≤ e → (visible : Bool) (ds : B.Ds) → K.R (r.declaration B src d visible ds) (r.declaration B src e visible ds)
   unfolding r.declaration
-  declaration_kept d e low ds = expect_kept K (is t.Name) (λ n. expect_kept K (is (t.Sign s.Colon)) (λ c. then_kept K (type_kept K d e low) (λ y. expect_kept K (is (t.Sign s.Assign))
-      (λ g. then_kept K (dist_kept K B src d e low) (λ x. expect_kept K (is (t.Sign s.Semi)) (λ q. K.by_pure (B.push_declaration ds (named src n) y x)))))))
+  declaration_kept d e low visible ds = expect_kept K (is t.Name) (λ n. expect_kept K (is (t.Sign s.Colon)) (λ c. then_kept K (type_kept K d e low) (λ y. expect_kept K (is (t.Sign s.Assign))
+      (λ g. then_kept K (dist_kept K B src d e low) (λ x. expect_kept K (is (t.Sign s.Semi)) (λ q. K.by_pure (B.push_declaration ds visible (named src n) y x)))))))
 
   declarations_kept : (d e : ℕ) → d ≤ e → K.R (r.declarations B src d) (r.declarations B src e)
   unfolding r.declarations
-  declarations_kept d e low = repeat_kept K (λ o. is (t.Word w.VarWord) o.kind) (λ o ds. declaration_kept d e low ds) B.no_declarations
+  declarations_kept d e low = repeat_kept K (λ o. begins_declaration o.kind) (λ o ds. declaration_kept d e low (is (t.Word w.VisWord) o.kind) ds) B.no_declarations
 
   item_by_kept : (o : Token) (k : Tok) → Started K.R (r.item_by B src o k) (r.item_by B src o k)
   item_by_kept o t.Name = K.by_pure _

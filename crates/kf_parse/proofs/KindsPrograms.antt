@@ -1,11 +1,11 @@
 -- Whether tokens are a program rests on their kinds alone.
-use Rattle.std.proofs.Common.{List, [], ◌∷◌, ◌++◌, ℕ, true, false, refl, ◌∙◌, ap}
+use Rattle.std.proofs.Common.{◌≡◌, List, [], ◌∷◌, ◌++◌, ℕ, true, false, refl, ◌∙◌, ap, Bool}
 use Rattle.kf_lex.specs.declared.token.Token.{Token}
 use Rattle.kf_ast.specs.Stmts.{StmtTree, stmt_at, Skip, Assign, Observe, If, While, stmts}
 use Rattle.kf_ast.specs.Sources.{DeclTree, declared, ItemTree, item, SourceTree, source}
 use Rattle.kf_parse.specs.Grammar.{named}
 use Rattle.kf_parse.specs.Programs as g
-use Rattle.kf_parse.specs.Programs.{Statement, Block, Statements, Declaration, Declarations, Item, OtherItems, Target, IsProgram}
+use Rattle.kf_parse.specs.Programs.{Statement, Block, Statements, DeclarationWord, Declaration, Declarations, Item, OtherItems, Target, IsProgram}
 use Rattle.kf_parse.specs.Laws.{KindsAlone}
 use Rattle.kf_parse.proofs.KindsSame.{Same, none_same, more_same, same_of, split, pieces, last, last_of_two, Made, kind_of}
 use Rattle.kf_parse.proofs.KindsExprs.{same_type, same_dist}
@@ -42,13 +42,17 @@ module _ (src src' : List ℕ) where
     same_statements g.no_statement none_same = record { value = []; tells = g.no_statement }
     same_statements (g.statement {a = a} {b = b} f e w) s = let p = split a b w s in let m = same_statements f p.same_left in let n = same_statement e p.same_right in record { value = m.value ++ n.value ∷ []; tells = g.statement m.tells n.tells p.whole }
 
+  same_word : {visible : Bool} {v u : Token} → DeclarationWord visible v → v.kind ≡ u.kind → DeclarationWord visible u
+  same_word (g.var i) h = g.var (kind_of h i)
+  same_word (g.vis i) h = g.vis (kind_of h i)
+
   same_declaration : {ts us : List Token} {x : DeclTree} → Declaration src ts x → Same ts us → Made (Declaration src') us
-  same_declaration (g.var {a = a} {b = b} v n c o e i j k f l h m w) (more_same v' u hu (more_same n' x hx (more_same c' z hz s))) =
+  same_declaration (g.variable {visible = visible} {a = a} {b = b} v n c o e i j k f l h m w) (more_same v' u hu (more_same n' x hx (more_same c' z hz s))) =
       let p = pieces a o (b ++ e ∷ []) w s in
       let q = last b e refl p.same_right in
       let y = same_type f p.same_left in
       let d = same_dist src src' h q.same_left in
-      record { value = declared (named src' x) y.value d.value; tells = g.var u x z p.at q.at (kind_of hu i) (kind_of hx j) (kind_of hz k) y.tells (kind_of p.same_at l) d.tells (kind_of q.same_at m) (p.whole ∙ ap (λ r. p.left ++ p.at ∷ r) q.whole) }
+      record { value = declared visible (named src' x) y.value d.value; tells = g.variable u x z p.at q.at (same_word i hu) (kind_of hx j) (kind_of hz k) y.tells (kind_of p.same_at l) d.tells (kind_of q.same_at m) (p.whole ∙ ap (λ r. p.left ++ p.at ∷ r) q.whole) }
 
   same_declarations : {ts us : List Token} {xs : List DeclTree} → Declarations src ts xs → Same ts us → Made (Declarations src') us
   same_declarations g.no_declaration none_same = record { value = []; tells = g.no_declaration }

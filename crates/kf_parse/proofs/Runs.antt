@@ -4,7 +4,8 @@ use Rattle.kf_lex.specs.declared.token.Token.{Token}
 use Rattle.kf_lex.specs.declared.token.Tok.{Tok}
 use Rattle.kf_lex.specs.declared.token.Tok.TheVariants as t
 use Rattle.kf_lex.specs.declared.token.Word.TheVariants as w
-use Rattle.kf_parse.specs.Begins.{begins_statement, statement_next}
+use Rattle.kf_parse.specs.Begins.{begins_statement}
+use Rattle.kf_parse.specs.Reads.{passes_next}
 use Rattle.kf_parse.specs.Builders.{Builder}
 use Rattle.kf_parse.specs.Outcomes.{Outcome, got, stuck, deep, Parser, ◌>>=◌, and_then, pure, behind, refuse, first, repeat}
 use Rattle.kf_parse.specs.Reading as r
@@ -43,24 +44,24 @@ module _ (B : Builder) (src : List ℕ) (ss : Parser B.Ss) (d : ℕ) where
     reads : (o : Token) (ts : List Token) (p : Parser B.St) (v : Outcome B.St) → r.statement_by B src ss d o o.kind ≡ Some p → one (o ∷ ts) ≡ v → and_then (p ts) (λ x. pure (B.push_statement xs x)) ≡ and_then v (λ x. pure (B.push_statement xs x))
     reads o ts p v e h = ap (λ u. and_then u (λ x. pure (B.push_statement xs x))) (sym (ap (λ u. behind u refuse o ts) e) ∙ h)
 
-    pub run_stops : (ts : List Token) → statement_next ts ≡ false → repeat pushing xs ts ≡ got xs ts
+    pub run_stops : (ts : List Token) → passes_next begins_statement ts ≡ false → repeat pushing xs ts ≡ got xs ts
     run_stops [] off = repeat_end pushing xs
     run_stops (o ∷ ts) off = repeat_stop pushing o xs ts (ap (r.pushed B src ss d xs) (not_begun o o.kind off))
 
-    pub run_stuck : (ts rest : List Token) → statement_next ts ≡ true → one ts ≡ stuck rest → repeat pushing xs ts ≡ stuck rest
+    pub run_stuck : (ts rest : List Token) → passes_next begins_statement ts ≡ true → one ts ≡ stuck rest → repeat pushing xs ts ≡ stuck rest
     run_stuck [] rest there e = absurd (cc)
     run_stuck (o ∷ ts) rest there e = let b = begun o o.kind there in repeat_stuck pushing o xs ts (pushes o b.0 b.1) (reads o ts b.0 (stuck rest) b.1 e)
 
-    pub run_deep : (ts : List Token) → statement_next ts ≡ true → one ts ≡ deep → repeat pushing xs ts ≡ deep
+    pub run_deep : (ts : List Token) → passes_next begins_statement ts ≡ true → one ts ≡ deep → repeat pushing xs ts ≡ deep
     run_deep [] there e = absurd (cc)
     run_deep (o ∷ ts) there e = let b = begun o o.kind there in repeat_deep pushing o xs ts (pushes o b.0 b.1) (reads o ts b.0 deep b.1 e)
 
     module _ (shrinks : Shrinks ss) (rest : List Token) (x : B.St) where
-      pub run_got : (ts : List Token) → statement_next ts ≡ true → one ts ≡ got x rest → repeat pushing xs ts ≡ repeat pushing (B.push_statement xs x) rest
+      pub run_got : (ts : List Token) → passes_next begins_statement ts ≡ true → one ts ≡ got x rest → repeat pushing xs ts ≡ repeat pushing (B.push_statement xs x) rest
       run_got [] there e = absurd (cc)
       run_got (o ∷ ts) there e = let b = begun o o.kind there in repeat_turn pushing (λ u ys. statement_steps B src ss shrinks d u ys) o xs ts (pushes o b.0 b.1) (reads o ts b.0 (got x rest) b.1 e)
 
-      pub run_shorter : (ts : List Token) → statement_next ts ≡ true → one ts ≡ got x rest → length rest < length ts
+      pub run_shorter : (ts : List Token) → passes_next begins_statement ts ≡ true → one ts ≡ got x rest → length rest < length ts
       run_shorter [] there e = absurd (cc)
       run_shorter (o ∷ ts) there e =
           let b = begun o o.kind there in

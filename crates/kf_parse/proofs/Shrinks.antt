@@ -8,6 +8,7 @@ use Rattle.kf_ast.specs.TypeForms.{TypeForm}
 use Rattle.kf_ast.specs.Sources.{ItemTree}
 use Rattle.kf_parse.specs.Tokens.{is}
 use Rattle.kf_parse.specs.Outcomes.{Parser, ◌>>=◌, pure, too_deep, where_true}
+use Rattle.kf_parse.specs.Begins.{begins_declaration}
 use Rattle.kf_parse.specs.Builders.{Builder}
 use Rattle.kf_parse.specs.Reading as r
 use Rattle.kf_parse.proofs.Loops.{Shrinks, ShrinksWhere, pure_shrinks, refuse_shrinks, then_shrinks, first_or_shrinks, repeat_shrinks}
@@ -72,8 +73,8 @@ module _ (B : Builder) (src : List ℕ) where
   pub statements_shrinks : (d : ℕ) → Shrinks (r.statements B src d)
   statements_shrinks d = forms.statements_kept shrinking B src d d (omega arith)
 
-  pub declaration_shrinks : (d : ℕ) (ds : B.Ds) → Shrinks (r.declaration B src d ds)
-  declaration_shrinks d ds = forms.declaration_kept shrinking B src d d (omega arith) ds
+  pub declaration_shrinks : (d : ℕ) (visible : Bool) (ds : B.Ds) → Shrinks (r.declaration B src d visible ds)
+  declaration_shrinks d visible ds = forms.declaration_kept shrinking B src d d (omega arith) visible ds
 
   pub one_item_shrinks : Shrinks (r.one_item B src)
   one_item_shrinks = forms.one_item_kept shrinking B src
@@ -98,8 +99,8 @@ module _ (B : Builder) (src : List ℕ) where
   statement_steps ss h d o xs = started _ _ (forms.pushed_kept shrinking B src ss ss h d d (omega arith) xs (r.statement_by B src ss d o o.kind) (r.statement_by B src ss d o o.kind)
       (forms.statement_by_kept shrinking B src ss ss h d d (omega arith) o o.kind))
 
-  pub declaration_steps : (d : ℕ) (v : Token) (ds : B.Ds) → ShrinksWhere (where_true (is (t.Word w.VarWord) v.kind) (r.declaration B src d ds))
-  declaration_steps d v ds = where_shrinks (is (t.Word w.VarWord) v.kind) (r.declaration B src d ds) (declaration_shrinks d ds)
+  pub declaration_steps : (d : ℕ) (v : Token) (ds : B.Ds) → ShrinksWhere (where_true (begins_declaration v.kind) (r.declaration B src d (is (t.Word w.VisWord) v.kind) ds))
+  declaration_steps d v ds = where_shrinks (begins_declaration v.kind) (r.declaration B src d (is (t.Word w.VisWord) v.kind) ds) (declaration_shrinks d (is (t.Word w.VisWord) v.kind) ds)
 
   pub other_items_steps : (c : Token) (xs : List ItemTree) → ShrinksWhere (where_true (is (t.Sign s.Comma) c.kind) (r.one_item B src >>= (λ y. pure (xs ++ y ∷ []))))
   other_items_steps c xs = made_shrinks (is (t.Sign s.Comma) c.kind) (r.one_item B src) (λ y. xs ++ y ∷ []) one_item_shrinks

@@ -1,5 +1,5 @@
 -- Readers of types, distributions, statements and programs leave the count of open brackets, and give up only where it is high.
-use Rattle.std.proofs.Common.{◌≡◌, ℕ, zero, suc, ◌+◌, ◌≤◌, true, false, ℤ, pos, neg_ℤ, List, [], ◌∷◌, ◌++◌, refl, ap, subst, arith, IfSome}
+use Rattle.std.proofs.Common.{◌≡◌, ℕ, zero, suc, ◌+◌, ◌≤◌, true, false, ℤ, pos, neg_ℤ, List, [], ◌∷◌, ◌++◌, refl, ap, subst, arith, IfSome, Bool}
 use Rattle.kf_lex.specs.declared.token.Token.{Token}
 use Rattle.kf_lex.specs.declared.token.Tok.{Tok}
 use Rattle.kf_lex.specs.declared.token.Tok.TheVariants as t
@@ -10,7 +10,8 @@ use Rattle.kf_ast.specs.Sources.{ItemTree, item}
 use Rattle.kf_parse.specs.Grammar.{named}
 use Rattle.kf_parse.specs.Depth.{opened, depth, IsShallow}
 use Rattle.kf_parse.specs.Tokens.{is}
-use Rattle.kf_parse.specs.Outcomes.{deep, Parser, ◌>>=◌, pure, too_deep, expect}
+use Rattle.kf_parse.specs.Outcomes.{deep, Parser, ◌>>=◌, pure, too_deep, expect, where_true}
+use Rattle.kf_parse.specs.Begins.{begins_declaration}
 use Rattle.kf_parse.specs.Builders.{Builder}
 use Rattle.kf_parse.specs.Reading as r
 use Rattle.kf_parse.proofs.Told.{where_true_some}
@@ -173,20 +174,24 @@ module _ (B : Builder) (src : List ℕ) where
   statements_balanced zero = deep_balanced 0
   statements_balanced (suc d) = all_statements_balanced d (r.statements B src d) (statements_balanced d)
 
-  declaration_balanced : (d : ℕ) (ds : B.Ds) → Balanced 0 0 d (r.declaration B src d ds)
+  declaration_balanced : (d : ℕ) (visible : Bool) (ds : B.Ds) → Balanced 0 0 d (r.declaration B src d visible ds)
   unfolding r.declaration
-  declaration_balanced d ds =
+  declaration_balanced d visible ds =
       expect_balanced 0 0 d (is t.Name) _ (λ n hn. past 0 0 d n _ (is_same t.Name n.kind hn) (λ i. refl) (
       expect_balanced 0 0 d (is (t.Sign s.Colon)) _ (λ c hc. past 0 0 d c _ (is_same (t.Sign s.Colon) c.kind hc) (λ i. refl) (
       then_balanced 0 0 d (r.type d) _ (type_balanced d) (λ y.
       expect_balanced 0 0 d (is (t.Sign s.Assign)) _ (λ u hu. past 0 0 d u _ (is_same (t.Sign s.Assign) u.kind hu) (λ i. refl) (
       then_balanced 0 0 d (r.dist B src d) _ (dist_balanced d) (λ x.
-      expect_balanced 0 0 d (is (t.Sign s.Semi)) _ (λ e he. last 0 d e (B.push_declaration ds (named src n) y x) (is_same (t.Sign s.Semi) e.kind he) (λ i. refl))))))))))
+      expect_balanced 0 0 d (is (t.Sign s.Semi)) _ (λ e he. last 0 d e (B.push_declaration ds visible (named src n) y x) (is_same (t.Sign s.Semi) e.kind he) (λ i. refl))))))))))
 
   declarations_balanced : (d : ℕ) → Balanced 0 0 d (r.declarations B src d)
   unfolding r.declarations
-  declarations_balanced d = repeat_balanced d _
-      (λ v ds. where_true_some (is (t.Word w.VarWord) v.kind) _ _ (λ k. past 0 0 d v _ (is_same (t.Word w.VarWord) v.kind k) (λ n. refl) (declaration_balanced d ds))) B.no_declarations
+  declarations_balanced d = repeat_balanced d _ (λ v ds. by_kind v v.kind ds refl) B.no_declarations
+    where
+      by_kind : (v : Token) (k : Tok) (ds : B.Ds) → v.kind ≡ k → IfSome (where_true (begins_declaration k) (r.declaration B src d (is (t.Word w.VisWord) k) ds)) (λ p. Behind 0 0 d v p)
+      by_kind v (t.Word w.VarWord) ds e = past 0 0 d v _ e (λ n. refl) (declaration_balanced d false ds)
+      by_kind v (t.Word w.VisWord) ds e = past 0 0 d v _ e (λ n. refl) (declaration_balanced d true ds)
+      by_kind v _ ds e = tt
 
   one_item_balanced : (d : ℕ) → Balanced 0 0 d (r.one_item B src)
   unfolding r.one_item

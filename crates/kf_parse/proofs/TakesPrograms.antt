@@ -1,10 +1,9 @@
 -- Statements, declarations, targets and programs are read whole.
-use Rattle.std.proofs.Common.{◌≡◌, ℕ, zero, suc, ◌+◌, ◌≤◌, false, List, [], ◌∷◌, ◌++◌, refl, sym, ◌∙◌, ap, append_assoc, arith, Option, Some, None}
+use Rattle.std.proofs.Common.{◌≡◌, ℕ, zero, suc, ◌+◌, ◌≤◌, false, List, [], ◌∷◌, ◌++◌, refl, sym, ◌∙◌, ap, append_assoc, arith, Option, Some, None, Bool}
 use Rattle.std.proofs.lemmas.List.{append-nil}
 use Rattle.kf_lex.specs.declared.token.Token.{Token}
 use Rattle.kf_lex.specs.declared.token.Tok.{Tok}
 use Rattle.kf_lex.specs.declared.token.Tok.TheVariants as t
-use Rattle.kf_lex.specs.declared.token.Word.{Word}
 use Rattle.kf_lex.specs.declared.token.Word.TheVariants as w
 use Rattle.kf_lex.specs.declared.token.Sign.TheVariants as s
 use Rattle.kf_ast.specs.TypeForms.{TypeForm}
@@ -12,10 +11,11 @@ use Rattle.kf_ast.specs.Dists.{DistTree}
 use Rattle.kf_ast.specs.Stmts.{StmtTree, stmt_at, Skip, Assign, Observe, If, While, stmts}
 use Rattle.kf_ast.specs.Sources.{DeclTree, declared, ItemTree, SourceTree, source}
 use Rattle.kf_parse.specs.OperatorTokens.{infix_op}
+use Rattle.kf_parse.specs.Begins.{begins_declaration}
 use Rattle.kf_parse.specs.Tokens.{is}
 use Rattle.kf_parse.specs.Grammar.{IsSign, IsWord, IsName, named}
 use Rattle.kf_parse.specs.Programs as g
-use Rattle.kf_parse.specs.Programs.{Statement, Block, Statements, Declaration, Declarations, Item, OtherItems, Target, IsProgram}
+use Rattle.kf_parse.specs.Programs.{Statement, Block, Statements, DeclarationWord, Declaration, Declarations, Item, OtherItems, Target, IsProgram}
 use Rattle.kf_parse.specs.Outcomes.{got, Parser, and_then, where_true, expect, pure, ◌>>=◌, repeat}
 use Rattle.kf_parse.specs.Plain.{plain}
 use Rattle.kf_parse.specs.Reading as r
@@ -23,14 +23,14 @@ use Rattle.kf_parse.proofs.TakesTurns.{apart, before_close, Ends, repeat_takes, 
 use Rattle.kf_parse.proofs.Takes.{stops_at}
 use Rattle.kf_parse.proofs.TakesForms.{Anything, type_whole, Closes, Dists, dist_whole}
 
--- the first token, if any, is not this word
-abbrev Without : Word → List Token → Type 0
-Without word [] = Unit {0}
-Without word (o ∷ us) = is (t.Word word) o.kind ≡ false
+-- the first token, if any, doesn't pass the test
+abbrev Without : (Tok → Bool) → List Token → Type 0
+Without test [] = Unit {0}
+Without test (o ∷ us) = test o.kind ≡ false
 
 -- nothing goes on with declarations or a target
 abbrev NoHeader : List Token → Type 0
-NoHeader us = Without w.VarWord us × Without w.AboutWord us
+NoHeader us = Without begins_declaration us × Without (is (t.Word w.AboutWord)) us
 
 -- nothing goes on with statements
 abbrev IsBlockEnd : List Token → Type 0
@@ -39,7 +39,7 @@ IsBlockEnd (o ∷ us) = IsSign s.BraceClose o
 
 end_no_header : (us : List Token) → IsBlockEnd us → NoHeader us
 end_no_header [] e = (tt, tt)
-end_no_header (o ∷ us) e = (ap (is (t.Word w.VarWord)) e, ap (is (t.Word w.AboutWord)) e)
+end_no_header (o ∷ us) e = (ap begins_declaration e, ap (is (t.Word w.AboutWord)) e)
 
 closes_at : (o : Token) (k : Tok) (us : List Token) → o.kind ≡ k → infix_op k ≡ None → is (t.Sign s.Dot) k ≡ false → is (t.Sign s.Range) k ≡ false → Closes (o ∷ us)
 closes_at o k us i none dot range = (stops_at 1 o k us (omega arith) i none dot, ap (is (t.Sign s.Range)) i ∙ range)
@@ -101,8 +101,8 @@ module _ (src : List ℕ) where
     while_goes o x xs us vs rest h k = rw (h, k) refl
 
   -- a token that begins a statement
-  begins_by : (o : Token) (k : Tok) (us : List Token) → o.kind ≡ k → is (t.Word w.VarWord) k ≡ false → is (t.Word w.AboutWord) k ≡ false → NoHeader (o ∷ us)
-  begins_by o k us i var about = (ap (is (t.Word w.VarWord)) i ∙ var, ap (is (t.Word w.AboutWord)) i ∙ about)
+  begins_by : (o : Token) (k : Tok) (us : List Token) → o.kind ≡ k → begins_declaration k ≡ false → is (t.Word w.AboutWord) k ≡ false → NoHeader (o ∷ us)
+  begins_by o k us i declares about = (ap begins_declaration i ∙ declares, ap (is (t.Word w.AboutWord)) i ∙ about)
 
   taken_skip : (k e : Token) → IsWord w.SkipWord k → IsSign s.Semi e → StatementTaken (k ∷ e ∷ []) (stmt_at k.start Skip)
   taken_skip k e i j = record {
@@ -209,23 +209,27 @@ module _ (src : List ℕ) where
 
   -- declarations
   abbrev declaration_step : ℕ → Token → List DeclTree → Option (Parser (List DeclTree))
-  declaration_step d v ds = where_true (is (t.Word w.VarWord) v.kind) (r.declaration plain src d ds)
+  declaration_step d v ds = where_true (begins_declaration v.kind) (r.declaration plain src d (is (t.Word w.VisWord) v.kind) ds)
 
-  declaration_goes : (d : ℕ) (ds : List DeclTree) (n c g e : Token) (y : TypeForm) (x : DistTree) (us vs rest : List Token) → IsName n → IsSign s.Colon c → r.type d us ≡ got y (g ∷ vs) → IsSign s.Assign g → r.dist plain src d vs ≡ got x (e ∷ rest) → IsSign s.Semi e
-      → r.declaration plain src d ds (n ∷ c ∷ us) ≡ got (ds ++ declared (named src n) y x ∷ []) rest
+  by_word : {visible : Bool} {v : Token} → DeclarationWord visible v → (d : ℕ) (ds : List DeclTree) → declaration_step d v ds ≡ Some (r.declaration plain src d visible ds)
+  by_word (g.var i) d ds = rw i refl
+  by_word (g.vis i) d ds = rw i refl
+
+  declaration_goes : (d : ℕ) (visible : Bool) (ds : List DeclTree) (n c g e : Token) (y : TypeForm) (x : DistTree) (us vs rest : List Token) → IsName n → IsSign s.Colon c → r.type d us ≡ got y (g ∷ vs) → IsSign s.Assign g → r.dist plain src d vs ≡ got x (e ∷ rest) → IsSign s.Semi e
+      → r.declaration plain src d visible ds (n ∷ c ∷ us) ≡ got (ds ++ declared visible (named src n) y x ∷ []) rest
   unfolding r.declaration
-  declaration_goes d ds n c g e y x us vs rest i j h k l m = rw (i, j, h, k, l, m) refl
+  declaration_goes d visible ds n c g e y x us vs rest i j h k l m = rw (i, j, h, k, l, m) refl
 
   abbrev DeclarationRuns : List Token → List DeclTree → Type 0
   DeclarationRuns ts ds = Runs declaration_step Anything [] ts ds
 
   declaration_more : {b : List Token} {y : DeclTree} (a ts : List Token) (ds : List DeclTree) → DeclarationRuns a ds → Declaration src b y → ts ≡ a ++ b → DeclarationRuns ts (ds ++ y ∷ [])
-  declaration_more a ts ds f (g.var {a = b} {b = c} {ts = us} v n o h e {y = y} {d = x} i j k l m p q split) u = let ty = type_whole b y l in let di = dist_whole src c x p in
-      runs_on declaration_step Anything [] ds (ds ++ declared (named src n) y x ∷ []) a (n ∷ o ∷ us) ts v (λ d. r.declaration plain src d ds) f (λ vs. tt) (λ d. rw i refl)
+  declaration_more a ts ds f (g.variable {visible = visible} {a = b} {b = c} {ts = us} v n o h e {y = y} {d = x} i j k l m p q split) u = let ty = type_whole b y l in let di = dist_whole src c x p in
+      runs_on declaration_step Anything [] ds (ds ++ declared visible (named src n) y x ∷ []) a (n ∷ o ∷ us) ts v (λ d. r.declaration plain src d visible ds) f (λ vs. tt) (λ d. by_word i d ds)
       (record {
         depth = ty.depth + di.depth;
-        takes = λ d de rest u'. ap (λ z. r.declaration plain src d ds (n ∷ o ∷ z)) (apart b (h ∷ (c ++ e ∷ [])) rest split ∙ ap (λ z. b ++ h ∷ z) (append_assoc c (e ∷ []) rest))
-            ∙ declaration_goes d ds n o h e y x (b ++ h ∷ (c ++ e ∷ rest)) (c ++ e ∷ rest) rest j k (ty.takes d (omega arith) (h ∷ (c ++ e ∷ rest)) tt) m
+        takes = λ d de rest u'. ap (λ z. r.declaration plain src d visible ds (n ∷ o ∷ z)) (apart b (h ∷ (c ++ e ∷ [])) rest split ∙ ap (λ z. b ++ h ∷ z) (append_assoc c (e ∷ []) rest))
+            ∙ declaration_goes d visible ds n o h e y x (b ++ h ∷ (c ++ e ∷ rest)) (c ++ e ∷ rest) rest j k (ty.takes d (omega arith) (h ∷ (c ++ e ∷ rest)) tt) m
             (di.takes d (omega arith) (e ∷ rest) (closes_at e (t.Sign s.Semi) rest q refl refl refl)) q;
       }) u
 
@@ -233,11 +237,11 @@ module _ (src : List ℕ) where
   declarations_run g.no_declaration = runs_nowhere declaration_step Anything []
   declarations_run (g.declaration {a = a} {ts = ts} {xs = ds} f c split) = declaration_more a ts ds (declarations_run f) c split
 
-  declarations_read : (ts : List Token) (ds : List DeclTree) → DeclarationRuns ts ds → Reads (r.declarations plain src) (Without w.VarWord) ts ds
+  declarations_read : (ts : List Token) (ds : List DeclTree) → DeclarationRuns ts ds → Reads (r.declarations plain src) (Without begins_declaration) ts ds
   unfolding r.declarations
   declarations_read ts ds f = record { depth = f.depth; takes = λ d de rest e. repeat_takes (declaration_step d) [] ds (ts ++ rest) rest (f.leads d de rest tt) (ends d rest e) }
     where
-      ends : (d : ℕ) (us : List Token) → Without w.VarWord us → Ends (declaration_step d) ds us
+      ends : (d : ℕ) (us : List Token) → Without begins_declaration us → Ends (declaration_step d) ds us
       ends d [] e = tt
       ends d (o ∷ us) e = rw e refl
 
@@ -260,19 +264,19 @@ module _ (src : List ℕ) where
   unfolding r.target r.items r.other_items
   target_goes o e x xs us vs rest i h l j = rw (i, h, l, j) refl
 
-  no_target_goes : (rest : List Token) → Without w.AboutWord rest → r.target plain src rest ≡ got [] rest
+  no_target_goes : (rest : List Token) → Without (is (t.Word w.AboutWord)) rest → r.target plain src rest ≡ got [] rest
   unfolding r.target
   no_target_goes [] n = refl
   no_target_goes (o ∷ us) n = rw n refl
 
   record TargetTaken (ts : List Token) (xs : List ItemTree) : Type 0 where
-    ends : (rest : List Token) → NoHeader rest → Without w.VarWord (ts ++ rest)
+    ends : (rest : List Token) → NoHeader rest → Without begins_declaration (ts ++ rest)
     takes : (rest : List Token) → NoHeader rest → r.target plain src (ts ++ rest) ≡ got xs rest
 
   target_taken : {ts : List Token} {xs : List ItemTree} → Target src ts xs → TargetTaken ts xs
   target_taken g.no_target = record { ends = λ rest n. n.0; takes = λ rest n. no_target_goes rest n.1 }
   target_taken (g.about {a = a} {b = b} {ts = ts} o e {x = x} {xs = xs} i h l j split) = let f = item_reads h in let r' = items_run l in let n : ℕ = f.depth + r'.depth in record {
-    ends = λ rest n. ap (is (t.Word w.VarWord)) i;
+    ends = λ rest n. ap begins_declaration i;
     takes = λ rest u. ap (λ v. r.target plain src (o ∷ v)) (before_close a b e rest split)
         ∙ target_goes o e x xs (a ++ (b ++ e ∷ rest)) (b ++ e ∷ rest) rest i (f.takes n (omega arith) (b ++ e ∷ rest) tt)
         (repeat_takes item_step (x ∷ []) xs (b ++ e ∷ rest) (e ∷ rest) (r'.leads n (omega arith) (e ∷ rest) tt) (rw j refl)) j;

@@ -1,5 +1,5 @@
 -- Each reader of statements, declarations, targets and programs reads its form.
-use Rattle.std.proofs.Common.{◌≡◌, ℕ, zero, suc, true, false, List, [], ◌∷◌, ◌++◌, refl, Option, Some, None, IfSome}
+use Rattle.std.proofs.Common.{◌≡◌, ℕ, zero, suc, true, false, List, [], ◌∷◌, ◌++◌, refl, Option, Some, None, IfSome, Bool}
 use Rattle.kf_lex.specs.declared.token.Token.{Token}
 use Rattle.kf_lex.specs.declared.token.Tok.{Tok}
 use Rattle.kf_lex.specs.declared.token.Tok.TheVariants as t
@@ -9,9 +9,10 @@ use Rattle.kf_ast.specs.Stmts.{StmtTree, stmt_at, Skip, Assign, Observe, If, Whi
 use Rattle.kf_ast.specs.Sources.{DeclTree, declared, ItemTree, item, source}
 use Rattle.kf_parse.specs.Grammar.{IsWord, IsName, named, TypeOf, Dist}
 use Rattle.kf_parse.specs.Programs as g
-use Rattle.kf_parse.specs.Programs.{Statement, Block, Statements, Declaration, Declarations, Item, OtherItems, Target, IsProgram}
+use Rattle.kf_parse.specs.Programs.{Statement, Block, Statements, DeclarationWord, Declaration, Declarations, Item, OtherItems, Target, IsProgram}
+use Rattle.kf_parse.specs.Begins.{begins_declaration}
 use Rattle.kf_parse.specs.Tokens.{is}
-use Rattle.kf_parse.specs.Outcomes.{Parser, pure}
+use Rattle.kf_parse.specs.Outcomes.{Parser, pure, where_true}
 use Rattle.kf_parse.specs.Plain.{plain}
 use Rattle.kf_parse.specs.Reading as r
 use Rattle.kf_parse.proofs.Told.{Told, After, Reader, then_reads, deep_reads, pure_reads, done_reads, first_reads, where_true_some, if_first_reads, token_of, expect_reads, repeat_reads}
@@ -88,25 +89,28 @@ module _ (src : List ℕ) where
   statements_reads (suc d) = all_statements_reads (r.statements plain src d) (suc d) (statements_reads d)
 
   -- a declaration after its word, at the end of others
-  declaration_reads : (G : List Token → List DeclTree → Type 0) (d : ℕ) (ds : List DeclTree) (v : Token) → IsWord w.VarWord v
-      → ((us : List Token) (x : DeclTree) → Declaration src (v ∷ us) x → G us (ds ++ x ∷ [])) → Reader G (r.declaration plain src d ds)
+  declaration_reads : (G : List Token → List DeclTree → Type 0) (d : ℕ) (visible : Bool) (ds : List DeclTree) (v : Token) → DeclarationWord visible v
+      → ((us : List Token) (x : DeclTree) → Declaration src (v ∷ us) x → G us (ds ++ x ∷ [])) → Reader G (r.declaration plain src d visible ds)
   unfolding r.declaration
-  declaration_reads G d ds v word made =
+  declaration_reads G d visible ds v word made =
       expect_reads G (is t.Name) _ t.Name refl (λ n hn.
       expect_reads (After (n ∷ []) G) (is (t.Sign s.Colon)) _ (t.Sign s.Colon) refl (λ c hc.
       then_reads TypeOf (After (n ∷ c ∷ []) G) (r.type d) _ (type_reads d) (λ a y hy.
       expect_reads (After (n ∷ c ∷ a) G) (is (t.Sign s.Assign)) _ (t.Sign s.Assign) refl (λ u hu.
       then_reads (Dist src) (After (u ∷ []) (After (n ∷ c ∷ a) G)) (r.dist plain src d) _ (dist_reads src d) (λ b x hx.
-      expect_reads (After b (After (u ∷ []) (After (n ∷ c ∷ a) G))) (is (t.Sign s.Semi)) (λ e. pure (ds ++ declared (named src n) y x ∷ [])) (t.Sign s.Semi) refl (λ e he.
-      pure_reads _ (ds ++ declared (named src n) y x ∷ []) (made (n ∷ c ∷ (a ++ u ∷ (b ++ e ∷ []))) (declared (named src n) y x)
-      (g.var v n c u e word (is_same t.Name n.kind hn) (is_same (t.Sign s.Colon) c.kind hc) hy (is_same (t.Sign s.Assign) u.kind hu) hx (is_same (t.Sign s.Semi) e.kind he) refl))))))))
+      expect_reads (After b (After (u ∷ []) (After (n ∷ c ∷ a) G))) (is (t.Sign s.Semi)) (λ e. pure (ds ++ declared visible (named src n) y x ∷ [])) (t.Sign s.Semi) refl (λ e he.
+      pure_reads _ (ds ++ declared visible (named src n) y x ∷ []) (made (n ∷ c ∷ (a ++ u ∷ (b ++ e ∷ []))) (declared visible (named src n) y x)
+      (g.variable v n c u e word (is_same t.Name n.kind hn) (is_same (t.Sign s.Colon) c.kind hc) hy (is_same (t.Sign s.Assign) u.kind hu) hx (is_same (t.Sign s.Semi) e.kind he) refl))))))))
 
   declarations_reads : (d : ℕ) → Reader (Declarations src) (r.declarations plain src d)
   unfolding r.declarations
-  declarations_reads d = repeat_reads (Declarations src) _
-      (λ front ds h v. where_true_some (is (t.Word w.VarWord) v.kind) _ _
-      (λ e. declaration_reads (After (v ∷ []) (After front (Declarations src))) d ds v (is_same (t.Word w.VarWord) v.kind e) (λ us x k. g.declaration h k refl)))
-      [] g.no_declaration
+  declarations_reads d = repeat_reads (Declarations src) _ (λ front ds h v. by_kind front ds h v v.kind refl) [] g.no_declaration
+    where
+      by_kind : (front : List Token) (ds : List DeclTree) → Declarations src front ds → (v : Token) (k : Tok) → v.kind ≡ k
+          → IfSome (where_true (begins_declaration k) (r.declaration plain src d (is (t.Word w.VisWord) k) ds)) (λ p. Reader (After (v ∷ []) (After front (Declarations src))) p)
+      by_kind front ds h v (t.Word w.VarWord) e = declaration_reads (After (v ∷ []) (After front (Declarations src))) d false ds v (g.var e) (λ us x k. g.declaration h k refl)
+      by_kind front ds h v (t.Word w.VisWord) e = declaration_reads (After (v ∷ []) (After front (Declarations src))) d true ds v (g.vis e) (λ us x k. g.declaration h k refl)
+      by_kind front ds h v _ e = tt
 
   one_item_reads : Reader (Item src) (r.one_item plain src)
   unfolding r.one_item

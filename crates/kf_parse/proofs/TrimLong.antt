@@ -69,7 +69,7 @@ mutual
   names_stmts (more_stmts x xs) = names_both ◌∷◌ (trim_stmt x) (trim_stmts xs) (stmt_exprs x) (stmts_exprs xs) (names_stmt x) (names_stmts xs)
 
 names_decl : (d : DeclTree) → Names (trim_decl d) (decl_exprs d)
-names_decl (declared n y d) = names_dist d
+names_decl (declared visible n y d) = names_dist d
 
 pub trim_long : (x : SourceTree) → (trim_source x).long ≡ first_long (source_exprs x)
 trim_long (source ds is xs) = names_both (λ us vs. source us is vs) (trim_each trim_decl ds) (trim_each trim_stmt xs) (flat_map decl_exprs ds) (flat_map stmt_exprs xs)
@@ -130,7 +130,7 @@ mutual
   keeps_stmts (more_stmts x xs) = keeps_both more_stmts (trim_stmt x) (within stmts (trim_stmts xs)) x xs (keeps_stmt x) (keeps_stmts xs)
 
 keeps_decl : (d : DeclTree) → Keeps (trim_decl d) d
-keeps_decl (declared n y d) = keeps_in (declared n y) (trim_dist d) d (keeps_dist d)
+keeps_decl (declared visible n y d) = keeps_in (declared visible n y) (trim_dist d) d (keeps_dist d)
 
 keeps_source : (x : SourceTree) → Keeps (trim_source x) x
 keeps_source (source ds is xs) = keeps_both (λ us vs. source us is vs) (trim_each trim_decl ds) (trim_each trim_stmt xs) ds xs (keeps_each trim_decl keeps_decl ds) (keeps_each trim_stmt keeps_stmt xs)

@@ -52,7 +52,7 @@ pub record Maps (A B : Builder) : Type 0 where
   pub no_statements : ss A.no_statements ≡ B.no_statements
   pub push_statement : (xs : A.Ss) (x : A.St) → ss (A.push_statement xs x) ≡ B.push_statement (ss xs) (st x)
   pub no_declarations : ds A.no_declarations ≡ B.no_declarations
-  pub push_declaration : (zs : A.Ds) (n : NameTree) (y : TypeForm) (d : A.Di) → ds (A.push_declaration zs n y d) ≡ B.push_declaration (ds zs) n y (di d)
+  pub push_declaration : (zs : A.Ds) (visible : Bool) (n : NameTree) (y : TypeForm) (d : A.Di) → ds (A.push_declaration zs visible n y d) ≡ B.push_declaration (ds zs) visible n y (di d)
   pub source : (zs : A.Ds) (is : List ItemTree) (xs : A.Ss) → so (A.source zs is xs) ≡ B.source (ds zs) is (ss xs)
 
 module _ (A B : Builder) (M : Maps A B) (src : List ℕ) where
@@ -229,17 +229,17 @@ module _ (A B : Builder) (M : Maps A B) (src : List ℕ) where
   statements_maps zero = deep_carries M.ss
   statements_maps (suc d) = all_statements_maps _ _ (statements_maps d) (suc d)
 
-  declared_maps : (d : ℕ) (zs : A.Ds) (n : NameTree) (y : TypeForm)
-      → Carries M.ds (r.dist A src d >>= (λ x. expect (is (t.Sign s.Semi)) (λ e. pure (A.push_declaration zs n y x)))) (r.dist B src d >>= (λ x. expect (is (t.Sign s.Semi)) (λ e. pure (B.push_declaration (M.ds zs) n y x))))
-  declared_maps d zs n y = then_carries M.di M.ds _ _ (λ x. expect_carries M.ds _ _ _ (λ q. pure_carries M.ds _ _ (M.push_declaration zs n y x))) _ _ (dist_maps d)
+  declared_maps : (d : ℕ) (visible : Bool) (zs : A.Ds) (n : NameTree) (y : TypeForm)
+      → Carries M.ds (r.dist A src d >>= (λ x. expect (is (t.Sign s.Semi)) (λ e. pure (A.push_declaration zs visible n y x)))) (r.dist B src d >>= (λ x. expect (is (t.Sign s.Semi)) (λ e. pure (B.push_declaration (M.ds zs) visible n y x))))
+  declared_maps d visible zs n y = then_carries M.di M.ds _ _ (λ x. expect_carries M.ds _ _ _ (λ q. pure_carries M.ds _ _ (M.push_declaration zs visible n y x))) _ _ (dist_maps d)
 
-  declaration_maps : (d : ℕ) (zs : A.Ds) → Carries M.ds (r.declaration A src d zs) (r.declaration B src d (M.ds zs))
+  declaration_maps : (d : ℕ) (visible : Bool) (zs : A.Ds) → Carries M.ds (r.declaration A src d visible zs) (r.declaration B src d visible (M.ds zs))
   unfolding r.declaration
-  declaration_maps d zs = expect_carries M.ds _ _ _ (λ n. expect_carries M.ds (is (t.Sign s.Colon)) _ _ (λ o. after_carries M.ds _ _ (r.type d) (λ y. expect_carries M.ds (is (t.Sign s.Assign)) _ _ (λ g. declared_maps d zs (named src n) y))))
+  declaration_maps d visible zs = expect_carries M.ds _ _ _ (λ n. expect_carries M.ds (is (t.Sign s.Colon)) _ _ (λ o. after_carries M.ds _ _ (r.type d) (λ y. expect_carries M.ds (is (t.Sign s.Assign)) _ _ (λ g. declared_maps d visible zs (named src n) y))))
 
   declarations_maps : (d : ℕ) → Carries M.ds (r.declarations A src d) (r.declarations B src d)
   unfolding r.declarations
-  declarations_maps d = repeat_carries M.ds _ _ (λ v zs. test_carries M.ds _ _ _ (declaration_maps d zs)) _ _ M.no_declarations
+  declarations_maps d = repeat_carries M.ds _ _ (λ v zs. test_carries M.ds _ _ _ (declaration_maps d (is (t.Word w.VisWord) v.kind) zs)) _ _ M.no_declarations
 
   same_target : r.target A src ≡ r.target B src
   unfolding r.target r.items r.other_items r.one_item

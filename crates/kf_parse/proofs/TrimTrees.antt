@@ -46,7 +46,7 @@ abbrev mutual
   trim_stmts (more_stmts x xs) = together ◌∷◌ (trim_stmt x) (trim_stmts xs)
 
 abbrev pub trim_decl : DeclTree → Trimmed DeclTree
-trim_decl (declared n y d) = within (declared n y) (trim_dist d)
+trim_decl (declared visible n y d) = within (declared visible n y) (trim_dist d)
 
 abbrev pub trim_source : SourceTree → Trimmed SourceTree
 trim_source (source ds is xs) = together (λ us vs. source us is vs) (trim_each trim_decl ds) (trim_each trim_stmt xs)
@@ -108,7 +108,7 @@ trimming = record {
   no_statements = refl;
   push_statement = each_push trim_stmt;
   no_declarations = refl;
-  push_declaration = λ zs n y d. each_push trim_decl zs (declared n y d);
+  push_declaration = λ zs visible n y d. each_push trim_decl zs (declared visible n y d);
   source = λ zs is xs. refl;
 }
 

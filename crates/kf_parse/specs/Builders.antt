@@ -45,5 +45,5 @@ pub record Builder : Type 1 where
   pub no_statements : Ss
   pub push_statement : Ss → St → Ss
   pub no_declarations : Ds
-  pub push_declaration : Ds → NameTree → TypeForm → Di → Ds
+  pub push_declaration : Ds → Bool → NameTree → TypeForm → Di → Ds
   pub source : Ds → List ItemTree → Ss → So

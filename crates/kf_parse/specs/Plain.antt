@@ -43,6 +43,6 @@ plain = record {
   no_statements = [];
   push_statement = λ xs x. xs ++ x ∷ [];
   no_declarations = [];
-  push_declaration = λ ds n y d. ds ++ declared n y d ∷ [];
+  push_declaration = λ ds visible n y d. ds ++ declared visible n y d ∷ [];
   source = source;
 }

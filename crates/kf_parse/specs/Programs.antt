@@ -1,5 +1,5 @@
 -- Believed: the grammar of statements, declarations, targets and whole programs.
-use Rattle.std.specs.Prelude.{◌≡◌, ℕ, true, false, List, [], ◌∷◌, ◌++◌}
+use Rattle.std.specs.Prelude.{◌≡◌, ℕ, Bool, true, false, List, [], ◌∷◌, ◌++◌}
 use Rattle.kf_lex.specs.declared.token.Token.{Token}
 use Rattle.kf_lex.specs.declared.token.Word.TheVariants as w
 use Rattle.kf_lex.specs.declared.token.Sign.TheVariants as s
@@ -34,10 +34,15 @@ mutual
     statement : {a b ts : List Token} {xs : List StmtTree} {x : StmtTree}
         → Statements src a xs → Statement src b x → ts ≡ a ++ b → Statements src ts (xs ++ x ∷ [])
 
+-- the word that begins a declaration, and whether it is of a visible variable
+pub data DeclarationWord : Bool → Token → Type 0 where
+  var : {v : Token} → IsWord w.VarWord v → DeclarationWord false v
+  vis : {v : Token} → IsWord w.VisWord v → DeclarationWord true v
+
 pub data Declaration (src : List ℕ) : List Token → DeclTree → Type 0 where
-  var : {a b ts : List Token} (v n c g e : Token) {y : TypeForm} {d : DistTree}
-      → IsWord w.VarWord v → IsName n → IsSign s.Colon c → TypeOf a y → IsSign s.Assign g → Dist src b d → IsSign s.Semi e
-      → ts ≡ a ++ g ∷ (b ++ e ∷ []) → Declaration src (v ∷ n ∷ c ∷ ts) (declared (named src n) y d)
+  variable : {visible : Bool} {a b ts : List Token} (v n c g e : Token) {y : TypeForm} {d : DistTree}
+      → DeclarationWord visible v → IsName n → IsSign s.Colon c → TypeOf a y → IsSign s.Assign g → Dist src b d → IsSign s.Semi e
+      → ts ≡ a ++ g ∷ (b ++ e ∷ []) → Declaration src (v ∷ n ∷ c ∷ ts) (declared visible (named src n) y d)
 
 pub data Declarations (src : List ℕ) : List Token → List DeclTree → Type 0 where
   no_declaration : Declarations src [] []

@@ -14,6 +14,7 @@ use Rattle.kf_parse.specs.Grammar.{named}
 use Rattle.kf_parse.specs.Tokens.{is}
 use Rattle.kf_parse.specs.Outcomes.{Parser, ◌>>=◌, pure, too_deep, first_or, first, where_true, expect, if_first, repeat}
 use Rattle.kf_parse.specs.Builders.{Builder}
+use Rattle.kf_parse.specs.Begins.{begins_declaration}
 
 -- an operator's level and row, where there is one
 abbrev pub binds_at : ℕ → Option Op → Bool
@@ -222,13 +223,14 @@ type zero = too_deep
 type (suc d) = sets (type d) (suc d)
 
 module _ (B : Builder) (src : List ℕ) where
-  unfoldable pub declaration : ℕ → B.Ds → Parser B.Ds
-  declaration d ds = expect (is t.Name) (λ n. expect (is (t.Sign s.Colon)) (λ c. type d >>= (λ y.
+  -- a declaration behind its word, which says whether the variable is visible
+  unfoldable pub declaration : ℕ → Bool → B.Ds → Parser B.Ds
+  declaration d visible ds = expect (is t.Name) (λ n. expect (is (t.Sign s.Colon)) (λ c. type d >>= (λ y.
       expect (is (t.Sign s.Assign)) (λ g. dist B src d >>= (λ x.
-      expect (is (t.Sign s.Semi)) (λ e. pure (B.push_declaration ds (named src n) y x)))))))
+      expect (is (t.Sign s.Semi)) (λ e. pure (B.push_declaration ds visible (named src n) y x)))))))
 
   unfoldable pub declarations : ℕ → Parser B.Ds
-  declarations d = repeat (λ v ds. where_true (is (t.Word w.VarWord) v.kind) (declaration d ds)) B.no_declarations
+  declarations d = repeat (λ v ds. where_true (begins_declaration v.kind) (declaration d (is (t.Word w.VisWord) v.kind) ds)) B.no_declarations
 
   abbrev pub item_by : Token → Tok → Option (Parser ItemTree)
   item_by o t.Name = Some (pure (item false (named src o)))

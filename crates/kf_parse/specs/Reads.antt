@@ -20,7 +20,11 @@ Reads view o (Err stop.Mem) left = Unit {0}
 abbrev pub IsSpelled : List ℕ → Token → Type 0
 IsSpelled src o = o.kind ≡ t.Name → (o.start ≤ o.end) × (o.end ≤ length src) × (is_utf8 (slice_range src o.start o.end) ≡ true)
 
+-- whether the next token passes a test
+abbrev pub passes_next : (Tok → Bool) → List Token → Bool
+passes_next test [] = false
+passes_next test (o ∷ ts) = test o.kind
+
 -- whether the next token is of this kind
 abbrev pub is_next : Tok → List Token → Bool
-is_next kind [] = false
-is_next kind (o ∷ ts) = is kind o.kind
+is_next kind ts = passes_next (is kind) ts

@@ -55,7 +55,7 @@ abbrev mutual
   stmts_exprs (more_stmts x xs) = stmt_exprs x ++ stmts_exprs xs
 
 abbrev pub decl_exprs : DeclTree → List ExprTree
-decl_exprs (declared n y d) = dist_exprs d
+decl_exprs (declared visible n y d) = dist_exprs d
 
 abbrev pub source_exprs : SourceTree → List ExprTree
 source_exprs (source ds is xs) = flat_map decl_exprs ds ++ flat_map stmt_exprs xs

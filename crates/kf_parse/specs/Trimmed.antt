@@ -126,6 +126,6 @@ trimmed = record {
   no_statements = untouched [];
   push_statement = λ xs x. together (λ us v. us ++ v ∷ []) xs x;
   no_declarations = untouched [];
-  push_declaration = λ ds n y d. together (λ us v. us ++ declared n y v ∷ []) ds d;
+  push_declaration = λ ds visible n y d. together (λ us v. us ++ declared visible n y v ∷ []) ds d;
   source = λ ds is xs. together (λ us vs. source us is vs) ds xs;
 }

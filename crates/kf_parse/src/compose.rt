@@ -204,14 +204,16 @@ pub(crate) fn push_statement(
 /// The declarations with one more.
 pub(crate) fn push_declaration(
     list: Trimmed<Vec<Decl>>,
+    visible: bool,
     name: Ident,
     ty: TyTree,
     dist: Trimmed<Dist>,
 ) -> Result<Trimmed<Vec<Decl>>, Stop>
-    ensures { Reads (trimmed_of (all_of decl_tree)) (pure (trimmed.push_declaration (trimmed_of (all_of decl_tree) list) (name_tree name) (type_form ty) (trimmed_of dist_tree dist)) []) result [] }
+    ensures { Reads (trimmed_of (all_of decl_tree)) (pure (trimmed.push_declaration (trimmed_of (all_of decl_tree) list) visible (name_tree name) (type_form ty) (trimmed_of dist_tree dist)) []) result [] }
 {
     let mut value = list.value;
     value.push(Decl {
+        visible,
         name,
         ty,
         dist: dist.value,

@@ -3,11 +3,12 @@ ghost use Rattle.kf_ast.specs.Views.{name_tree, decl_tree, item_tree, source_tre
 ghost use Rattle.kf_ast.specs.Sources.{item};
 ghost use Rattle.kf_lex.specs.declared.token.Sign.TheVariants as s;
 ghost use Rattle.kf_lex.specs.declared.token.Tok.TheVariants as t;
+ghost use Rattle.kf_parse.specs.Begins.{begins_declaration};
 ghost use Rattle.kf_parse.specs.Views.{trimmed_of, all_of};
 ghost use Rattle.kf_parse.specs.Grammar.{named};
 ghost use Rattle.kf_parse.specs.Outcomes.{and_then, expect, pure};
 ghost use Rattle.kf_parse.specs.Reading as r;
-ghost use Rattle.kf_parse.specs.Reads.{Reads};
+ghost use Rattle.kf_parse.specs.Reads.{Reads, passes_next};
 ghost use Rattle.kf_parse.specs.Tokens.{is};
 ghost use Rattle.kf_parse.specs.Trimmed.{trimmed};
 
@@ -18,37 +19,60 @@ use crate::stop::Stop;
 use kf_ast::{Decl, Ident, Item, ItemList, Source, TyTree};
 use kf_lex::{Sign, Tok, Word};
 
+/// Whether a token of this kind begins a declaration.
+fn begins_declaration(kind: Tok) -> bool
+    ensures { result ≡ begins_declaration kind }
+{
+    match kind {
+        Tok::Word(Word::VarWord) => true,
+        Tok::Word(Word::VisWord) => true,
+        _ => false,
+    }
+}
+
 impl<'a> Cursor<'a> {
-    /// The declarations with the one behind its word.
+    /// Whether the next token begins a declaration.
+    fn at_declaration(&self) -> bool
+        ensures { result ≡ passes_next begins_declaration self.now.rest.now }
+    {
+        match self.peek() {
+            Some(o) => begins_declaration(o.kind),
+            None => false,
+        }
+    }
+
+    /// The declarations with the one behind its word, which says whether the variable is visible.
     #[tactic(auto, unfolding(crate::specs::Reading::declaration))]
     fn declaration(
         &mut self,
         depth: u32,
+        visible: bool,
         decls: Trimmed<Vec<Decl>>,
     ) -> Result<Trimmed<Vec<Decl>>, Stop>
         ensures source { self.new.src.now ≡ self.old.src.now }
-        ensures reads { Reads (trimmed_of (all_of decl_tree)) (r.declaration trimmed self.old.src.now depth (trimmed_of (all_of decl_tree) decls) self.old.rest.now) result self.new.rest.now }
+        ensures reads { Reads (trimmed_of (all_of decl_tree)) (r.declaration trimmed self.old.src.now depth visible (trimmed_of (all_of decl_tree) decls) self.old.rest.now) result self.new.rest.now }
     {
         let name = self.name()?;
-        self.declared(depth, decls, name)
+        self.declared(depth, visible, decls, name)
     }
 
     /// The declarations with the one behind its name.
     fn declared(
         &mut self,
         depth: u32,
+        visible: bool,
         decls: Trimmed<Vec<Decl>>,
         name: Ident,
     ) -> Result<Trimmed<Vec<Decl>>, Stop>
         ensures source { self.new.src.now ≡ self.old.src.now }
-        ensures reads { Reads (trimmed_of (all_of decl_tree)) (expect (is (t.Sign s.Colon)) (λ c. λ ts. and_then (r.type depth ts) (λ y. expect (is (t.Sign s.Assign)) (λ g. λ us. and_then (r.dist trimmed self.old.src.now depth us) (λ x. expect (is (t.Sign s.Semi)) (λ e. pure (trimmed.push_declaration (trimmed_of (all_of decl_tree) decls) (name_tree name) y x)))))) self.old.rest.now) result self.new.rest.now }
+        ensures reads { Reads (trimmed_of (all_of decl_tree)) (expect (is (t.Sign s.Colon)) (λ c. λ ts. and_then (r.type depth ts) (λ y. expect (is (t.Sign s.Assign)) (λ g. λ us. and_then (r.dist trimmed self.old.src.now depth us) (λ x. expect (is (t.Sign s.Semi)) (λ e. pure (trimmed.push_declaration (trimmed_of (all_of decl_tree) decls) visible (name_tree name) y x)))))) self.old.rest.now) result self.new.rest.now }
     {
         self.expect(Tok::Sign(Sign::Colon))?;
         let ty = self.type_tree(depth)?;
         self.expect(Tok::Sign(Sign::Assign))?;
         let dist = self.dist(depth)?;
         self.expect(Tok::Sign(Sign::Semi))?;
-        push_declaration(decls, name, ty, dist)
+        push_declaration(decls, visible, name, ty, dist)
     }
 
     /// The declarations up to a token that begins none.
@@ -61,9 +85,10 @@ impl<'a> Cursor<'a> {
             value: Vec::new(self.alloc),
             long: None,
         };
-        'decls: while self.at(Tok::Word(Word::VarWord)) {
+        'decls: while self.at_declaration() {
+            let visible = self.at(Tok::Word(Word::VisWord));
             self.skip();
-            list = self.declaration(depth, list)?;
+            list = self.declaration(depth, visible, list)?;
         }
         Ok(list)
     }

@@ -1,12 +1,12 @@
 ghost use Rattle.std.specs.Prelude.{◌≡◌, ◌-◌, ◌<◌};
 ghost use Rattle.kf_ast.specs.Views.{name_tree, stmt_tree};
-ghost use Rattle.kf_parse.specs.Begins.{begins_statement, statement_next};
+ghost use Rattle.kf_parse.specs.Begins.{begins_statement};
 ghost use Rattle.kf_parse.specs.Views.{trimmed_of, all_of};
 ghost use Rattle.kf_lex.specs.declared.token.Tok.TheVariants as t;
 ghost use Rattle.kf_lex.specs.declared.token.Sign.TheVariants as s;
 ghost use Rattle.kf_parse.specs.Outcomes.{and_then, expect, first, pure};
 ghost use Rattle.kf_parse.specs.Reading as r;
-ghost use Rattle.kf_parse.specs.Reads.{Reads};
+ghost use Rattle.kf_parse.specs.Reads.{Reads, passes_next};
 ghost use Rattle.kf_parse.specs.Tokens.{is};
 ghost use Rattle.kf_parse.specs.Trimmed.{trimmed};
 
@@ -34,7 +34,7 @@ fn begins_statement(kind: Tok) -> bool
 impl<'a> Cursor<'a> {
     /// Whether the next token begins a statement.
     fn at_statement(&self) -> bool
-        ensures { result ≡ statement_next self.now.rest.now }
+        ensures { result ≡ passes_next begins_statement self.now.rest.now }
     {
         match self.peek() {
             Some(o) => begins_statement(o.kind),

@@ -13,7 +13,7 @@ use Rattle.kf_core.specs.Checked.{IsChecked}
 use Rattle.kf_core.specs.ChoiceLaws.{ChoicesAreShares}
 use Rattle.kf_core.specs.Programs.{ProgramTree}
 use Rattle.kf_core.specs.Ready.{IsPushed, IsReady, IsStart}
-use Rattle.kf_core.specs.Runs.{all_runs, assigned, copied, declared, stay}
+use Rattle.kf_core.specs.Runs.{all_runs, assigned, copied, declared, silent, stay}
 use Rattle.kf_core.specs.Scale.{scale_of}
 use Rattle.kf_core.specs.Sts.{sts}
 use Rattle.kf_core.specs.Support.{program_pass}
@@ -62,10 +62,10 @@ module _ (program : Program) (turns : ℕ) (checked : IsChecked (program_tree pr
       here : slice_get p.decls i ≡ Some (dx_tree x)
       here = subst (λ ys. slice_get (map dx_tree ys) i ≡ Some (dx_tree x)) all (mapped_read dx_tree xs i x within read)
 
-      pub declaration_goes : Goes (assigned p.types i (dx_tree x)) now.columns
+      pub declaration_goes : Goes (assigned silent p.types i (dx_tree x)) now.columns
       declaration_goes = declared_goes turns p checked clear shares agrees sequence scales least i (dx_tree x) now.columns here before.pushed
 
-      pub declaration_done : (next : Joint) → IsPushed (assigned p.types i (dx_tree x)) now.columns next.columns → next.scale ≡ now.scale
+      pub declaration_done : (next : Joint) → IsPushed (assigned silent p.types i (dx_tree x)) now.columns next.columns → next.scale ≡ now.scale
           → All (IsBelow (shape_size program.shape)) next.columns → AreDeclared program turns (i + 1) next
       declaration_done next step over low = record {
         pushed = declared_more turns p checked clear shares agrees sequence scales least i (dx_tree x) now.columns next.columns here before.pushed step;

@@ -1,5 +1,5 @@
 -- Declarations as a block of assignments: their runs are chained, and leak nothing.
-use Rattle.std.proofs.Common.{◌≡◌, ℕ, suc, ◌+◌, ◌≤◌, inl, inr, List, [], ◌∷◌, ◌++◌, map, length, take, drop, slice_get, Some, Option, None, Result, Ok, Err, refl, sym, ap, ◌∙◌, arith}
+use Rattle.std.proofs.Common.{◌≡◌, ℕ, suc, false, ◌+◌, ◌≤◌, inl, inr, List, [], ◌∷◌, ◌++◌, map, length, take, drop, slice_get, Some, Option, None, Result, Ok, Err, refl, sym, ap, ◌∙◌, arith}
 use Rattle.std.specs.List.{AllByRecursion as Each}
 use Rattle.std.proofs.lemmas.List.{length-take-le, take_more, take-append-drop}
 use Rattle.std.proofs.lemmas.Option.{slice_get_within, slice_get-get_or}
@@ -18,20 +18,20 @@ use Rattle.kf_run.proofs.Renaming.{chain_same}
 
 -- ---- chained
 
--- declarations from variable i on, as statements
+-- declarations from variable i on, as statements that show nothing
 abbrev assignments : ℕ → List DxTree → List StTree
 assignments i [] = []
-assignments i (d ∷ ds) = Assign i d ∷ assignments (suc i) ds
+assignments i (d ∷ ds) = Assign i d false ∷ assignments (suc i) ds
 
 module _ (ts : List TypeTree) (turns : ℕ) where
   as_block : (i : ℕ) (ds : List DxTree) (n : ℕ) → declared ts i ds n ≡ all_runs ts turns (sts (assignments i ds)) n
   as_block i [] n = refl
-  as_block i (d ∷ ds) n = λ j. chain (assigned ts i d n) (λ m. as_block (suc i) ds m j)
+  as_block i (d ∷ ds) n = λ j. chain (assigned silent ts i d n) (λ m. as_block (suc i) ds m j)
 
 assignments_joined : (i : ℕ) (ds es : List DxTree) → assignments i (ds ++ es) ≡ assignments i ds ++ assignments (i + length ds) es
 assignments_joined i [] es = ap (λ k. assignments k es) (omega arith)
 assignments_joined i (d ∷ ds) es =
-    ap (λ xs. Assign i d ∷ xs) (assignments_joined (suc i) ds es ∙ ap (λ k. assignments (suc i) ds ++ assignments k es) (omega arith))
+    ap (λ xs. Assign i d false ∷ xs) (assignments_joined (suc i) ds es ∙ ap (λ k. assignments (suc i) ds ++ assignments k es) (omega arith))
 
 module _ (sequence : RunsChain) (ts : List TypeTree) where
   declared_joined : (i : ℕ) (ds es : List DxTree) (n : ℕ) → declared ts i (ds ++ es) n ≡ chain (declared ts i ds n) (declared ts (i + length ds) es)
@@ -53,13 +53,13 @@ module _ (sequence : RunsChain) (ts : List TypeTree) where
 
     -- one declaration more is one assignment more
     pub declared_next : (d : DxTree) → slice_get ds k ≡ Some d → (n : ℕ)
-        → declared ts 0 (take (k + 1) ds) n ≡ chain (declared ts 0 (take k ds) n) (assigned ts k d)
+        → declared ts 0 (take (k + 1) ds) n ≡ chain (declared ts 0 (take k ds) n) (assigned silent ts k d)
     declared_next d is n =
         ap (λ es. declared ts 0 es n) (take_more ds k d (slice_get_within ds k d is)
         ∙ ap (λ e. take k ds ++ e ∷ []) (same_some (sym (slice_get-get_or ds k d (slice_get_within ds k d is)) ∙ is)))
         ∙ (declared_joined 0 (take k ds) (d ∷ []) n
         ∙ (ap (λ i. chain (declared ts 0 (take k ds) n) (declared ts i (d ∷ []))) (omega (arith, long))
-        ∙ (λ j. chain (declared ts 0 (take k ds) n) (λ m. chain_same (assigned ts k d m) j))))
+        ∙ (λ j. chain (declared ts 0 (take k ds) n) (λ m. chain_same (assigned silent ts k d m) j))))
       where
         same_some : {X : Type 0} {x y : X} → Some x ≡ Some y → x ≡ y
         same_some h = cc
@@ -100,12 +100,12 @@ moved_silent at (Some n) = ended_silent (Ok n)
 moved_silent at None = (refl, tt)
 
 module _ (ts : List TypeTree) where
-  assigned_silent : (i : ℕ) (d : DxTree) (n : ℕ) → Silent (assigned ts i d n)
+  assigned_silent : (i : ℕ) (d : DxTree) (n : ℕ) → Silent (assigned silent ts i d n)
   assigned_silent i d n = branched_silent n (λ v. moved (place d) (replaced ts i v n)) (λ v. moved_silent (place d) (replaced ts i v n)) (tried ts d n)
 
   pub declared_silent : (i : ℕ) (ds : List DxTree) (n : ℕ) → Silent (declared ts i ds n)
   declared_silent i [] n = ended_silent (Ok n)
-  declared_silent i (d ∷ ds) n = chain_silent (declared ts (suc i) ds) (declared_silent (suc i) ds) (assigned ts i d n) (assigned_silent i d n)
+  declared_silent i (d ∷ ds) n = chain_silent (declared ts (suc i) ds) (declared_silent (suc i) ds) (assigned silent ts i d n) (assigned_silent i d n)
 
 member_silent : (rs : List Run) (r : Run) → Silent rs → In r rs → r.trace ≡ []
 member_silent [] r h here = absurd here

@@ -22,7 +22,7 @@ use Rattle.kf_core.specs.Programs.{ProgramTree}
 use Rattle.kf_core.specs.Pushing.{AreBehind, carried_cells}
 use Rattle.kf_core.specs.Ready.{DivideAlong, IsPushed, IsStart}
 use Rattle.kf_core.specs.Rows.{AreRowsOf, IsHyperOf}
-use Rattle.kf_core.specs.Runs.{Run, all_runs, assigned, chain, copied, declared, program_runs, stay}
+use Rattle.kf_core.specs.Runs.{Run, all_runs, assigned, chain, copied, declared, program_runs, silent, stay}
 use Rattle.kf_core.specs.Scale.{scale_of}
 use Rattle.kf_core.specs.Sts.{sts}
 use Rattle.kf_core.specs.Support.{program_pass}
@@ -141,10 +141,10 @@ module _ (turns : ℕ) (p : ProgramTree) (checked : IsChecked p) (clear : IsOk (
     abbrev before : Runner
     before = declared p.types 0 (take i p.decls)
 
-    one_more : declared p.types 0 (take (i + 1) p.decls) ≡ (λ n. chain (before n) (assigned p.types i d))
+    one_more : declared p.types 0 (take (i + 1) p.decls) ≡ (λ n. chain (before n) (assigned silent p.types i d))
     one_more = λ j n. declared_next sequence p.types p.decls i (let h = inside in omega arith) d here n j
 
-    next_goes : Goes (λ n. chain (before n) (assigned p.types i d)) first
+    next_goes : Goes (λ n. chain (before n) (assigned silent p.types i d)) first
     next_goes = subst (λ (from : Runner). Goes from first) one_more (part_goes (i + 1) (let h = inside in omega arith))
 
     this_goes : Goes before first
@@ -152,15 +152,15 @@ module _ (turns : ℕ) (p : ProgramTree) (checked : IsChecked p) (clear : IsOk (
 
   -- the whole weight can go through the declarations, one after the other
   pub declared_goes : (i : ℕ) (d : DxTree) (now : Matrix) → slice_get p.decls i ≡ Some d
-      → IsPushed (declared p.types 0 (take i p.decls)) (whole_on_first (scale_of turns p) ∷ []) now → Goes (assigned p.types i d) now
-  declared_goes i d now is pushed = goes_behind (before i d is) (assigned p.types i d) first now first_column (this_goes i d is) (next_goes i d is) pushed
+      → IsPushed (declared p.types 0 (take i p.decls)) (whole_on_first (scale_of turns p) ∷ []) now → Goes (assigned silent p.types i d) now
+  declared_goes i d now is pushed = goes_behind (before i d is) (assigned silent p.types i d) first now first_column (this_goes i d is) (next_goes i d is) pushed
 
   pub declared_more : (i : ℕ) (d : DxTree) (now next : Matrix) → slice_get p.decls i ≡ Some d
-      → IsPushed (declared p.types 0 (take i p.decls)) (whole_on_first (scale_of turns p) ∷ []) now → IsPushed (assigned p.types i d) now next
+      → IsPushed (declared p.types 0 (take i p.decls)) (whole_on_first (scale_of turns p) ∷ []) now → IsPushed (assigned silent p.types i d) now next
       → IsPushed (declared p.types 0 (take (i + 1) p.decls)) (whole_on_first (scale_of turns p) ∷ []) next
   declared_more i d now next is pushed step =
       subst (λ (from : Runner). IsPushed from first next) (sym (one_more i d is))
-      (pushed_chain (before i d is) (assigned p.types i d) first now next (decls_split 0 (take i p.decls)) first_column (this_goes i d is)
+      (pushed_chain (before i d is) (assigned silent p.types i d) first now next (decls_split 0 (take i p.decls)) first_column (this_goes i d is)
       (next_goes i d is) pushed step)
 
   -- ---- the start

@@ -7,7 +7,7 @@ use Rattle.kf_value.specs.Values.{ValueTree, truth}
 use Rattle.kf_hyper.proofs.AtMostOne.{In}
 use Rattle.kf_core.specs.Dxs.{DxTree}
 use Rattle.kf_core.specs.Sts.{StTree, StTrees, Skip, Assign, Observe, If, While, no_sts, more_sts}
-use Rattle.kf_core.specs.Runs.{Run, Halted, Tried, LoopBound, chain, branched, silent, shown, ended, stay, stopped, moved, replaced, assigned, guarded, looped, tried, place, runs, all_runs}
+use Rattle.kf_core.specs.Runs.{Run, Halted, Tried, LoopBound, chain, branched, silent, shown, ended, stay, stopped, moved, replaced, assigned, guarded, looped, tried, place, runs, all_runs, leaks}
 use Rattle.kf_core.proofs.OneTable.{in_from_contains}
 use Rattle.kf_run.specs.Following.{side}
 use Rattle.kf_run.specs.Laws.{SplitsOnce}
@@ -103,11 +103,6 @@ module _ (n : ℕ) (next : ValueTree → List Run) (none : (v : ValueTree) → I
       let p = branched_picks silent n next g r ends has in
       ap (λ (q : Run). q.trace) p.is ∙ none p.choice.value p.second (subst IsOk (ap (λ (q : Run). q.end) p.is) ends) p.has_second
 
-pub assigned_splits : (ts : List TypeTree) (i : ℕ) (d : DxTree) → Splits (assigned ts i d)
-assigned_splits ts i d n m =
-    silent_apart (assigned ts i d n) (assigned ts i d m)
-    (choices_silent m (λ v. moved (place d) (replaced ts i v m)) (λ v. moved_silent (place d) (replaced ts i v m)) (tried ts d m))
-
 module _ (guard : ℕ → Tried) (next : ℕ → ValueTree → List Run) (splits : (v : ValueTree) → Splits (λ n. next n v)) where
   module _ (n m : ℕ) (u : List ValueTree) (r q : Run) (a : Picks shown n (next n) (guard n) r) (b : Picks shown m (next m) (guard m) q)
       (ends : IsOk r.end) (stops : IsOk q.end) (goes : q.trace ≡ r.trace ++ u) where
@@ -124,6 +119,16 @@ module _ (guard : ℕ → Tried) (next : ℕ → ValueTree → List Run) (splits
   pub shown_splits : Splits (λ n. branched shown n (next n) (guard n))
   shown_splits n m r q u has is ends stops goes =
       picks_split n m u r q (branched_picks shown n (next n) (guard n) r ends has) (branched_picks shown m (next m) (guard m) q stops is) ends stops goes
+
+-- ---- assignments
+
+pub assigned_splits : (ts : List TypeTree) (i : ℕ) (d : DxTree) (visible : Bool) → Splits (assigned (leaks visible) ts i d)
+assigned_splits ts i d true =
+    shown_splits (tried ts d) (λ n v. moved (place d) (replaced ts i v n))
+    (λ v n m. silent_apart (moved (place d) (replaced ts i v n)) (moved (place d) (replaced ts i v m)) (moved_silent (place d) (replaced ts i v m)))
+assigned_splits ts i d false = λ n m.
+    silent_apart (assigned silent ts i d n) (assigned silent ts i d m)
+    (choices_silent m (λ v. moved (place d) (replaced ts i v m)) (λ v. moved_silent (place d) (replaced ts i v m)) (tried ts d m))
 
 -- ---- guards and loops
 
@@ -162,7 +167,7 @@ module _ (ts : List TypeTree) (turns : ℕ) where
   mutual
     pub statement_splits : (x : StTree) → Splits (runs ts turns x)
     statement_splits Skip = stay_splits
-    statement_splits (Assign i d) = assigned_splits ts i d
+    statement_splits (Assign i d visible) = assigned_splits ts i d visible
     statement_splits (Observe d) = shown_splits (tried ts d) (λ n v. stay n) (λ v. stay_splits)
     statement_splits (If d xs ys) = guarded_splits (tried ts d) (all_runs ts turns xs) (all_runs ts turns ys) (block_splits xs) (block_splits ys)
     statement_splits (While d xs) = looped_splits (tried ts d) turns (place d) (all_runs ts turns xs) (block_splits xs)

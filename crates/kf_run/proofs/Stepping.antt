@@ -24,7 +24,8 @@ use Rattle.kf_core.proofs.Filled.{moved_some}
 use Rattle.kf_core.proofs.Measures.{each_left, each_right}
 use Rattle.kf_eval.specs.Choices.{weighted_trees}
 use Rattle.kf_eval.specs.declared.choice.Choice.{Choice}
-use Rattle.kf_run.specs.Following.{observed, side}
+use Rattle.kf_support.specs.Moves.{store_behind}
+use Rattle.kf_run.specs.Following.{observed, shown_to, side}
 use Rattle.kf_run.specs.Spreading.{LeadBelow}
 use Rattle.kf_run.specs.Tables.{IsChosen, IsCopied, IsMadeOf, moves, place, shows, sides, values_in}
 use Rattle.kf_run.specs.Ways.{LabelsAscend, way_run}
@@ -32,7 +33,7 @@ use Rattle.kf_run.specs.declared.ways.Way.{Way}
 use Rattle.kf_run.specs.declared.ways.Ways.{Ways}
 use Rattle.kf_run.proofs.Carrying.{Runner}
 use Rattle.kf_run.proofs.Labelling.{at_place}
-use Rattle.kf_run.proofs.Treading.{GoesAs, Serves, its_cells, run_is, moved_as, side_as, way_weighs, way_has, all_serve, lead_below}
+use Rattle.kf_run.proofs.Treading.{GoesAs, Serves, its_cells, moved_as, side_as, way_weighs, way_has, all_serve, lead_below}
 
 abbrev pub nothing : ℕ → List ValueTree
 nothing j = []
@@ -47,14 +48,14 @@ module _ (shape : Shape) (d : DxTree) (choices : List (ℕ × Choice)) (chosen :
     abbrev moves_to : ℕ → Weighted → Option ℕ
     moves_to n w = replaced (shape_types shape) i w.value n
 
-    pub moves_serve : All (Serves nothing 1 (assigned (shape_types shape) i d) (assigned (shape_types shape) i d)) table
+    pub moves_serve : All (Serves nothing 1 (assigned silent (shape_types shape) i d) (assigned silent (shape_types shape) i d)) table
     moves_serve = all_serve shape d choices chosen (moves (shape_types shape) i) nothing 1 silent moving silent moving (λ n v. moved_some (stop_place d) (replaced (shape_types shape) i v n))
-        (λ n w. way_weighs w.weight (moves_to n w))
+        (λ n w. way_weighs 0 w.weight (moves_to n w))
         (λ e among. each_any (GoesAs nothing silent e.0 (total (weighted_trees e.1)) (moving e.0) (moves (shape_types shape) i e.0))
-        (λ w. moved_as e.0 (total (weighted_trees e.1)) (stop_place d) w (moves_to e.0 w)) (weighted_trees e.1))
+        (λ w. moved_as nothing silent e.0 (total (weighted_trees e.1)) (stop_place d) 0 w (moves_to e.0 w) refl) (weighted_trees e.1))
         (λ e among. each_any (λ (w : Weighted). Each (λ (way : Way). way.label < 1) (moves (shape_types shape) i e.0 w))
-        (λ w. way_has (λ (way : Way). way.label < 1) w.weight (moves_to e.0 w) (λ m is. omega arith)) (weighted_trees e.1))
-        (λ n w some. way_has (λ (way : Way). 0 < way.weight) w.weight (moves_to n w) (λ m is. some))
+        (λ w. way_has (λ (way : Way). way.label < 1) 0 w.weight (moves_to e.0 w) (λ m is. omega arith)) (weighted_trees e.1))
+        (λ n w some. way_has (λ (way : Way). 0 < way.weight) 0 w.weight (moves_to n w) (λ m is. some))
         table made
 
   abbrev the_observed : Runner
@@ -86,43 +87,47 @@ module _ (shape : Shape) (d : DxTree) (choices : List (ℕ × Choice)) (chosen :
 
     pub sides_serve : All (Serves leaked 1 (side wanted (tried (shape_types shape) d)) the_observed) table
     sides_serve = all_serve shape d choices chosen (sides wanted) leaked 1 shown siding shown (λ n v. stay n) (λ n v. tt)
-        (λ n w. way_weighs w.weight (sides_to n w))
+        (λ n w. way_weighs 0 w.weight (sides_to n w))
         (λ e among. each_weaker (λ (w : Weighted). HasKind w.value TruthKind) (GoesAs leaked shown e.0 (total (weighted_trees e.1)) (siding e.0) (sides wanted e.0))
         (λ w kind. side_as e.0 (total (weighted_trees e.1)) w (truth w.value) wanted (is_truth w.value kind)) (weighted_trees e.1)
         (recursion_from_All (λ (w : Weighted). HasKind w.value TruthKind) (weighted_trees e.1) (All-contains (λ (e : ℕ × Choice). All (λ w. HasKind w.value TruthKind) (weighted_trees e.1)) choices e kinded among)))
         (λ e among. each_any (λ (w : Weighted). Each (λ (way : Way). way.label < 1) (sides wanted e.0 w))
-        (λ w. way_has (λ (way : Way). way.label < 1) w.weight (sides_to e.0 w) (λ m is. omega arith)) (weighted_trees e.1))
-        (λ n w some. way_has (λ (way : Way). 0 < way.weight) w.weight (sides_to n w) (λ m is. some))
+        (λ w. way_has (λ (way : Way). way.label < 1) 0 w.weight (sides_to e.0 w) (λ m is. omega arith)) (weighted_trees e.1))
+        (λ n w some. way_has (λ (way : Way). 0 < way.weight) 0 w.weight (sides_to n w) (λ m is. some))
         table made
 
     pub sides_below : LeadBelow (shape_size shape) table
     sides_below = lead_below shape d choices chosen (sides wanted) (shape_size shape) table made
         (λ e is. each_any (λ (w : Weighted). Each (λ (way : Way). way.to < shape_size shape) (sides wanted e.0 w))
-        (λ w. way_has (λ (way : Way). way.to < shape_size shape) w.weight (sides_to e.0 w) (λ m at. subst (λ (n : ℕ). n < shape_size shape) (stays e.0 (truth w.value) wanted m at) is.below)) (weighted_trees e.1))
+        (λ w. way_has (λ (way : Way). way.to < shape_size shape) 0 w.weight (sides_to e.0 w) (λ m at. subst (λ (n : ℕ). n < shape_size shape) (stays e.0 (truth w.value) wanted m at) is.below)) (weighted_trees e.1))
 
   -- ---- values that are leaked
 
-  module _ (vs : List ValueTree) (among : All (λ e. All (λ w. Contains vs w.value) (weighted_trees e.1)) choices) (made : All (IsMadeOf (shows vs) choices) table) where
+  module _ (into : Option ℕ) (vs : List ValueTree) (among : All (λ e. All (λ w. Contains vs w.value) (weighted_trees e.1)) choices)
+      (made : All (IsMadeOf (shows (shape_types shape) into vs) choices) table) where
     abbrev pub value_trace : ℕ → List ValueTree
     value_trace j = get_or vs j (Truth false) ∷ []
+
+    abbrev showing : ℕ → ValueTree → List Run
+    showing n v = moved (stop_place d) (store_behind (shape_types shape) into n v)
+
+    abbrev shows_to : ℕ → Weighted → Option ℕ
+    shows_to n w = store_behind (shape_types shape) into n w.value
 
     its_values : (e : ℕ × Choice) → Contains choices e → Each (λ (w : Weighted). Contains vs w.value) (weighted_trees e.1)
     its_values e there = recursion_from_All (λ (w : Weighted). Contains vs w.value) (weighted_trees e.1) (All-contains (λ (e : ℕ × Choice). All (λ w. Contains vs w.value) (weighted_trees e.1)) choices e among there)
 
-    pub shows_serve : All (Serves value_trace (length vs) the_observed the_observed) table
-    shows_serve = all_serve shape d choices chosen (shows vs) value_trace (length vs) shown (λ n v. stay n) shown (λ n v. stay n) (λ n v. tt)
-        (λ n w. omega arith)
-        (λ e there. each_weaker (λ (w : Weighted). Contains vs w.value) (GoesAs value_trace shown e.0 (total (weighted_trees e.1)) (λ v. stay e.0) (shows vs e.0))
-        (λ w has k. ap (its_cells k) (run_is value_trace shown e.0 (total (weighted_trees e.1)) e.0 (place vs w.value) w (ap (λ v. v ∷ []) (sym ((at_place w.value vs has).1 (Truth false))))))
+    pub shows_serve : All (Serves value_trace (length vs) (shown_to (shape_types shape) into d) (shown_to (shape_types shape) into d)) table
+    shows_serve = all_serve shape d choices chosen (shows (shape_types shape) into vs) value_trace (length vs) shown showing shown showing
+        (λ n v. moved_some (stop_place d) (store_behind (shape_types shape) into n v))
+        (λ n w. way_weighs (place vs w.value) w.weight (shows_to n w))
+        (λ e there. each_weaker (λ (w : Weighted). Contains vs w.value) (GoesAs value_trace shown e.0 (total (weighted_trees e.1)) (showing e.0) (shows (shape_types shape) into vs e.0))
+        (λ w has. moved_as value_trace shown e.0 (total (weighted_trees e.1)) (stop_place d) (place vs w.value) w (shows_to e.0 w) (ap (λ v. v ∷ []) (sym ((at_place w.value vs has).1 (Truth false)))))
         (weighted_trees e.1) (its_values e there))
-        (λ e there. each_weaker (λ (w : Weighted). Contains vs w.value) (λ (w : Weighted). Each (λ (way : Way). way.label < length vs) (shows vs e.0 w))
-        (λ w has. ((at_place w.value vs has).0, tt)) (weighted_trees e.1) (its_values e there))
-        (λ n w some. (some, tt))
+        (λ e there. each_weaker (λ (w : Weighted). Contains vs w.value) (λ (w : Weighted). Each (λ (way : Way). way.label < length vs) (shows (shape_types shape) into vs e.0 w))
+        (λ w has. way_has (λ (way : Way). way.label < length vs) (place vs w.value) w.weight (shows_to e.0 w) (λ m is. (at_place w.value vs has).0)) (weighted_trees e.1) (its_values e there))
+        (λ n w some. way_has (λ (way : Way). 0 < way.weight) (place vs w.value) w.weight (shows_to n w) (λ m is. some))
         table made
-
-    pub shows_below : LeadBelow (shape_size shape) table
-    shows_below = lead_below shape d choices chosen (shows vs) (shape_size shape) table made
-        (λ e is. each_any (λ (w : Weighted). Each (λ (way : Way). way.to < shape_size shape) (shows vs e.0 w)) (λ w. (is.below, tt)) (weighted_trees e.1))
 
 -- the traces of values in order ascend
 pub values_ascend : (vs : List ValueTree) → IsStrictlySortedBy order vs → LabelsAscend (λ j. get_or vs j (Truth false) ∷ []) (length vs)

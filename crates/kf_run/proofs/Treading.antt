@@ -19,7 +19,7 @@ use Rattle.kf_hyper.specs.declared.entry.Entry.{Entry}
 use Rattle.kf_hyper.specs.Columns.{values}
 use Rattle.kf_core.specs.Choices.{Weighted, total}
 use Rattle.kf_core.specs.Joint.{Cell, cells, cell_of, weight_of}
-use Rattle.kf_core.specs.Runs.{Run, Tried, joined, branched, choice_run, stay, moved, silent, shown, tried}
+use Rattle.kf_core.specs.Runs.{Run, Tried, joined, branched, choice_run, stay, moved, shown, tried}
 use Rattle.kf_core.proofs.Measures.{Full, each_left, each_right}
 use Rattle.kf_core.proofs.Sums.{adds, sum_is, adds_joined}
 use Rattle.kf_run.specs.Following.{Goes, Takes}
@@ -73,14 +73,14 @@ pub run_is : (trace : ℕ → List ValueTree) (leak : ValueTree → List ValueTr
     → map (joined (choice_run leak n t c)) (stay m) ≡ map (way_run trace t) (record { label = label; to = m; weight = c.weight } ∷ [])
 run_is trace leak n t m label c leaks = λ i. record { trace = leaks i; end = Ok m; weight = mul-one c.weight i; scale = mul-one t i } ∷ []
 
-pub moved_as : (n t at : ℕ) (c : Weighted) (x : Option ℕ) (w : ℕ)
-    → its_cells w (map (joined (choice_run silent n t c)) (moved at x)) ≡ its_cells w (map (way_run (λ j. []) t) (way_to c.weight x))
-moved_as n t at c (Some m) w = ap (its_cells w) (run_is (λ j. []) silent n t m 0 c refl)
-moved_as n t at c None w = refl
+pub moved_as : (trace : ℕ → List ValueTree) (leak : ValueTree → List ValueTree) (n t at label : ℕ) (c : Weighted) (x : Option ℕ) → leak c.value ++ [] ≡ trace label → (w : ℕ)
+    → its_cells w (map (joined (choice_run leak n t c)) (moved at x)) ≡ its_cells w (map (way_run trace t) (way_to label c.weight x))
+moved_as trace leak n t at label c (Some m) leaks w = ap (its_cells w) (run_is trace leak n t m label c leaks)
+moved_as trace leak n t at label c None leaks w = refl
 
 pub side_as : (n t : ℕ) (c : Weighted) (truth wanted : Bool) → c.value ≡ Truth truth → (w : ℕ)
     → its_cells w (map (joined (choice_run shown n t c)) (if truth then (if wanted then stay n else []) else (if wanted then [] else stay n)))
-    ≡ its_cells w (map (way_run (λ j. Truth wanted ∷ []) t) (way_to c.weight (if truth then (if wanted then Some n else None) else (if wanted then None else Some n))))
+    ≡ its_cells w (map (way_run (λ j. Truth wanted ∷ []) t) (way_to 0 c.weight (if truth then (if wanted then Some n else None) else (if wanted then None else Some n))))
 side_as n t c true true is w = ap (its_cells w) (run_is (λ j. Truth true ∷ []) shown n t n 0 c (ap (λ v. v ∷ []) is))
 side_as n t c true false is w = refl
 side_as n t c false true is w = refl
@@ -118,13 +118,13 @@ total_within go small cs ways items sum =
     at [] = omega arith
     at (c ∷ cs) = omega (arith, adds_joined (λ (way : Way). way.weight) (go c) (flat_map go cs), small c, at cs)
 
-pub way_weighs : (w : ℕ) (x : Option ℕ) → ways_weigh (way_to w x) ≤ w
-way_weighs w (Some m) = omega arith
-way_weighs w None = omega arith
+pub way_weighs : (label w : ℕ) (x : Option ℕ) → ways_weigh (way_to label w x) ≤ w
+way_weighs label w (Some m) = omega arith
+way_weighs label w None = omega arith
 
-pub way_has : (P : Way → Type 0) (w : ℕ) (x : Option ℕ) → ((m : ℕ) → x ≡ Some m → P (record { label = 0; to = m; weight = w })) → Each P (way_to w x)
-way_has P w (Some m) h = (h m refl, tt)
-way_has P w None h = tt
+pub way_has : (P : Way → Type 0) (label w : ℕ) (x : Option ℕ) → ((m : ℕ) → x ≡ Some m → P (record { label = label; to = m; weight = w })) → Each P (way_to label w x)
+way_has P label w (Some m) h = (h m refl, tt)
+way_has P label w None h = tt
 
 -- ---- tables
 

@@ -1,9 +1,12 @@
 -- For bodies: weight that goes along runs, and the two sides of a guard.
-use Rattle.std.specs.Prelude.{ℕ, ◌<◌, Bool, List, [], All, IsOk, if◌then◌else◌}
+use Rattle.std.specs.Prelude.{ℕ, ◌<◌, Bool, List, [], All, IsOk, Option, if◌then◌else◌}
 use Rattle.std.specs.Int.{◌∣◌}
+use Rattle.kf_value.specs.Types.{TypeTree}
 use Rattle.kf_value.specs.Values.{truth}
 use Rattle.kf_hyper.specs.declared.entry.Entry.{Entry}
-use Rattle.kf_core.specs.Runs.{Run, Tried, branched, shown, stay}
+use Rattle.kf_core.specs.Dxs.{DxTree}
+use Rattle.kf_core.specs.Runs.{Run, Tried, branched, moved, place, shown, stay, tried}
+use Rattle.kf_support.specs.Moves.{store_behind}
 
 -- the run ends, and its share of this weight is whole
 pub record Takes (weight : ℕ) (r : Run) : Type 0 where
@@ -18,6 +21,10 @@ Goes from columns = All (λ column. All (λ e. All (Takes e.weight) (from e.valu
 -- the choices' values are leaked, and nothing else happens
 abbrev pub observed : (ℕ → Tried) → ℕ → List Run
 observed tries n = branched shown n (λ v. stay n) (tries n)
+
+-- the choices' values are leaked, and each leads to the store behind it: of an observation into none, of a shown assignment into its variable
+abbrev pub shown_to : List TypeTree → Option ℕ → DxTree → ℕ → List Run
+shown_to ts into d n = branched shown n (λ v. moved (place d) (store_behind ts into n v)) (tried ts d n)
 
 -- where the guard's value is this one, it is leaked; other runs are not followed
 abbrev pub side : Bool → (ℕ → Tried) → ℕ → List Run

@@ -19,6 +19,7 @@ use Rattle.kf_core.specs.Runs.{copied, replaced, tried}
 use Rattle.kf_eval.specs.Choices.{weighted_trees}
 use Rattle.kf_eval.specs.Kinds.{shape_kinds}
 use Rattle.kf_eval.specs.declared.choice.Choice.{Choice}
+use Rattle.kf_support.specs.Moves.{store_behind}
 use Rattle.kf_run.specs.declared.ways.Way.{Way}
 use Rattle.kf_run.specs.declared.ways.Ways.{Ways}
 
@@ -48,26 +49,27 @@ pub record IsMadeOf (go : ℕ → Weighted → List Way) (choices : List (ℕ ×
   pub total_is : e.1.total ≡ choice.total
   pub items_are : e.1.items.items ≡ flat_map (go e.0) (weighted_trees choice)
 
-abbrev pub way_to : ℕ → Option ℕ → List Way
-way_to weight (Some n) = record { label = 0; to = n; weight = weight } ∷ []
-way_to weight None = []
+-- the way to a store, with this label
+abbrev pub way_to : ℕ → ℕ → Option ℕ → List Way
+way_to label weight (Some n) = record { label = label; to = n; weight = weight } ∷ []
+way_to label weight None = []
 
 -- a choice leads to the store where the variable has its value
 abbrev pub moves : List TypeTree → ℕ → ℕ → Weighted → List Way
-moves ts slot n w = way_to w.weight (replaced ts slot w.value n)
+moves ts slot n w = way_to 0 w.weight (replaced ts slot w.value n)
 
 -- a choice with this truth stays in the store
 abbrev pub sides : Bool → ℕ → Weighted → List Way
-sides wanted n w = way_to w.weight (if truth w.value then (if wanted then Some n else None) else (if wanted then None else Some n))
+sides wanted n w = way_to 0 w.weight (if truth w.value then (if wanted then Some n else None) else (if wanted then None else Some n))
 
 -- the place of a value in a list that has it
 abbrev pub place : List ValueTree → ValueTree → ℕ
 place [] v = 0
 place (u ∷ us) v = if is_equal u v then 0 else suc (place us v)
 
--- a choice stays in the store, with its value's place as its label
-abbrev pub shows : List ValueTree → ℕ → Weighted → List Way
-shows vs n w = record { label = place vs w.value; to = n; weight = w.weight } ∷ []
+-- a choice leads to the store behind it, with its value's place as its label
+abbrev pub shows : List TypeTree → Option ℕ → List ValueTree → ℕ → Weighted → List Way
+shows ts into vs n w = way_to (place vs w.value) w.weight (store_behind ts into n w.value)
 
 -- all values of all choices
 abbrev pub values_in : List (ℕ × Choice) → List ValueTree

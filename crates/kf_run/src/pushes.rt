@@ -16,7 +16,7 @@ ghost use Rattle.kf_eval.specs.Kinds.{shape_kinds};
 ghost use Rattle.kf_support.specs.Cleared.{program_of, turns_of, whole_scale};
 ghost use Rattle.kf_run.specs.Going.{CanGo, HasGone};
 
-use crate::steps::{assign, guard, observe};
+use crate::steps::{assignment, guard, show};
 use kf_core::{Dx, St, run_laws};
 use kf_hyper::{ColumnList, Columns, join, merge};
 use kf_support::Cleared;
@@ -67,12 +67,12 @@ fn push_one(
 {
     match statement {
         St::Skip => Ok(columns),
-        St::Assign { slot, dist } => {
-            let after = assign(alloc, shape, usize::from(*slot), dist, &columns)?;
+        St::Assign { slot, dist, shown } => {
+            let after = assignment(alloc, shape, usize::from(*slot), dist, *shown, &columns)?;
             Ok(after)
         }
         St::Observe(dist) => {
-            let after = observe(alloc, shape, dist, &columns)?;
+            let after = show(alloc, shape, None, dist, &columns)?;
             Ok(after)
         }
         St::If {

@@ -1,6 +1,6 @@
 //! What simple statements and guards make of columns.
 
-ghost use Rattle.std.specs.Prelude.{◌≡◌, ◌<◌, ◌+◌, ℕ, true, false, length, List, All, IfOk};
+ghost use Rattle.std.specs.Prelude.{◌≡◌, ◌<◌, ◌+◌, ℕ, true, false, length, List, All, IfOk, IfSome};
 ghost use Rattle.kf_value.specs.Kinds.{KindTree, TruthKind};
 ghost use Rattle.kf_value.specs.Values.{ValueTree};
 ghost use Rattle.kf_value.specs.Shapes.{shape_size, shape_types};
@@ -8,10 +8,10 @@ ghost use Rattle.kf_hyper.specs.Joint.{mass};
 ghost use Rattle.kf_hyper.specs.Shapes.{IsBelow};
 ghost use Rattle.kf_core.specs.Checked.{DistKinded, IsChecked};
 ghost use Rattle.kf_core.specs.Ready.{IsPushed};
-ghost use Rattle.kf_core.specs.Runs.{Run, assigned, copied, stay, tried};
+ghost use Rattle.kf_core.specs.Runs.{Run, assigned, copied, leaks, silent, stay, tried};
 ghost use Rattle.kf_core.specs.Views.{dx_tree, program_tree};
 ghost use Rattle.kf_eval.specs.Kinds.{shape_kinds};
-ghost use Rattle.kf_run.specs.Following.{Goes, observed, side};
+ghost use Rattle.kf_run.specs.Following.{Goes, observed, shown_to, side};
 ghost use Rattle.kf_run.specs.Spreading.{IsAlongWays, LabelsBelow, LeadBelow};
 ghost use Rattle.kf_run.specs.Ways.{LabelsAscend, Leads};
 
@@ -40,7 +40,7 @@ fn push_along(alloc: Global, table: &BTreeMap<u64, Ways>, columns: &Columns) -> 
     Ok(merged)
 }
 
-/// What columns become where the variable at `slot` takes a value, with those of one posterior added up.
+/// What columns become where the variable at `slot` takes a value that isn't leaked, with those of one posterior added up.
 pub fn assign(
     alloc: Global,
     shape: &Shape,
@@ -51,8 +51,8 @@ pub fn assign(
     requires variable { slot < length (shape_types shape.now) }
     requires kinded { (k : KindTree) × DistKinded (shape_kinds shape.now) (dx_tree dist.now) k }
     requires below { All (IsBelow (shape_size shape.now)) columns.now.columns }
-    requires goes { Goes (assigned (shape_types shape.now) slot (dx_tree dist.now)) columns.now.columns }
-    ensures pushed { IfOk result (λ after. IsPushed (assigned (shape_types shape.now) slot (dx_tree dist.now)) columns.now.columns after.columns) }
+    requires goes { Goes (assigned silent (shape_types shape.now) slot (dx_tree dist.now)) columns.now.columns }
+    ensures pushed { IfOk result (λ after. IsPushed (assigned silent (shape_types shape.now) slot (dx_tree dist.now)) columns.now.columns after.columns) }
     ensures scale { IfOk result (λ after. after.scale ≡ columns.now.scale) }
     ensures below { IfOk result (λ after. All (IsBelow (shape_size shape.now)) after.columns) }
 {
@@ -63,21 +63,52 @@ pub fn assign(
     Ok(after)
 }
 
-/// What columns become where a value is leaked, with those of one posterior added up.
-pub fn observe(alloc: Global, shape: &Shape, dist: &Dx, columns: &Columns) -> Result<Columns, Mem>
+/// What columns become where a value is leaked, with those of one posterior added up. Where `into` names a variable, it takes the value.
+pub fn show(
+    alloc: Global,
+    shape: &Shape,
+    into: Option<usize>,
+    dist: &Dx,
+    columns: &Columns,
+) -> Result<Columns, Mem>
+    requires variable { IfSome into (λ slot. slot < length (shape_types shape.now)) }
     requires kinded { (k : KindTree) × DistKinded (shape_kinds shape.now) (dx_tree dist.now) k }
     requires below { All (IsBelow (shape_size shape.now)) columns.now.columns }
-    requires goes { Goes (observed (tried (shape_types shape.now) (dx_tree dist.now))) columns.now.columns }
-    ensures pushed { IfOk result (λ after. IsPushed (observed (tried (shape_types shape.now) (dx_tree dist.now))) columns.now.columns after.columns) }
+    requires goes { Goes (shown_to (shape_types shape.now) into (dx_tree dist.now)) columns.now.columns }
+    ensures pushed { IfOk result (λ after. IsPushed (shown_to (shape_types shape.now) into (dx_tree dist.now)) columns.now.columns after.columns) }
     ensures scale { IfOk result (λ after. after.scale ≡ columns.now.scale) }
     ensures below { IfOk result (λ after. All (IsBelow (shape_size shape.now)) after.columns) }
 {
     let stores = stores_of(alloc, columns)?;
     let choices = choices_in(alloc, shape, dist, stores.as_slice())?;
     let values = values_of(alloc, &choices)?;
-    let table = labels_table(alloc, values.as_slice(), &choices)?;
+    let table = labels_table(alloc, shape, into, values.as_slice(), &choices)?;
     let after = push_along(alloc, &table, columns)?;
     Ok(after)
+}
+
+/// What columns become where the variable at `slot` takes a value, which is leaked where it is `shown`.
+pub fn assignment(
+    alloc: Global,
+    shape: &Shape,
+    slot: usize,
+    dist: &Dx,
+    shown: bool,
+    columns: &Columns,
+) -> Result<Columns, Mem>
+    requires variable { slot < length (shape_types shape.now) }
+    requires kinded { (k : KindTree) × DistKinded (shape_kinds shape.now) (dx_tree dist.now) k }
+    requires below { All (IsBelow (shape_size shape.now)) columns.now.columns }
+    requires goes { Goes (assigned (leaks shown) (shape_types shape.now) slot (dx_tree dist.now)) columns.now.columns }
+    ensures pushed { IfOk result (λ after. IsPushed (assigned (leaks shown) (shape_types shape.now) slot (dx_tree dist.now)) columns.now.columns after.columns) }
+    ensures scale { IfOk result (λ after. after.scale ≡ columns.now.scale) }
+    ensures below { IfOk result (λ after. All (IsBelow (shape_size shape.now)) after.columns) }
+{
+    if shown {
+        show(alloc, shape, Some(slot), dist, columns)
+    } else {
+        assign(alloc, shape, slot, dist, columns)
+    }
 }
 
 /// Columns by the value of a guard.

@@ -6,7 +6,7 @@ use Rattle.kf_core.specs.ChoiceLaws.{ChoicesAreShares}
 use Rattle.kf_core.specs.Dxs.{DxTree}
 use Rattle.kf_core.specs.Sts.{StTree, StTrees, Skip, Assign, Observe, If, While, no_sts, more_sts, sts}
 use Rattle.kf_core.specs.Programs.{ProgramTree}
-use Rattle.kf_core.specs.Runs.{Run, tried, place, chain, assigned, runs, all_runs, declared, copied}
+use Rattle.kf_core.specs.Runs.{Run, tried, place, chain, assigned, leaks, silent, runs, all_runs, declared, copied}
 use Rattle.kf_core.specs.Results.{then_ok}
 use Rattle.kf_core.specs.Support.{assign_pass, pass, all_pass, declare_pass, program_pass}
 use Rattle.kf_core.proofs.Scales.{weighty}
@@ -25,7 +25,7 @@ module _ (shares : ChoicesAreShares) where
     mutual
       pub carries : (x : StTree) → Carries (carry ts turns x) (pass ts turns x) (runs ts turns x)
       carries Skip = stay_carries
-      carries (Assign i d) = assign_carries ts i d (weighty shares ts d)
+      carries (Assign i d visible) = assign_carries (leaks visible) ts i d (weighty shares ts d)
       carries (Observe d) = observe_carries ts d (weighty shares ts d)
       carries (If d xs ys) =
           guard_told (tried ts d) (weighty shares ts d) (carry_all ts turns xs) (carry_all ts turns ys) (all_pass ts turns xs) (all_pass ts turns ys) (all_runs ts turns xs) (all_runs ts turns ys)
@@ -40,8 +40,8 @@ module _ (shares : ChoicesAreShares) where
   decls_carry : (ts : List TypeTree) (i : ℕ) (ds : List DxTree) → Carries (carry_decls ts i ds) (declare_pass ts i ds) (declared ts i ds)
   decls_carry ts i [] = stay_carries
   decls_carry ts i (d ∷ ds) =
-      chain_carries (carry_step (assign_lead ts i d) []) (carry_decls ts (suc i) ds) (assign_pass ts i d) (declare_pass ts (suc i) ds) (assigned ts i d) (declared ts (suc i) ds)
-      (assign_carries ts i d (weighty shares ts d)) (decls_carry ts (suc i) ds)
+      chain_carries (carry_step (assign_lead ts i d) []) (carry_decls ts (suc i) ds) (assign_pass ts i d) (declare_pass ts (suc i) ds) (assigned silent ts i d) (declared ts (suc i) ds)
+      (assign_carries silent ts i d (weighty shares ts d)) (decls_carry ts (suc i) ds)
 
   pub program_carries : (turns : ℕ) (p : ProgramTree) → Told (program_pass turns p) (runs_from turns p) ((0, 1) ∷ []) (carry_program turns p)
   program_carries turns p =

@@ -9,7 +9,7 @@ use Rattle.kf_value.specs.Types.{TypeTree}
 use Rattle.kf_value.specs.Values.{ValueTree}
 use Rattle.kf_core.specs.Choices.{Weighted, total}
 use Rattle.kf_core.specs.Dxs.{DxTree}
-use Rattle.kf_core.specs.Runs.{Run, Tried, tried, place, replaced, stay, moved, branched, silent, shown, assigned, chain}
+use Rattle.kf_core.specs.Runs.{Run, Tried, tried, place, replaced, stay, moved, branched, shown, assigned, chain}
 use Rattle.kf_core.specs.Results.{then_ok}
 use Rattle.kf_core.specs.Support.{StoreSet, Passed, each_pass, each_moved, step, same, assign_pass}
 use Rattle.kf_core.proofs.PassTells.{Lists, holds_listed, items_hold}
@@ -76,20 +76,21 @@ module _ (at : ℕ) (go : ValueTree → Option ℕ) where
   lands_by k Q v s os (Ok ms) h works = h
   lands_by k Q v s os (Err f) h works = absurd works
 
-  assign_leads : (k : ℕ) (Q : ℕ → ℕ → Type 0) (n v : ℕ) (g : Tried) → Works (assign_to g) → Leads k Q (branched silent n (λ u. moved at (go u)) g) v ↔ Lands (assign_to g) Q v
-  assign_leads k Q n v (Ok ws) works =
-      through (leads_branched k Q silent n (λ u. moved at (go u)) ws v)
+  assign_leads : (leak : ValueTree → List ValueTree) (k : ℕ) (Q : ℕ → ℕ → Type 0) (n v : ℕ) (g : Tried) → Works (assign_to g) → Leads k Q (branched leak n (λ u. moved at (go u)) g) v ↔ Lands (assign_to g) Q v
+  assign_leads leak k Q n v (Ok ws) works =
+      through (leads_branched k Q leak n (λ u. moved at (go u)) ws v)
       (through (back (each_mapped (λ (o : Option ℕ). Leads k Q (moved at o) (v * total ws)) (λ (w : Weighted). go w.value) ws))
       (lands_by k Q v (total ws) (map (λ w. go w.value) ws) (each_moved at (map (λ w. go w.value) ws)) (moves_land k Q (v * total ws) (map (λ w. go w.value) ws)) works))
-  assign_leads k Q n v (Err f) works = absurd works
+  assign_leads leak k Q n v (Err f) works = absurd works
 
-pub assign_carries : (ts : List TypeTree) (i : ℕ) (d : DxTree) → ((n : ℕ) → Weighty (tried ts d n)) → Carries (carry_step (assign_lead ts i d) []) (assign_pass ts i d) (assigned ts i d)
-assign_carries ts i d weighty =
-    step_carries (assign_lead ts i d) (λ n. move_to (place d) (λ v. replaced ts i v n) (tried ts d n)) (assigned ts i d)
+pub assign_carries : (leak : ValueTree → List ValueTree) (ts : List TypeTree) (i : ℕ) (d : DxTree) → ((n : ℕ) → Weighty (tried ts d n))
+    → Carries (carry_step (assign_lead ts i d) []) (assign_pass ts i d) (assigned leak ts i d)
+assign_carries leak ts i d weighty =
+    step_carries (assign_lead ts i d) (λ n. move_to (place d) (λ v. replaced ts i v n) (tried ts d n)) (assigned leak ts i d)
     (λ n. assign_positive (place d) (λ v. replaced ts i v n) (tried ts d n) (weighty n))
     (λ n. assign_faults (place d) (λ v. replaced ts i v n) (tried ts d n))
     (λ n m. assign_alike (place d) (λ v. replaced ts i v n) m (tried ts d n))
-    (λ k Q n v w. assign_leads (place d) (λ v. replaced ts i v n) k Q n v (tried ts d n) w)
+    (λ k Q n v w. assign_leads (place d) (λ v. replaced ts i v n) leak k Q n v (tried ts d n) w)
 
 -- ---- observations
 

@@ -16,7 +16,7 @@ module _ (ts : List TypeTree) (turns : ℕ) where
   mutual
     nothing : (x : StTree) → carry ts turns x [] ≡ Ok []
     nothing Skip = refl
-    nothing (Assign i d) = refl
+    nothing (Assign i d visible) = refl
     nothing (Observe d) = refl
     nothing (If d xs ys) = let l = all_nothing xs in let r = all_nothing ys in λ i. then_ok (l i) (λ one. then_ok (r i) (λ other. Ok (with_all one other)))
     nothing (While d xs) = loop_nothing (tried ts d) (place d) (carry_all ts turns xs) (all_nothing xs) turns

@@ -79,7 +79,7 @@ carry_loop (suc k) guard at body left es =
 abbrev mutual
   pub carry : List TypeTree → ℕ → StTree → Reached → Passed Reached
   carry ts turns Skip es = Ok es
-  carry ts turns (Assign i d) es = carry_step (assign_lead ts i d) [] es
+  carry ts turns (Assign i d visible) es = carry_step (assign_lead ts i d) [] es
   carry ts turns (Observe d) es = carry_step (observe_lead ts d) [] es
   carry ts turns (If d xs ys) es =
       then_ok (carry_step (guard_lead true (tried ts d)) [] es)

@@ -2,3 +2,4 @@
 pub mod Carried
 pub mod Answers
 pub mod Cleared
+pub mod Moves

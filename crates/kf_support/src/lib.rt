@@ -13,5 +13,5 @@ mod ways;
 pub use cleared::Cleared;
 pub use clearing::clear;
 pub use faults::{Halt, RunFault};
-pub use moves::{copied_store, moved};
+pub use moves::{copied_store, moved, store_behind};
 pub use steps::chosen_in;

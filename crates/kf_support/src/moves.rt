@@ -8,6 +8,7 @@ ghost use Rattle.kf_value.specs.Shapes.{shape_types, shape_size};
 ghost use Rattle.kf_core.specs.Checked.{IsChecked};
 ghost use Rattle.kf_core.specs.Views.{program_tree};
 ghost use Rattle.kf_core.specs.Runs.{copied, replaced, store_at};
+ghost use Rattle.kf_support.specs.Moves.{store_behind};
 
 use kf_core::Program;
 use kf_eval::value_in;
@@ -25,6 +26,20 @@ pub fn moved(shape: &Shape, slot: usize, store: u64, value: &Value) -> Option<u6
     match shape.with_slot(store, slot, value) {
         Ok(after) => Some(after),
         Err(_) => None,
+    }
+}
+
+/// The store behind a choice of the value: where a variable takes it, as `moved` says, else the same.
+pub fn store_behind(shape: &Shape, into: Option<usize>, store: u64, value: &Value) -> Option<u64>
+    requires variable { IfSome into (λ slot. slot < length (shape_types shape.now)) }
+    requires store { store < shape_size shape.now }
+    requires formed { IsWellFormed (value_tree value.now) }
+    ensures behind { result ≡ store_behind (shape_types shape.now) into store (value_tree value.now) }
+    ensures below { IfSome result (λ after. after < shape_size shape.now) }
+{
+    match into {
+        Some(slot) => moved(shape, slot, store, value),
+        None => Some(store),
     }
 }
 

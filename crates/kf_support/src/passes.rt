@@ -36,7 +36,7 @@ fn pass(
 {
     match statement {
         St::Skip => Ok(from),
-        St::Assign { slot, dist } => assign(alloc, shape, usize::from(*slot), dist, &from),
+        St::Assign { slot, dist, .. } => assign(alloc, shape, usize::from(*slot), dist, &from),
         St::Observe(dist) => observe(alloc, shape, dist, &from),
         St::If {
             guard: test,

@@ -14,6 +14,7 @@ mod refusals;
 mod reports;
 mod slow;
 mod types;
+mod visible;
 
 use kf_io::{
     ByteList, CallList, FileEntry, FileList, FileName, Files, MemFiles, MemSink, SureFiles,

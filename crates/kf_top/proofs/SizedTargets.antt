@@ -75,7 +75,7 @@ module _ (sizes : SizesAgree) where
   type_sized y t judged = let agrees = sizes y (Ok t) judged in subst HasSize (sym agrees.0) (no_fault (plain_type y) (count (plain_type y)) agrees.1)
 
   variable_sized : (vs : List Variable) (d : DeclTree) (v : Variable) → JudgesDecl vs d (Ok v) → HasSize v.type
-  variable_sized vs (declared (name n at) y d) v j =
+  variable_sized vs (declared visible (name n at) y d) v j =
       let given : Ok v ≡ Ok (record { name = n; type = j.2.0 }) = j.2.2.2.2 in
       let same : v ≡ record { name = n; type = j.2.0 } = cc in
       subst HasSize (sym (ap (λ (w : Variable). w.type) same)) (type_sized y j.2.0 j.2.1)

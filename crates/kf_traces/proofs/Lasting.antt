@@ -1,5 +1,5 @@
 -- That no traced state is without a store.
-use Rattle.std.proofs.Common.{ℕ, zero, suc, ◌+◌, ◌*◌, ◌/◌, Bool, true, false, List, [], ◌∷◌, ◌++◌, Option, Some, None, Ok, Err}
+use Rattle.std.proofs.Common.{ℕ, zero, suc, ◌+◌, ◌*◌, ◌/◌, Bool, true, false, List, [], ◌∷◌, ◌++◌, Option, Some, None, Ok, Err, subst}
 use Rattle.std.specs.Prelude.{if◌then◌else◌}
 use Rattle.std.specs.Ordering.{nat_cmp, match_ordering}
 use Rattle.std.specs.declared.cmp.Ordering.{Ordering}
@@ -14,11 +14,11 @@ use Rattle.kf_core.specs.Sts.{StTree, StTrees, Skip, Assign, Observe, If, While,
 use Rattle.kf_core.specs.Runs.{Run, Tried, tried, place, LoopBound, chain, branched, silent, shown, stay, stopped, moved, replaced, assigned, guarded, looped, runs, all_runs, declared}
 use Rattle.kf_core.proofs.Filled.{Filled, Solid, AllSolid, DeclsSolid, looped_full, all_full, declared_full}
 use Rattle.kf_core.proofs.Measures.{Measure, Trace, RunsWithin, ahead, Full, chain_runs, choices_run}
-use Rattle.kf_traces.specs.Traced.{Weights, Traced, Part, with_weight, with_part, with_shares, parted, split, behind, branches, alone, gone, with_move, with_moves, assign_all, assign_traced, guard_traced, loop_traced, traced, all_traced, declared_traced}
+use Rattle.kf_traces.specs.Traced.{Weights, Traced, Part, Lead, unmoved, into, with_weight, with_part, with_share, with_shares, parted, split, behind, branches, alone, gone, with_move, with_moves, assign_all, assign_traced, guard_traced, loop_traced, traced, all_traced, declared_traced}
 use Rattle.kf_traces.specs.Traced as spec
 use Rattle.kf_traces.proofs.Measures.{Within}
-use Rattle.kf_traces.proofs.Splitting.{PartsWithin, shown_to, split_is}
-use Rattle.kf_traces.proofs.Carrying.{StateWithin, StatesWithin, Carries, turned, assign_carries, carries, all_carry}
+use Rattle.kf_traces.proofs.Splitting.{PartsWithin, onto, shown_to, split_is}
+use Rattle.kf_traces.proofs.Carrying.{StateWithin, StatesWithin, Carries, turned, assign_carries, shown_is, carries, all_carry}
 
 -- ---- no state is without a store
 
@@ -45,17 +45,22 @@ module _ (v : ValueTree) (n w : ℕ) where
   part_full [] h = (tt, tt)
   part_full (p ∷ ps) h = part_full_at p ps (order v p.value) h (part_full ps h.1)
 
-shares_full : (ps : List Part) (n share : ℕ) (cs : List Weighted) → PartsFull ps → PartsFull (with_shares ps n share cs)
-shares_full ps n share [] h = h
-shares_full ps n share (c ∷ cs) h = shares_full (with_part ps c.value n (share * c.weight)) n share cs (part_full c.value n (share * c.weight) ps h)
+share_full : (ps : List Part) (v : ValueTree) (x : Option ℕ) (w : ℕ) → PartsFull ps → PartsFull (with_share ps v x w)
+share_full ps v (Some n) w h = part_full v n w ps h
+share_full ps v None w h = h
 
-parted_full : (ps : List Part) (n w : ℕ) (g : Tried) → PartsFull ps → PartsFull (parted ps n w g)
-parted_full ps n w (Ok cs) h = shares_full ps n (w / total cs) cs h
-parted_full ps n w (Err f) h = h
+module _ (go : Lead) where
+  shares_full : (ps : List Part) (n share : ℕ) (cs : List Weighted) → PartsFull ps → PartsFull (with_shares go ps n share cs)
+  shares_full ps n share [] h = h
+  shares_full ps n share (c ∷ cs) h = shares_full (with_share ps c.value (go n c.value) (share * c.weight)) n share cs (share_full ps c.value (go n c.value) (share * c.weight) h)
 
-split_full : (tries : ℕ → Tried) (ps : List Part) (es : Weights) → PartsFull ps → PartsFull (split tries ps es)
-split_full tries ps [] h = h
-split_full tries ps (e ∷ es) h = split_full tries (parted ps e.0 e.1 (tries e.0)) es (parted_full ps e.0 e.1 (tries e.0) h)
+  parted_full : (ps : List Part) (n w : ℕ) (g : Tried) → PartsFull ps → PartsFull (parted go ps n w g)
+  parted_full ps n w (Ok cs) h = shares_full ps n (w / total cs) cs h
+  parted_full ps n w (Err f) h = h
+
+  split_full : (tries : ℕ → Tried) (ps : List Part) (es : Weights) → PartsFull ps → PartsFull (split go tries ps es)
+  split_full tries ps [] h = h
+  split_full tries ps (e ∷ es) h = split_full tries (parted go ps e.0 e.1 (tries e.0)) es (parted_full ps e.0 e.1 (tries e.0) h)
 
 abbrev pub StatesFull : List Traced → Type 0
 StatesFull ss = Each (λ s. Full s.stores) ss
@@ -77,17 +82,17 @@ chain_lasts f g a b full carry one other M s some within =
     let h = turned (ahead M (λ n. chain (a n) b) s.trace) (ahead (ahead M b) a s.trace) (λ n v w. chain_runs M s.trace v b full (a n) w) s.stores within in
     each_lasts g b other M (f s) (one (ahead M b) s some h.0) (carry (ahead M b) s h.0).0
 
-module _ (next : ValueTree → Traced → List Traced) (from : ValueTree → ℕ → List Run) (lasts : (v : ValueTree) → Lasts (next v) (from v)) (M : Trace → Measure) (t : Trace) (tries : ℕ → Tried) where
-  parts_last : (ps : List Part) → PartsFull ps → PartsWithin (shown_to M t tries from) ps → StatesFull (flat_map (λ p. next p.value (behind t p)) ps)
+module _ (next : ValueTree → Traced → List Traced) (from : ValueTree → ℕ → List Run) (lasts : (v : ValueTree) → Lasts (next v) (from v)) (M : Trace → Measure) (t : Trace) (go : Lead) (at : ℕ) (tries : ℕ → Tried) where
+  parts_last : (ps : List Part) → PartsFull ps → PartsWithin (shown_to M t go at tries from) ps → StatesFull (flat_map (λ p. next p.value (behind t p)) ps)
   parts_last [] h within = tt
   parts_last (p ∷ ps) h within =
       each_append (λ u. Full u.stores) (next p.value (behind t p)) (flat_map (λ (q : Part). next q.value (behind t q)) ps)
       (lasts p.value M (behind t p) h.0 within.0) (parts_last ps h.1 within.1)
 
-branches_last : (tries : ℕ → Tried) (next : ValueTree → Traced → List Traced) (from : ValueTree → ℕ → List Run)
-    → ((v : ValueTree) → Lasts (next v) (from v)) → Lasts (branches tries next) (λ n. branched shown n (λ v. from v n) (tries n))
-branches_last tries next from lasts M s full within =
-    parts_last next from lasts M s.trace tries (split tries [] s.stores) (split_full tries [] s.stores tt) (split_is M s.trace tries from [] s.stores tt within).0
+branches_last : (go : Lead) (at : ℕ) (tries : ℕ → Tried) (next : ValueTree → Traced → List Traced) (from : ValueTree → ℕ → List Run)
+    → ((v : ValueTree) → Lasts (next v) (from v)) → Lasts (branches go tries next) (λ n. branched shown n (λ v. onto at (from v) (go n v)) (tries n))
+branches_last go at tries next from lasts M s full within =
+    parts_last next from lasts M s.trace go at tries (split go tries [] s.stores) (split_full go tries [] s.stores tt) (split_is M s.trace go at tries from [] s.stores tt within).0
 
 module _ (ts : List TypeTree) (i at : ℕ) where
   move_full : (es : Weights) (x : Option ℕ) (w : ℕ) → Full es → Full (with_move es x w)
@@ -123,12 +128,16 @@ module _ (ts : List TypeTree) (i : ℕ) (d : DxTree) where
   assign_keeps to (e ∷ es) h = assign_keeps (spec.moved ts i to e.0 e.1 (tried ts d e.0)) es (moved_keeps ts i (place d) e.0 e.1 to (tried ts d e.0) h)
 
   module _ (filled : (n : ℕ) → Filled (tried ts d n)) (M : Trace → Measure) (t : Trace) where
-    assign_full : (es : Weights) → Full es → Within (ahead M (assigned ts i d) t) es → Full (assign_all ts i d [] es)
+    assign_full : (es : Weights) → Full es → Within (ahead M (assigned silent ts i d) t) es → Full (assign_all ts i d [] es)
     assign_full [] full within = absurd full
     assign_full (e ∷ es) full within = assign_keeps (spec.moved ts i [] e.0 e.1 (tried ts d e.0)) es (moved_full ts i (place d) M t e.0 e.1 [] (tried ts d e.0) (filled e.0) within.0)
 
-assign_lasts : (ts : List TypeTree) (i : ℕ) (d : DxTree) → ((n : ℕ) → Filled (tried ts d n)) → Lasts (assign_traced ts i d) (assigned ts i d)
+assign_lasts : (ts : List TypeTree) (i : ℕ) (d : DxTree) → ((n : ℕ) → Filled (tried ts d n)) → Lasts (assign_traced ts i d) (assigned silent ts i d)
 assign_lasts ts i d filled M s full within = (assign_full ts i d filled M s.trace s.stores full within, tt)
+
+shown_lasts : (ts : List TypeTree) (i : ℕ) (d : DxTree) → Lasts (branches (into ts i) (tried ts d) (λ v. alone)) (assigned shown ts i d)
+shown_lasts ts i d =
+    subst (λ (from : ℕ → List Run). Lasts (branches (into ts i) (tried ts d) (λ v. alone)) from) (shown_is ts i d) (branches_last (into ts i) (place d) (tried ts d) (λ v. alone) (λ v. stay) (λ v. alone_lasts))
 
 module _ (F G : Traced → List Traced) (a b : ℕ → List Run) (one : Lasts F a) (other : Lasts G b) where
   side_lasts : (c : Bool) → Lasts (if c then F else G) (λ n. if c then a n else b n)
@@ -136,7 +145,7 @@ module _ (F G : Traced → List Traced) (a b : ℕ → List Run) (one : Lasts F 
   side_lasts false = other
 
   guard_lasts : (guard : ℕ → Tried) → Lasts (guard_traced guard F G) (guarded guard a b)
-  guard_lasts guard = branches_last guard (λ v. if truth v then F else G) (λ v n. if truth v then a n else b n) (λ v. side_lasts (truth v))
+  guard_lasts guard = branches_last unmoved 0 guard (λ v. if truth v then F else G) (λ v n. if truth v then a n else b n) (λ v. side_lasts (truth v))
 
 gone_lasts : (at : ℕ) → Lasts gone (λ n. stopped LoopBound at)
 gone_lasts at M s full within = tt
@@ -153,8 +162,9 @@ module _ (ts : List TypeTree) (turns : ℕ) where
   mutual
     pub lasts : (x : StTree) → Solid ts x → Lasts (traced ts turns x) (runs ts turns x)
     lasts Skip h = alone_lasts
-    lasts (Assign i d) h = assign_lasts ts i d h
-    lasts (Observe d) h = branches_last (tried ts d) (λ v. alone) (λ v. stay) (λ v. alone_lasts)
+    lasts (Assign i d false) h = assign_lasts ts i d h
+    lasts (Assign i d true) h = shown_lasts ts i d
+    lasts (Observe d) h = branches_last unmoved 0 (tried ts d) (λ v. alone) (λ v. stay) (λ v. alone_lasts)
     lasts (If d xs ys) h = guard_lasts (all_traced ts turns xs) (all_traced ts turns ys) (all_runs ts turns xs) (all_runs ts turns ys) (all_last xs h.1) (all_last ys h.2) (tried ts d)
     lasts (While d xs) h = loop_lasts (tried ts d) h.0 turns (place d) (all_traced ts turns xs) (all_runs ts turns xs) (all_full ts turns xs h.1) (all_carry ts turns xs h.1) (all_last xs h.1)
 
@@ -166,5 +176,5 @@ module _ (ts : List TypeTree) (turns : ℕ) where
 pub decls_last : (ts : List TypeTree) (i : ℕ) (ds : List DxTree) → DeclsSolid ts ds → Lasts (declared_traced ts i ds) (declared ts i ds)
 decls_last ts i [] h = alone_lasts
 decls_last ts i (d ∷ ds) h =
-    chain_lasts (assign_traced ts i d) (declared_traced ts (suc i) ds) (assigned ts i d) (declared ts (suc i) ds) (declared_full ts (suc i) ds h.1)
+    chain_lasts (assign_traced ts i d) (declared_traced ts (suc i) ds) (assigned silent ts i d) (declared ts (suc i) ds) (declared_full ts (suc i) ds h.1)
     (assign_carries ts i d) (assign_lasts ts i d h.0) (decls_last ts (suc i) ds h.1)

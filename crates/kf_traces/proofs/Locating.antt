@@ -1,5 +1,5 @@
 -- What a map does when weight is added on a store, and where a part stands in an ascending list, by a binary search.
-use Rattle.std.proofs.Common.{◌≡◌, ℕ, zero, suc, ◌+◌, ◌*◌, ◌^◌, ◌≤◌, ◌<◌, List, [], ◌∷◌, ◌++◌, length, map, take, drop, get_or, slice_set, Option, None, Ok, Err, unwrap_or, sum_by, refl, sym, ap, subst, ◌∙◌, arith, zero-add, ◌⊎◌, ⊎_elim, inl, inr}
+use Rattle.std.proofs.Common.{◌≡◌, ℕ, zero, suc, ◌+◌, ◌^◌, ◌≤◌, ◌<◌, List, [], ◌∷◌, ◌++◌, length, map, take, drop, get_or, slice_set, Option, None, Ok, Err, unwrap_or, sum_by, refl, sym, ap, subst, ◌∙◌, arith, zero-add, ◌⊎◌, ⊎_elim, inl, inr}
 use Rattle.std.specs.declared.cmp.Ordering.{Ordering}
 use Rattle.std.specs.declared.cmp.Ordering.TheVariants.{Less, Equal, Greater}
 use Rattle.std.specs.Ordering.{nat_cmp, ordering_index, ordering_reverse, match_ordering}
@@ -8,7 +8,6 @@ use Rattle.std.specs.Cmp.{nat_cmp_total}
 use Rattle.std.specs.Map.{lookup, keys_of, values_of}
 use Rattle.std.specs.List.{AllByRecursion as Each, insert, take-map}
 use Rattle.std.specs.List.Sorted.{IsStrictlySortedBy, IsNonDecreasingBy, IsBinarySearchResult, IsSearchInRange}
-use Rattle.std.proofs.Math.Nat.{mul-add}
 use Rattle.std.proofs.lemmas.Map.Entries.{lookup_at_gap}
 use Rattle.std.proofs.lemmas.Map.Steps.{lookup-le-sum}
 use Rattle.std.proofs.lemmas.List.{map-append, drop-map}
@@ -16,12 +15,10 @@ use Rattle.std.proofs.lemmas.List.Sums.{sum_by-cons}
 use Rattle.kf_value.specs.Values.{ValueTree, order}
 use Rattle.kf_value.specs.Views.{value_tree}
 use Rattle.kf_value.proofs.Orders.{flip, goes_on, same}
-use Rattle.kf_core.specs.Choices.{Weighted, total}
 use Rattle.kf_traces.specs.declared.parts.Part as coded
 use Rattle.kf_traces.specs.Laws.{sum_of}
-use Rattle.kf_traces.specs.Traced.{Weights, Part, with_weight, with_part, with_shares}
+use Rattle.kf_traces.specs.Traced.{Weights, Part, with_weight, with_part}
 use Rattle.kf_traces.specs.Views.{part_of, parts_sum, PartsAscend}
-use Rattle.kf_traces.proofs.Ordering.{part_ascends}
 
 -- ---- weight on a store
 
@@ -188,27 +185,3 @@ sum_at (y ∷ ys) zero x within is =
     let same_sum : sum_of x.stores.entries ≡ sum_of y.stores.entries = ap (λ (z : coded.Part). sum_of z.stores.entries) is in
     omega (arith, same_sum, sum_by-cons (λ (p : Part). sum_of p.stores) (part_of y) (parts_of ys))
 sum_at (y ∷ ys) (suc i) x within is = omega (arith, sum_by-cons (λ (p : Part). sum_of p.stores) (part_of y) (parts_of ys), sum_at ys i x (omega arith) is)
-
--- ---- shares
-
--- the shares of these choices are left
-pub record SharesOn (n share : ℕ) (left : List Weighted) (whole now : List Part) : Type 0 where
-  pub same : with_shares now n share left ≡ whole
-  pub ascending : PartsAscend now
-  pub within : parts_sum now + share * total left < 2 ^ 127
-
-module _ (n share : ℕ) (left rest : List Weighted) (c : Weighted) (whole now : List Part) (next : left ≡ c ∷ rest) (had : SharesOn n share left whole now) where
-  opened : parts_sum now + (share * c.weight + share * total rest) < 2 ^ 127
-  opened =
-      let sum : share * total left ≡ share * c.weight + share * total rest =
-      ap (λ cs. share * total cs) next ∙ ap (λ m. share * m) (sum_by-cons (λ (u : Weighted). u.weight) c rest) ∙ mul-add share c.weight (total rest) in
-      omega (arith, had.within, sum)
-
-  pub shares_step : (after : List Part) → after ≡ with_part now c.value n (share * c.weight) → SharesOn n share rest whole after
-  shares_step after is = record {
-    same = ap (λ ps. with_shares ps n share rest) is ∙ ap (with_shares now n share) (sym next) ∙ had.same;
-    ascending = subst PartsAscend (sym is) (part_ascends c.value n (share * c.weight) now had.ascending);
-    within =
-        let sum : parts_sum after ≡ parts_sum now + share * c.weight = ap parts_sum is ∙ part_sum c.value n (share * c.weight) now in
-        omega (arith, sum, opened);
-  }

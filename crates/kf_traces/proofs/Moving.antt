@@ -27,7 +27,7 @@ weight_below size n w es below h =
     All-from_recursion (λ (e : ℕ × ℕ). e.0 < size) (with_weight es n w) (grown (under size) n w below es (recursion_from_All (λ (e : ℕ × ℕ). e.0 < size) es h)).0
 
 -- the shares of all choices are that of the first and those of the others
-shares_first : (share : ℕ) (c : Weighted) (cs : List Weighted) → share * total (c ∷ cs) ≡ share * c.weight + share * total cs
+pub shares_first : (share : ℕ) (c : Weighted) (cs : List Weighted) → share * total (c ∷ cs) ≡ share * c.weight + share * total cs
 shares_first share c cs = ap (λ m. share * m) (sum_by-cons (λ (u : Weighted). u.weight) c cs) ∙ mul-add share c.weight (total cs)
 
 -- a share that is moved, or goes nowhere, adds no more than itself

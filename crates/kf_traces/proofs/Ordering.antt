@@ -1,5 +1,5 @@
 -- Traced states ascend by their traces, each trace unlike the next at some place of both.
-use Rattle.std.proofs.Common.{◌≡◌, ℕ, zero, suc, ◌*◌, ◌/◌, Bool, true, false, List, [], ◌∷◌, ◌++◌, map, Ok, Err, refl, sym, ap, subst, ◌∙◌, append_assoc, append-nil, ◌⊎◌, inl, inr}
+use Rattle.std.proofs.Common.{◌≡◌, ℕ, zero, suc, ◌*◌, ◌/◌, Bool, true, false, List, [], ◌∷◌, ◌++◌, map, Option, Some, None, Ok, Err, refl, sym, ap, subst, ◌∙◌, append_assoc, append-nil, ◌⊎◌, inl, inr}
 use Rattle.std.specs.Prelude.{if◌then◌else◌}
 use Rattle.std.specs.Ordering.{match_ordering, ordering_reverse}
 use Rattle.std.specs.declared.cmp.Ordering.{Ordering}
@@ -18,7 +18,7 @@ use Rattle.kf_core.specs.Programs.{ProgramTree}
 use Rattle.kf_core.specs.Runs.{Tried, tried}
 use Rattle.kf_hyper.specs.Traces.{trace_order}
 use Rattle.kf_traces.specs.Views.{PartsAscend}
-use Rattle.kf_traces.specs.Traced.{Weights, Traced, Part, with_weight, with_part, with_shares, parted, split, behind, branches, alone, gone, assign_traced, guard_traced, loop_traced, traced, all_traced, declared_traced, copied_traced, program_traced}
+use Rattle.kf_traces.specs.Traced.{Weights, Traced, Lead, Part, unmoved, into, with_weight, with_part, with_share, with_shares, parted, split, behind, branches, alone, gone, assign_traced, guard_traced, loop_traced, traced, all_traced, declared_traced, copied_traced, program_traced}
 
 -- ---- values at a first difference
 
@@ -149,17 +149,22 @@ module _ (v : ValueTree) (n w : ℕ) where
   part_ascends [] h = (tt, tt)
   part_ascends (p ∷ ps) h = ascend_at p ps (order v p.value) refl h (part_ascends ps h.1)
 
-pub shares_ascend : (ps : List Part) (n share : ℕ) (cs : List Weighted) → PartsAscend ps → PartsAscend (with_shares ps n share cs)
-shares_ascend ps n share [] h = h
-shares_ascend ps n share (c ∷ cs) h = shares_ascend (with_part ps c.value n (share * c.weight)) n share cs (part_ascends c.value n (share * c.weight) ps h)
+share_ascends : (ps : List Part) (v : ValueTree) (x : Option ℕ) (w : ℕ) → PartsAscend ps → PartsAscend (with_share ps v x w)
+share_ascends ps v (Some n) w h = part_ascends v n w ps h
+share_ascends ps v None w h = h
 
-parted_ascends : (ps : List Part) (n w : ℕ) (g : Tried) → PartsAscend ps → PartsAscend (parted ps n w g)
-parted_ascends ps n w (Ok cs) h = shares_ascend ps n (w / total cs) cs h
-parted_ascends ps n w (Err f) h = h
+module _ (go : Lead) where
+  pub shares_ascend : (ps : List Part) (n share : ℕ) (cs : List Weighted) → PartsAscend ps → PartsAscend (with_shares go ps n share cs)
+  shares_ascend ps n share [] h = h
+  shares_ascend ps n share (c ∷ cs) h = shares_ascend (with_share ps c.value (go n c.value) (share * c.weight)) n share cs (share_ascends ps c.value (go n c.value) (share * c.weight) h)
 
-pub split_ascends : (tries : ℕ → Tried) (ps : List Part) (es : Weights) → PartsAscend ps → PartsAscend (split tries ps es)
-split_ascends tries ps [] h = h
-split_ascends tries ps (e ∷ es) h = split_ascends tries (parted ps e.0 e.1 (tries e.0)) es (parted_ascends ps e.0 e.1 (tries e.0) h)
+  parted_ascends : (ps : List Part) (n w : ℕ) (g : Tried) → PartsAscend ps → PartsAscend (parted go ps n w g)
+  parted_ascends ps n w (Ok cs) h = shares_ascend ps n (w / total cs) cs h
+  parted_ascends ps n w (Err f) h = h
+
+  split_ascends : (tries : ℕ → Tried) (ps : List Part) (es : Weights) → PartsAscend ps → PartsAscend (split go tries ps es)
+  split_ascends tries ps [] h = h
+  split_ascends tries ps (e ∷ es) h = split_ascends tries (parted go ps e.0 e.1 (tries e.0)) es (parted_ascends ps e.0 e.1 (tries e.0) h)
 
 -- ---- branches
 
@@ -183,15 +188,15 @@ module _ (next : ValueTree → Traced → List Traced) (extends : (v : ValueTree
         ascends_append (on p) (flat_map on ps) one.1 others.1 (parts_below p ps h.0),
       )
 
-branches_extend : (tries : ℕ → Tried) (next : ValueTree → Traced → List Traced) → ((v : ValueTree) → Extends (next v)) → Extends (branches tries next)
-branches_extend tries next extends s = parts_extend next extends s.trace (split tries [] s.stores) (split_ascends tries [] s.stores tt)
+branches_extend : (go : Lead) (tries : ℕ → Tried) (next : ValueTree → Traced → List Traced) → ((v : ValueTree) → Extends (next v)) → Extends (branches go tries next)
+branches_extend go tries next extends s = parts_extend next extends s.trace (split go tries [] s.stores) (split_ascends go tries [] s.stores tt)
 
 side_extends : (c : Bool) (F G : Traced → List Traced) → Extends F → Extends G → Extends (if c then F else G)
 side_extends true F G h k = h
 side_extends false F G h k = k
 
 guard_extends : (guard : ℕ → Tried) (F G : Traced → List Traced) → Extends F → Extends G → Extends (guard_traced guard F G)
-guard_extends guard F G h k = branches_extend guard (λ v. if truth v then F else G) (λ v. side_extends (truth v) F G h k)
+guard_extends guard F G h k = branches_extend unmoved guard (λ v. if truth v then F else G) (λ v. side_extends (truth v) F G h k)
 
 loop_extends : (k : ℕ) (guard : ℕ → Tried) (F : Traced → List Traced) → Extends F → Extends (loop_traced k guard F)
 loop_extends zero guard F h = guard_extends guard gone alone gone_extends alone_extends
@@ -207,8 +212,9 @@ module _ (ts : List TypeTree) (turns : ℕ) where
   mutual
     traced_extends : (x : StTree) → Extends (traced ts turns x)
     traced_extends Skip = alone_extends
-    traced_extends (Assign i d) = assign_extends ts i d
-    traced_extends (Observe d) = branches_extend (tried ts d) (λ v. alone) (λ v. alone_extends)
+    traced_extends (Assign i d false) = assign_extends ts i d
+    traced_extends (Assign i d true) = branches_extend (into ts i) (tried ts d) (λ v. alone) (λ v. alone_extends)
+    traced_extends (Observe d) = branches_extend unmoved (tried ts d) (λ v. alone) (λ v. alone_extends)
     traced_extends (If d xs ys) = guard_extends (tried ts d) (all_traced ts turns xs) (all_traced ts turns ys) (all_extend xs) (all_extend ys)
     traced_extends (While d xs) = loop_extends turns (tried ts d) (all_traced ts turns xs) (all_extend xs)
 

@@ -8,10 +8,10 @@ use Rattle.kf_value.specs.Types.{TypeTree}
 use Rattle.kf_value.specs.Values.{ValueTree, order}
 use Rattle.kf_value.proofs.Orders.{same}
 use Rattle.kf_core.specs.Choices.{Weighted, total}
-use Rattle.kf_core.specs.Runs.{Run, Tried, branched, silent, shown, moved, replaced, stay}
+use Rattle.kf_core.specs.Runs.{Run, OutOfRange, Tried, branched, silent, shown, moved, replaced, stay, stopped}
 use Rattle.kf_core.proofs.Measures.{Measure, Trace, RunsWithin, runs_value, ahead, choices_run, stay_within, stay_value}
 use Rattle.kf_core.proofs.Sums.{adds}
-use Rattle.kf_traces.specs.Traced.{Weights, Part, with_weight, with_part, with_shares, parted, split, with_move, with_moves}
+use Rattle.kf_traces.specs.Traced.{Weights, Lead, Part, with_weight, with_part, with_share, with_shares, parted, split, with_move, with_moves}
 use Rattle.kf_traces.specs.Traced as spec
 use Rattle.kf_traces.proofs.Measures.{Within, measure, grown}
 
@@ -43,41 +43,81 @@ module _ (N : ValueTree → Measure) where
     part_joined [] within = (((h, tt), tt), omega arith)
     part_joined (p ∷ ps) within = part_at p ps (order v p.value) refl within (part_joined ps within.1)
 
-  -- the shares of one store
-  pub shares_joined : (n share : ℕ) (ps : List Part) (cs : List Weighted) → PartsWithin ps → Each (λ c. (N c.value).holds n (share * c.weight)) cs
-      → PartsWithin (with_shares ps n share cs) × (parts_value (with_shares ps n share cs) ≡ parts_value ps + adds (λ c. (N c.value).value n (share * c.weight)) cs)
-  shares_joined n share ps [] within h = (within, omega arith)
-  shares_joined n share ps (c ∷ cs) within h =
-      let one = part_joined c.value n (share * c.weight) h.0 ps within in
-      let others = shares_joined n share (with_part ps c.value n (share * c.weight)) cs one.0 h.1 in
-      (others.0, omega (arith, one.1, others.1))
+  -- a share of a value holds at the store behind it; one that leads nowhere holds
+  abbrev pub Led : ValueTree → ℕ → Option ℕ → Type 0
+  Led v w (Some n) = (N v).holds n w
+  Led v w None = Unit {0}
+
+  abbrev pub led_value : ValueTree → ℕ → Option ℕ → ℕ
+  led_value v w (Some n) = (N v).value n w
+  led_value v w None = 0
+
+  share_joined : (v : ValueTree) (x : Option ℕ) (w : ℕ) → Led v w x → (ps : List Part) → PartsWithin ps
+      → PartsWithin (with_share ps v x w) × (parts_value (with_share ps v x w) ≡ parts_value ps + led_value v w x)
+  share_joined v (Some n) w h ps within = part_joined v n w h ps within
+  share_joined v None w h ps within = (within, omega arith)
+
+  module _ (go : Lead) where
+    -- the shares of one store
+    pub shares_joined : (n share : ℕ) (ps : List Part) (cs : List Weighted) → PartsWithin ps → Each (λ c. Led c.value (share * c.weight) (go n c.value)) cs
+        → PartsWithin (with_shares go ps n share cs)
+        × (parts_value (with_shares go ps n share cs) ≡ parts_value ps + adds (λ c. led_value c.value (share * c.weight) (go n c.value)) cs)
+    shares_joined n share ps [] within h = (within, omega arith)
+    shares_joined n share ps (c ∷ cs) within h =
+        let one = share_joined c.value (go n c.value) (share * c.weight) h.0 ps within in
+        let others = shares_joined n share (with_share ps c.value (go n c.value) (share * c.weight)) cs one.0 h.1 in
+        (others.0, omega (arith, one.1, others.1))
 
 -- ---- a split, against the runs behind the values
 
-module _ (M : Trace → Measure) (t : Trace) (tries : ℕ → Tried) (from : ValueTree → ℕ → List Run) where
+-- the runs from the store behind a choice, if there is one
+abbrev pub onto : ℕ → (ℕ → List Run) → Option ℕ → List Run
+onto at from (Some n) = from n
+onto at from None = stopped OutOfRange at
+
+pub moved_onto : (at : ℕ) (x : Option ℕ) → onto at stay x ≡ moved at x
+moved_onto at (Some n) = refl
+moved_onto at None = refl
+
+module _ (M : Trace → Measure) (t : Trace) (go : Lead) (at : ℕ) (tries : ℕ → Tried) (from : ValueTree → ℕ → List Run) where
   abbrev pub shown_to : ValueTree → Measure
   shown_to v = ahead M (from v) (t ++ v ∷ [])
 
   abbrev pub shown_runs : ℕ → List Run
-  shown_runs n = branched shown n (λ v. from v n) (tries n)
+  shown_runs n = branched shown n (λ v. onto at (from v) (go n v)) (tries n)
 
   abbrev pub Split : ℕ → ℕ → List Run → List Part → List Part → Type 0
   Split n w rs ps qs = PartsWithin shown_to qs × (parts_value shown_to qs ≡ parts_value shown_to ps + runs_value M t w rs)
 
-  parted_at : (n w : ℕ) (ps : List Part) (g : Tried) → PartsWithin shown_to ps → RunsWithin M t w (branched shown n (λ v. from v n) g)
-      → Split n w (branched shown n (λ v. from v n) g) ps (parted ps n w g)
+  led_at : (v : ValueTree) (w : ℕ) (x : Option ℕ) → RunsWithin M (t ++ v ∷ []) w (onto at (from v) x)
+      → Led shown_to v w x × (runs_value M (t ++ v ∷ []) w (onto at (from v) x) ≡ led_value shown_to v w x)
+  led_at v w (Some n) h = (h, refl)
+  led_at v w None h = absurd h.0.2
+
+  each_led : (n share : ℕ) (cs : List Weighted) → Each (λ c. RunsWithin M (t ++ c.value ∷ []) (share * c.weight) (onto at (from c.value) (go n c.value))) cs
+      → Each (λ c. Led shown_to c.value (share * c.weight) (go n c.value)) cs
+      × (adds (λ c. runs_value M (t ++ c.value ∷ []) (share * c.weight) (onto at (from c.value) (go n c.value))) cs ≡ adds (λ c. led_value shown_to c.value (share * c.weight) (go n c.value)) cs)
+  each_led n share [] h = (tt, refl)
+  each_led n share (c ∷ cs) h =
+      let one = led_at c.value (share * c.weight) (go n c.value) h.0 in
+      let others = each_led n share cs h.1 in
+      ((one.0, others.0), omega (arith, one.1, others.1))
+
+  parted_at : (n w : ℕ) (ps : List Part) (g : Tried) → PartsWithin shown_to ps → RunsWithin M t w (branched shown n (λ v. onto at (from v) (go n v)) g)
+      → Split n w (branched shown n (λ v. onto at (from v) (go n v)) g) ps (parted go ps n w g)
   parted_at n w ps (Ok cs) within h =
-      let c = choices_run M t w shown n (total cs) (λ v. from v n) cs h in
-      let s = shares_joined shown_to n (w / total cs) ps cs within c.0 in
-      (s.0, omega (arith, s.1, c.1))
+      let c = choices_run M t w shown n (total cs) (λ v. onto at (from v) (go n v)) cs h in
+      let l = each_led n (w / total cs) cs c.0 in
+      let s = shares_joined shown_to go n (w / total cs) ps cs within l.0 in
+      (s.0, omega (arith, s.1, l.1, c.1))
   parted_at n w ps (Err f) within h = absurd h.0.2
 
   pub split_is : (ps : List Part) (es : Weights) → PartsWithin shown_to ps → Within (ahead M shown_runs t) es
-      → PartsWithin shown_to (split tries ps es) × (parts_value shown_to (split tries ps es) ≡ parts_value shown_to ps + measure (ahead M shown_runs t) es)
+      → PartsWithin shown_to (split go tries ps es) × (parts_value shown_to (split go tries ps es) ≡ parts_value shown_to ps + measure (ahead M shown_runs t) es)
   split_is ps [] within h = (within, omega arith)
   split_is ps (e ∷ es) within h =
       let one = parted_at e.0 e.1 ps (tries e.0) within h.0 in
-      let others = split_is (parted ps e.0 e.1 (tries e.0)) es one.0 h.1 in
+      let others = split_is (parted go ps e.0 e.1 (tries e.0)) es one.0 h.1 in
       (others.0, omega (arith, one.1, others.1))
 
 -- ---- an assignment

@@ -7,19 +7,19 @@ use Rattle.kf_value.proofs.ListLemmas.{each_reverse}
 use Rattle.kf_value.specs.Values.{truth}
 use Rattle.kf_core.specs.Runs.{Tried}
 use Rattle.kf_core.proofs.Sums.{adds, adds_joined, adds_mapped}
-use Rattle.kf_traces.specs.Traced.{Part, Traced, split, behind, branches, alone, gone, guard_traced, loop_traced}
+use Rattle.kf_traces.specs.Traced.{Lead, Part, Traced, unmoved, split, behind, branches, alone, gone, guard_traced, loop_traced}
 use Rattle.kf_traces.specs.Visits.{VisitTree, Left, Asks, leaked, last_true, side, visitor, asks_again, visits_next}
 use Rattle.kf_traces.proofs.Walking.{InSize, flat_flat, flat_mapped, flat_same, last_behind}
 
 -- ---- branches
 
 -- where a value is leaked and nothing else is done, each state stays
-pub all_leaked : (tries : ℕ → Tried) (s : Traced) → branches tries (λ v. alone) s ≡ leaked tries s
-all_leaked tries s = go (split tries [] s.stores)
+pub all_leaked : (go : Lead) (tries : ℕ → Tried) (s : Traced) → branches go tries (λ v. alone) s ≡ leaked go tries s
+all_leaked go tries s = each (split go tries [] s.stores)
   where
-    go : (ps : List Part) → flat_map (λ p. alone (behind s.trace p)) ps ≡ map (behind s.trace) ps
-    go [] = refl
-    go (p ∷ ps) = ap (λ ss. behind s.trace p ∷ ss) (go ps)
+    each : (ps : List Part) → flat_map (λ p. alone (behind s.trace p)) ps ≡ map (behind s.trace) ps
+    each [] = refl
+    each (p ∷ ps) = ap (λ ss. behind s.trace p ∷ ss) (each ps)
 
 -- a choice between two ways, and between where they lead
 one_side : (taken left : Traced → List Traced) (s : Traced) (b c : Bool) → b ≡ c → (if b then taken else left) s ≡ (if c then taken s else left s)
@@ -29,9 +29,9 @@ one_side taken left s false true same = (cc)
 one_side taken left s false false same = refl
 
 -- a guard's states go on as their last value says
-pub guard_sides : (tries : ℕ → Tried) (taken left : Traced → List Traced) (s : Traced) → flat_map (side taken left) (leaked tries s) ≡ guard_traced tries taken left s
+pub guard_sides : (tries : ℕ → Tried) (taken left : Traced → List Traced) (s : Traced) → flat_map (side taken left) (leaked unmoved tries s) ≡ guard_traced tries taken left s
 guard_sides tries taken left s =
-    let ps = split tries [] s.stores in
+    let ps = split unmoved tries [] s.stores in
     flat_mapped (behind s.trace) (side taken left) ps
     ∙ flat_same (λ p. side taken left (behind s.trace p)) (λ p. (if truth p.value then taken else left) (behind s.trace p))
     (λ p. sym (one_side taken left (behind s.trace p) (truth p.value) (last_true (s.trace ++ p.value ∷ [])) (sym (last_behind p.value s.trace)))) ps
@@ -91,13 +91,13 @@ module _ (guard : ℕ → Tried) (body : Traced → List Traced) where
   side_again false k s = refl
 
   -- what a state in a loop comes to is what its next visits come to
-  pub visits_come : (k : ℕ) (s : Traced) → flat_map comes_to (flat_map (visits_next body k) (leaked guard s)) ≡ loop_traced k guard body s
+  pub visits_come : (k : ℕ) (s : Traced) → flat_map comes_to (flat_map (visits_next body k) (leaked unmoved guard s)) ≡ loop_traced k guard body s
   visits_come zero s =
-      flat_flat (visits_next body zero) comes_to (leaked guard s)
-      ∙ (flat_same (λ u. flat_map comes_to (visits_next body zero u)) (side gone alone) (next_come zero) (leaked guard s) ∙ guard_sides guard gone alone s)
+      flat_flat (visits_next body zero) comes_to (leaked unmoved guard s)
+      ∙ (flat_same (λ u. flat_map comes_to (visits_next body zero u)) (side gone alone) (next_come zero) (leaked unmoved guard s) ∙ guard_sides guard gone alone s)
   visits_come (suc k) s =
-      flat_flat (visits_next body (suc k)) comes_to (leaked guard s)
-      ∙ (flat_same (λ u. flat_map comes_to (visits_next body (suc k) u)) (side (λ u. flat_map (loop_traced k guard body) (body u)) alone) (λ u. next_come (suc k) u ∙ side_again (last_true u.trace) k u) (leaked guard s)
+      flat_flat (visits_next body (suc k)) comes_to (leaked unmoved guard s)
+      ∙ (flat_same (λ u. flat_map comes_to (visits_next body (suc k) u)) (side (λ u. flat_map (loop_traced k guard body) (body u)) alone) (λ u. next_come (suc k) u ∙ side_again (last_true u.trace) k u) (leaked unmoved guard s)
       ∙ guard_sides guard (λ u. flat_map (loop_traced k guard body) (body u)) alone s)
 
   -- ---- how many visits are to come
@@ -108,8 +108,8 @@ module _ (guard : ℕ → Tried) (body : Traced → List Traced) where
 
   -- the visits of a state that asks the guard, with so many turns to come
   abbrev pub asked : ℕ → Traced → ℕ
-  asked zero s = suc (adds (count_side (λ u. 0)) (leaked guard s))
-  asked (suc k) s = suc (adds (count_side (λ u. adds (asked k) (body u))) (leaked guard s))
+  asked zero s = suc (adds (count_side (λ u. 0)) (leaked unmoved guard s))
+  asked (suc k) s = suc (adds (count_side (λ u. adds (asked k) (body u))) (leaked unmoved guard s))
 
   -- how many visits one leads to, with itself
   abbrev pub visits_of : VisitTree → ℕ
@@ -144,9 +144,9 @@ module _ (guard : ℕ → Tried) (body : Traced → List Traced) where
       joined ∙ (λ i. one i + others i)
 
   -- a visit is one more than its next ones
-  pub visits_fall : (k : ℕ) (s : Traced) → suc (all_visits (flat_map (visits_next body k) (leaked guard s))) ≡ asked k s
-  visits_fall zero s = ap suc (next_count zero (λ u. 0) (λ u. refl) (leaked guard s))
-  visits_fall (suc k) s = ap suc (next_count (suc k) (λ u. adds (asked k) (body u)) (λ u. adds_mapped visits_of (λ v. Asks v k) (body u)) (leaked guard s))
+  pub visits_fall : (k : ℕ) (s : Traced) → suc (all_visits (flat_map (visits_next body k) (leaked unmoved guard s))) ≡ asked k s
+  visits_fall zero s = ap suc (next_count zero (λ u. 0) (λ u. refl) (leaked unmoved guard s))
+  visits_fall (suc k) s = ap suc (next_count (suc k) (λ u. adds (asked k) (body u)) (λ u. adds_mapped visits_of (λ v. Asks v k) (body u)) (leaked unmoved guard s))
 
   -- ---- a stack of visits
 
@@ -211,14 +211,14 @@ module _ (guard : ℕ → Tried) (body : Traced → List Traced) where
       pub left_falls : (s : Traced) → v ≡ Left s → all_visits rest < all_visits visits
       left_falls s left = let one : visits_of v ≡ 1 = ap visits_of left in omega (arith, one, counted)
 
-      module _ (s : Traced) (k : ℕ) (asks : v ≡ Asks s k) (states : List Traced) (next turned after : List VisitTree) (leaks : states ≡ leaked guard s) (made : next ≡ flat_map (visits_next body k) states)
+      module _ (s : Traced) (k : ℕ) (asks : v ≡ Asks s k) (states : List Traced) (next turned after : List VisitTree) (leaks : states ≡ leaked unmoved guard s) (made : next ≡ flat_map (visits_next body k) states)
           (turn : turned ≡ reverse next) (put : after ≡ rest ++ turned) where
         -- the stack with the next visits, turned round
         put_is : after ≡ rest ++ reverse next
         put_is = put ∙ ap (λ vs. rest ++ vs) turn
 
         -- the next visits, from the state itself
-        made_is : next ≡ flat_map (visits_next body k) (leaked guard s)
+        made_is : next ≡ flat_map (visits_next body k) (leaked unmoved guard s)
         made_is = made ∙ ap (flat_map (visits_next body k)) leaks
 
         -- the next visits come to what the visit comes to
@@ -238,7 +238,7 @@ module _ (guard : ℕ → Tried) (body : Traced → List Traced) where
         asked_falls =
             let one : visits_of v ≡ asked k s = ap visits_of asks in
             let fall = visits_fall k s in
-            let next_are : all_visits next ≡ all_visits (flat_map (visits_next body k) (leaked guard s)) = ap all_visits made_is in
+            let next_are : all_visits next ≡ all_visits (flat_map (visits_next body k) (leaked unmoved guard s)) = ap all_visits made_is in
             let afters : all_visits after ≡ all_visits rest + all_visits (reverse next) = ap all_visits put_is ∙ adds_joined visits_of rest (reverse next) in
             let turned_are = count_reversed next in
             omega (arith, one, fall, next_are, afters, turned_are, counted)

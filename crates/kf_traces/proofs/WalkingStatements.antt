@@ -1,5 +1,5 @@
 -- What a state comes to in each form of statement.
-use Rattle.std.proofs.Common.{◌≡◌, ℕ, true, false, List, map, sym, ap, ◌∙◌}
+use Rattle.std.proofs.Common.{◌≡◌, ℕ, Bool, true, false, List, map, sym, ap, ◌∙◌}
 use Rattle.std.specs.Prelude.{flat_map}
 use Rattle.kf_value.specs.Types.{TypeTree}
 use Rattle.kf_core.specs.Views.{dx_tree, st_tree, st_items}
@@ -10,7 +10,7 @@ use Rattle.kf_core.specs.declared.st.StList.{StList}
 use Rattle.kf_core.specs.Sts.{StTree, Skip, Assign, Observe, If, While, sts}
 use Rattle.kf_core.specs.Runs.{tried}
 use Rattle.kf_core.proofs.SoundParts.{tree-Skip, tree-Assign, tree-Observe, tree-If, tree-While}
-use Rattle.kf_traces.specs.Traced.{Traced, alone, assign_traced, traced, all_traced, loop_traced}
+use Rattle.kf_traces.specs.Traced.{Traced, unmoved, alone, assignment_traced, traced, all_traced, loop_traced}
 use Rattle.kf_traces.specs.Visits.{leaked, last_true, side}
 use Rattle.kf_traces.proofs.WalkingLoops.{all_leaked, guard_sides, side_is}
 
@@ -42,21 +42,21 @@ module _ (ts : List TypeTree) (turns : ℕ) where
     ends_skip is = ends_as Skip (ap st_tree is ∙ tree-Skip)
 
     -- an assignment
-    pub ends_assign : (i : ℕ) (d : Dx) → s ≡ code.Assign i d → assign_traced ts i (dx_tree d) from ≡ traced ts turns (st_tree s) from
-    ends_assign i d is = ends_as (Assign i (dx_tree d)) (ap st_tree is ∙ tree-Assign i d)
+    pub ends_assign : (i : ℕ) (d : Dx) (visible : Bool) → s ≡ code.Assign i d visible → assignment_traced visible ts i (dx_tree d) from ≡ traced ts turns (st_tree s) from
+    ends_assign i d visible is = ends_as (Assign i (dx_tree d) visible) (ap st_tree is ∙ tree-Assign i d visible)
 
     -- an observation
-    pub ends_observe : (d : Dx) → s ≡ code.Observe d → leaked (tried ts (dx_tree d)) from ≡ traced ts turns (st_tree s) from
-    ends_observe d is = sym (all_leaked (tried ts (dx_tree d)) from) ∙ ends_as (Observe (dx_tree d)) (ap st_tree is ∙ tree-Observe d)
+    pub ends_observe : (d : Dx) → s ≡ code.Observe d → leaked unmoved (tried ts (dx_tree d)) from ≡ traced ts turns (st_tree s) from
+    ends_observe d is = sym (all_leaked unmoved (tried ts (dx_tree d)) from) ∙ ends_as (Observe (dx_tree d)) (ap st_tree is ∙ tree-Observe d)
 
     -- a conditional
-    ends_if : (d : Dx) (yes_list no_list : StList) → s ≡ code.If d yes_list no_list → flat_map (branch_of yes_list no_list) (leaked (tried ts (dx_tree d)) from) ≡ traced ts turns (st_tree s) from
+    ends_if : (d : Dx) (yes_list no_list : StList) → s ≡ code.If d yes_list no_list → flat_map (branch_of yes_list no_list) (leaked unmoved (tried ts (dx_tree d)) from) ≡ traced ts turns (st_tree s) from
     ends_if d yes_list no_list is =
         guard_sides (tried ts (dx_tree d)) (ends_in yes_list) (ends_in no_list) from
         ∙ ends_as (If (dx_tree d) (sts (map st_tree (st_items yes_list))) (sts (map st_tree (st_items no_list)))) (ap st_tree is ∙ tree-If d yes_list no_list)
 
     -- states that went to their branches behind a conditional's guard are its ends
-    pub if_walked : (d : Dx) (yes_list no_list : StList) → s ≡ code.If d yes_list no_list → (states leaks done : List Traced) → states ≡ leaks → leaks ≡ leaked (tried ts (dx_tree d)) from
+    pub if_walked : (d : Dx) (yes_list no_list : StList) → s ≡ code.If d yes_list no_list → (states leaks done : List Traced) → states ≡ leaks → leaks ≡ leaked unmoved (tried ts (dx_tree d)) from
         → done ≡ flat_map (branch_of yes_list no_list) states → done ≡ traced ts turns (st_tree s) from
     if_walked d yes_list no_list is states leaks done same leaked_so walked = walked ∙ (ap (flat_map (branch_of yes_list no_list)) (same ∙ leaked_so) ∙ ends_if d yes_list no_list is)
 

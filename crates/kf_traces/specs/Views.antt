@@ -16,6 +16,10 @@ part_of p = record { value = value_tree p.value; stores = p.stores.entries }
 abbrev pub parts_sum : List Part → ℕ
 parts_sum ps = sum_by (λ p. sum_of p.stores) ps
 
+-- the stores of the parts are below the number of all that there are
+abbrev pub PartsBelow : ℕ → List Part → Type 0
+PartsBelow size ps = All (λ p. All (λ e. e.0 < size) p.stores) ps
+
 -- the values of the parts ascend
 abbrev pub PartsAscend : List Part → Type 0
 PartsAscend [] = Unit {0}

@@ -4,12 +4,12 @@ use Rattle.kf_value.specs.Values.{ValueTree, truth}
 use Rattle.kf_core.specs.Runs.{Tried}
 use Rattle.kf_traces.specs.declared.walks.Visit.{Visit}
 use Rattle.kf_traces.specs.declared.walks.Visit.TheVariants as code
-use Rattle.kf_traces.specs.Traced.{Traced, split, behind}
+use Rattle.kf_traces.specs.Traced.{Lead, Traced, split, behind}
 use Rattle.kf_traces.specs.Views.{traced_of}
 
 -- a state for each value that is leaked
-abbrev pub leaked : (ℕ → Tried) → Traced → List Traced
-leaked tries s = map (behind s.trace) (split tries [] s.stores)
+abbrev pub leaked : Lead → (ℕ → Tried) → Traced → List Traced
+leaked go tries s = map (behind s.trace) (split go tries [] s.stores)
 
 -- whether the last value of a trace is true
 abbrev pub last_true : List ValueTree → Bool

@@ -1,19 +1,24 @@
 //! Weight on stores, and stores parted by the values that they leak.
 
-ghost use Rattle.std.specs.Prelude.{◌≡◌, ◌+◌, ◌*◌, ◌^◌, ◌<◌, map, OnOk};
+ghost use Rattle.std.specs.Prelude.{◌≡◌, ◌+◌, ◌*◌, ◌^◌, ◌<◌, length, map, IfSome, OnOk};
+ghost use Rattle.std.specs.List.{All};
+ghost use Rattle.kf_value.specs.Forms.{IsWellFormed};
+ghost use Rattle.kf_value.specs.Shapes.{shape_size, shape_types};
 ghost use Rattle.kf_value.specs.Views.{value_tree};
 ghost use Rattle.kf_core.specs.Choices.{total};
 ghost use Rattle.kf_eval.specs.Choices.{weighted_tree};
+ghost use Rattle.kf_support.specs.Moves.{store_behind as lead_of};
 ghost use Rattle.kf_traces.specs.Laws.{sum_of};
 ghost use Rattle.kf_traces.specs.Traced.{with_weight, with_part, with_shares};
-ghost use Rattle.kf_traces.specs.Views.{part_of, parts_sum, PartsAscend};
+ghost use Rattle.kf_traces.specs.Views.{part_of, parts_sum, PartsBelow, PartsAscend};
 
 use kf_eval::Weighted;
-use kf_value::{Mem, Value, compare};
+use kf_support::store_behind;
+use kf_value::{Mem, Shape, Value, compare};
 use std::alloc::Global;
 use std::collections::BTreeMap;
 
-/// A value that is leaked, and the stores that leak it, each with its weight.
+/// A value that is leaked, and the stores behind it, each with its weight.
 #[derive(Drop)]
 pub struct Part {
     pub value: Value,
@@ -54,20 +59,33 @@ pub fn add_part(
     Ok(())
 }
 
-/// Adds the shares of a store, so many times as each choice weighs.
+/// Adds the shares of a store, so many times as each choice weighs, each to the store behind the choice.
+///
+/// `into` is the place of the variable that takes the value; without one the store stays. A value that isn't of the
+/// variable's type leads nowhere.
 pub fn add_shares(
     alloc: Global,
+    shape: &Shape,
+    into: Option<usize>,
     parts: &mut Vec<Part>,
     store: u64,
     share: u128,
     choices: &[Weighted],
 ) -> Result<(), Mem>
+    requires variable { IfSome into (λ slot. slot < length (shape_types shape.now)) }
+    requires store { store < shape_size shape.now }
+    requires formed { All (λ w. IsWellFormed w.value) (map weighted_tree choices.now) }
     requires ascending { PartsAscend (map part_of parts.old.items) }
+    requires below { PartsBelow (shape_size shape.now) (map part_of parts.old.items) }
     requires within { parts_sum (map part_of parts.old.items) + share * total (map weighted_tree choices.now) < 2 ^ 127 }
-    ensures { OnOk result (map part_of parts.new.items ≡ with_shares (map part_of parts.old.items) store share (map weighted_tree choices.now)) }
+    ensures shares { OnOk result (map part_of parts.new.items
+        ≡ with_shares (lead_of (shape_types shape.now) into) (map part_of parts.old.items) store share (map weighted_tree choices.now)) }
+    ensures below { OnOk result (PartsBelow (shape_size shape.now) (map part_of parts.new.items)) }
 {
     for choice in choices {
-        add_part(alloc, parts, &choice.value, store, share * choice.weight)?;
+        if let Some(after) = store_behind(shape, into, store, &choice.value) {
+            add_part(alloc, parts, &choice.value, after, share * choice.weight)?;
+        }
     }
     Ok(())
 }

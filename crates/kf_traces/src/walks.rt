@@ -1,6 +1,6 @@
 //! What becomes of a state in statements, and of the first store in a whole program.
 
-ghost use Rattle.std.specs.Prelude.{◌≡◌, ◌^◌, ◌<◌, length, map, flat_map, IfOk};
+ghost use Rattle.std.specs.Prelude.{◌≡◌, ◌^◌, ◌<◌, length, map, flat_map, IfOk, IfSome};
 ghost use Rattle.std.specs.List.{All};
 ghost use Rattle.kf_value.specs.Kinds.{KindTree, TruthKind};
 ghost use Rattle.kf_value.specs.Shapes.{shape_size, shape_types, shape_sizes};
@@ -11,7 +11,8 @@ ghost use Rattle.kf_core.specs.Runs.{tried};
 ghost use Rattle.kf_core.specs.Sts.{sts};
 ghost use Rattle.kf_eval.specs.Kinds.{shape_kinds};
 ghost use Rattle.kf_support.specs.Cleared.{program_of, turns_of, whole_scale};
-ghost use Rattle.kf_traces.specs.Traced.{alone, all_traced, assign_traced, loop_traced, program_traced, traced};
+ghost use Rattle.kf_support.specs.Moves.{store_behind as lead_of};
+ghost use Rattle.kf_traces.specs.Traced.{alone, all_traced, assign_traced, assignment_traced, loop_traced, program_traced, traced};
 ghost use Rattle.kf_traces.specs.Views.{traced_of, AllFit, Fits};
 ghost use Rattle.kf_traces.specs.Visits.{Asks, asks_again, first_of, leaked, visit_of, visitor, visits_next};
 
@@ -57,16 +58,46 @@ fn assigned(alloc: Global, shape: &Shape, slot: usize, dist: &Dx, from: State) -
     })
 }
 
-/// One state for each value that is leaked, in ascending order.
-fn leak(alloc: Global, shape: &Shape, dist: &Dx, from: State) -> Result<Vec<State>, Mem>
+/// One state for each value that is leaked, in ascending order. The variable at `into`, if there is one, takes the value.
+fn leak(
+    alloc: Global,
+    shape: &Shape,
+    into: Option<usize>,
+    dist: &Dx,
+    from: State,
+) -> Result<Vec<State>, Mem>
+    requires variable { IfSome into (λ slot. slot < length (shape_types shape.now)) }
     requires kinded { (k : KindTree) × DistKinded (shape_kinds shape.now) (dx_tree dist.now) k }
     requires fits { Fits (shape_size shape.now) (traced_of from).stores }
-    ensures leaked { IfOk result (λ ss. map traced_of ss.items ≡ leaked (tried (shape_types shape.now) (dx_tree dist.now)) (traced_of from)) }
+    ensures leaked { IfOk result (λ ss. map traced_of ss.items ≡ leaked (lead_of (shape_types shape.now) into) (tried (shape_types shape.now) (dx_tree dist.now)) (traced_of from)) }
     ensures fits { IfOk result (λ ss. AllFit (shape_size shape.now) (map traced_of ss.items)) }
 {
-    let parts = split(alloc, shape, dist, &from.stores)?;
+    let parts = split(alloc, shape, into, dist, &from.stores)?;
     let states = all_behind(alloc, from.trace, parts)?;
     Ok(states)
+}
+
+/// What becomes of a state in an assignment. Where it is shown, the value is leaked.
+fn assigned_all(
+    alloc: Global,
+    shape: &Shape,
+    slot: usize,
+    dist: &Dx,
+    shown: bool,
+    from: State,
+) -> Result<Vec<State>, Mem>
+    requires variable { slot < length (shape_types shape.now) }
+    requires kinded { (k : KindTree) × DistKinded (shape_kinds shape.now) (dx_tree dist.now) k }
+    requires fits { Fits (shape_size shape.now) (traced_of from).stores }
+    ensures walked { IfOk result (λ ss. map traced_of ss.items ≡ assignment_traced shown (shape_types shape.now) slot (dx_tree dist.now) (traced_of from)) }
+    ensures fits { IfOk result (λ ss. AllFit (shape_size shape.now) (map traced_of ss.items)) }
+{
+    if shown {
+        leak(alloc, shape, Some(slot), dist, from)
+    } else {
+        let state = assigned(alloc, shape, slot, dist, from)?;
+        only(alloc, state)
+    }
 }
 
 /// What becomes of a state in a statement.
@@ -85,17 +116,16 @@ fn walk(
 {
     match statement {
         St::Skip => only(alloc, from),
-        St::Assign { slot, dist } => {
-            let state = assigned(alloc, shape, usize::from(*slot), dist, from)?;
-            only(alloc, state)
+        St::Assign { slot, dist, shown } => {
+            assigned_all(alloc, shape, usize::from(*slot), dist, *shown, from)
         }
-        St::Observe(dist) => leak(alloc, shape, dist, from),
+        St::Observe(dist) => leak(alloc, shape, None, dist, from),
         St::If {
             guard: test,
             yes,
             no,
         } => {
-            let states = leak(alloc, shape, test, from)?;
+            let states = leak(alloc, shape, None, test, from)?;
             let mut next = Vec::new(alloc);
             for state in states {
                 let mut walked = if ends_true(&state) {
@@ -140,7 +170,7 @@ fn walk_while(
                 ended.push(state)?;
             }
             Visit::Asks(state, rest) => {
-                let states = leak(alloc, shape, test, state)?;
+                let states = leak(alloc, shape, None, test, state)?;
                 let mut next = turn(alloc, shape, turns, rest, body, states)?;
                 next.reverse();
                 visits.append(&mut next)?;

@@ -104,7 +104,7 @@ fn tokens_of_texts(rt: HostRuntime) {
 fn every_word(rt: HostRuntime) {
     let text = "var bool set of about old skip observe if else while uniform \
                 choose flip true false or and not in union less div mod inter size cond \
-                xor implies subset min max abs";
+                xor implies subset min max abs vis";
     let words = [
         word(Word::VarWord, 0, 3),
         word(Word::BoolWord, 4, 8),
@@ -139,6 +139,7 @@ fn every_word(rt: HostRuntime) {
         word(Word::MinWord, 152, 155),
         word(Word::MaxWord, 156, 159),
         word(Word::AbsWord, 160, 163),
+        word(Word::VisWord, 164, 167),
     ];
     assert!(rt; has_tokens(rt.alloc(), text.as_bytes(), &words));
 }

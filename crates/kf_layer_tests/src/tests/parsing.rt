@@ -179,7 +179,7 @@ fn show_stmts(stmts: &[Stmt], out: &mut String) -> Result<(), AllocError> {
 /// Declarations, each in parentheses.
 fn show_decls(decls: &[Decl], out: &mut String) -> Result<(), AllocError> {
     for decl in decls {
-        out.push_str(" (var ")?;
+        out.push_str(if decl.visible { " (vis " } else { " (var " })?;
         show_name(&decl.name, out)?;
         out.push_str(" (")?;
         show_type(&decl.ty, out)?;
@@ -241,7 +241,7 @@ fn is_refused(alloc: Global, text: &str, error: ParseError) -> bool {
 }
 
 /// Declarations and a target.
-const BEFORE: [(&str, &str); 8] = [
+const BEFORE: [(&str, &str); 9] = [
     (
         "var a : bool := true;",
         " (var a@4 (bool @8) (sure @16 (true @16)))",
@@ -261,6 +261,10 @@ const BEFORE: [(&str, &str); 8] = [
     (
         "var é : 5..-5 := false; var z:bool:=é;",
         " (var é@4 (int 5..-5 @9) (sure @18 (false @18))) (var z@29 (bool @31) (sure @37 (name é@37 @37)))",
+    ),
+    (
+        "vis e : bool := true; var f : bool := e;",
+        " (vis e@4 (bool @8) (sure @16 (true @16))) (var f@26 (bool @30) (sure @38 (name e@38 @38)))",
     ),
     (
         "about a, old b; # what is asked\nskip; a := b;",
@@ -354,7 +358,7 @@ fn trees_of_texts(rt: HostRuntime) -> Result<(), Fail> {
 }
 
 /// Texts that are no programs, and the place of the token that is wrong.
-const WRONG: [(&str, u32); 18] = [
+const WRONG: [(&str, u32); 19] = [
     ("observe a < b < c;", 14),
     ("observe not not true;", 12),
     ("observe - - 1;", 10),
@@ -365,6 +369,7 @@ const WRONG: [(&str, u32); 18] = [
     ("observe size(1, 2);", 14),
     ("observe cond(1, 2);", 17),
     ("skip; var a : bool := true;", 6),
+    ("var vis : bool := true;", 4),
     ("if a { skip; }", 14),
     ("if a { } skip;", 9),
     ("skip", 4),

@@ -138,12 +138,13 @@ fn moved(shape: &Shape, slot: usize, store: u64, value: &Value) -> Result<Option
     }
 }
 
-// The ways behind an assignment.
+// The ways behind an assignment, whose value is leaked where it is shown.
 fn assigned(
     alloc: Global,
     shape: &Shape,
     slot: usize,
     dist: &Dx,
+    shown: bool,
     way: &Way,
     found: &mut Found,
 ) -> Result<(), Fail>
@@ -154,7 +155,11 @@ fn assigned(
         return Ok(());
     };
     for weighted in choice.items.as_slice() {
-        let mut after = behind(alloc, way, weighted, choice.total)?;
+        let mut after = if shown {
+            leaking(alloc, way, weighted, choice.total)?
+        } else {
+            behind(alloc, way, weighted, choice.total)?
+        };
         match moved(shape, slot, way.store, &weighted.value)? {
             Some(store) => {
                 after.store = store;
@@ -245,8 +250,8 @@ fn follow(
 {
     match statement {
         St::Skip => Ok(found.ends.push(way.copy(alloc)?)?),
-        St::Assign { slot, dist } => {
-            assigned(alloc, shape, usize::from(*slot), dist, way, found)
+        St::Assign { slot, dist, shown } => {
+            assigned(alloc, shape, usize::from(*slot), dist, *shown, way, found)
         }
         St::Observe(dist) => observed(alloc, shape, dist, way, found),
         St::If { guard, yes, no } => {
@@ -321,7 +326,7 @@ fn follow_all(
     Ok(())
 }
 
-// The ways behind the declarations, each an assignment.
+// The ways behind the declarations, each an assignment that leaks nothing.
 fn declared(alloc: Global, program: &Program) -> Result<Found, Fail>
     requires { IsChecked (program_tree program.now) }
 {
@@ -337,7 +342,7 @@ fn declared(alloc: Global, program: &Program) -> Result<Found, Fail>
         let mut next = nothing(alloc);
         next.stops = found.stops;
         for way in found.ends.as_slice() {
-            assigned(alloc, shape, slot, dist, way, &mut next)?;
+            assigned(alloc, shape, slot, dist, false, way, &mut next)?;
         }
         found = next;
     }
@@ -369,7 +374,7 @@ fn copied_one(
     let mut next = nothing(alloc);
     next.stops = from.stops;
     for way in from.ends.as_slice() {
-        assigned(alloc, shape, copy, &value, way, &mut next)?;
+        assigned(alloc, shape, copy, &value, false, way, &mut next)?;
     }
     Ok(next)
 }
@@ -511,7 +516,7 @@ pub(super) fn distributions() -> [(u32, &'static str); 9] {
     ]
 }
 
-pub(super) fn branches() -> [(u32, &'static str); 5] {
+pub(super) fn branches() -> [(u32, &'static str); 6] {
     [
         (
             1,
@@ -533,10 +538,14 @@ pub(super) fn branches() -> [(u32, &'static str); 5] {
             1,
             "var x : 0..2 := uniform 0..2; var y : bool := flip 1/4; about old x, y, old y; x := uniform 0..x; observe x;",
         ),
+        (
+            1,
+            "var x : 0..2 := uniform 0..2; vis y : 0..2 := uniform 0..1; if x > y { y := uniform 0..x; } else { x := 2; } x := y;",
+        ),
     ]
 }
 
-pub(super) fn loops() -> [(u32, &'static str); 6] {
+pub(super) fn loops() -> [(u32, &'static str); 7] {
     [
         (
             3,
@@ -559,6 +568,10 @@ pub(super) fn loops() -> [(u32, &'static str); 6] {
             "var x : 0..3 := 3; while x > 0 { if flip 1/2 { x := x - 1; } else { x := 0; } }",
         ),
         (1, "var x : 0..3 := 0; while false { x := 4; } observe x;"),
+        (
+            3,
+            "vis x : 0..2 := uniform 0..2; while x > 0 { x := choose { x - 1 : x, 0 : 1 }; }",
+        ),
     ]
 }
 

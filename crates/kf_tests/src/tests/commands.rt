@@ -6,7 +6,7 @@ const TRACES: &str = "kuifje traces p.kf";
 const CHANNEL: &str = "kuifje channel p.kf";
 
 // Each text is answered so.
-fn answers(
+pub(super) fn answers(
     rt: &(impl Abort + AllocGlobal),
     words: &str,
     rows: &[(&'static str, &'static str)],

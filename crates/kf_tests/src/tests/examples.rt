@@ -227,9 +227,37 @@ inner 3 outer 1/4
   3 1
 ";
 
+const AUCTION: &str =
+    "# A sealed-bid auction of two bidders: the higher bid wins, the lower one is the price, and the price is public.
+var mine : 0..3 := uniform 0..3;
+var yours : 0..3 := uniform 0..3;
+vis price : 0..3 := 0;
+about mine;
+price := min(mine, yours);
+";
+
+const AUCTION_HYPER: &str = "target mine
+scale 16
+inners 4
+inner 0 outer 7/16
+  0 4/7
+  1 1/7
+  2 1/7
+  3 1/7
+inner 1 outer 5/16
+  1 3/5
+  2 1/5
+  3 1/5
+inner 2 outer 3/16
+  2 2/3
+  3 1/3
+inner 3 outer 1/16
+  3 1
+";
+
 // The programs of which reports are kept.
-pub(super) fn reported() -> [&'static str; 7] {
-    [PIN, SURVEY, DOORS, DINNER, TWICE, COUNTDOWN, NOISY]
+pub(super) fn reported() -> [&'static str; 8] {
+    [PIN, SURVEY, DOORS, DINNER, TWICE, COUNTDOWN, AUCTION, NOISY]
 }
 
 #[test]
@@ -241,6 +269,7 @@ fn examples(rt: HostRuntime) -> Result<(), Fail> {
         (DINNER, DINNER_HYPER),
         (TWICE, TWICE_HYPER),
         (COUNTDOWN, COUNTDOWN_HYPER),
+        (AUCTION, AUCTION_HYPER),
         (NOISY, NOISY_HYPER),
         (GUARD, GUARD_HYPER),
         (COND, COND_HYPER),

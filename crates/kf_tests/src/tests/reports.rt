@@ -153,6 +153,31 @@ quotient undefined
 difference 1
 ";
 
+const AUCTION_JSON: &str =
+    "{\"actions\":[{\"gains\":[[\"1\",1],[\"2\",1],[\"3\",1]],\"name\":\"ask_1\"},{\"gains\":[[\"2\",2],[\"3\",2]],\"name\":\"ask_2\"},{\"gains\":[[\"3\",3]],\"name\":\"ask_3\"}],\"format\":\"kuifje-gain-1\",\"over\":1,\"rest\":0}
+";
+
+const AUCTION_BAYES: &str = "gain bayes
+prior 1/4
+posterior 5/8
+quotient 5/2
+difference 3/8
+";
+
+const AUCTION_GUESSING: &str = "gain guessing
+prior 5/2
+posterior 13/8
+quotient 13/20
+difference -7/8
+";
+
+const AUCTION_TABLE: &str = "gain table
+prior 1
+posterior 9/8
+quotient 9/8
+difference 1/8
+";
+
 const FIRST_JSON: &str =
     "{\"actions\":[{\"gains\":[[\"0\",1],[\"1\",1]],\"name\":\"low\"},{\"gains\":[[\"2\",1],[\"3\",1]],\"name\":\"high\"}],\"format\":\"kuifje-gain-1\",\"over\":1,\"rest\":0}
 ";
@@ -225,7 +250,7 @@ fn three_reports(
 
 #[test]
 fn reports_of_examples(rt: HostRuntime) -> Result<(), Fail> {
-    let [pin, survey, doors, dinner, twice, countdown, _] = reported();
+    let [pin, survey, doors, dinner, twice, countdown, auction, _] = reported();
     for (text, json, outs) in [
         (pin, PIN_JSON, [PIN_BAYES, PIN_GUESSING, PIN_TABLE]),
         (
@@ -254,6 +279,11 @@ fn reports_of_examples(rt: HostRuntime) -> Result<(), Fail> {
             [COUNTDOWN_BAYES, COUNTDOWN_GUESSING, COUNTDOWN_TABLE],
         ),
         (
+            auction,
+            AUCTION_JSON,
+            [AUCTION_BAYES, AUCTION_GUESSING, AUCTION_TABLE],
+        ),
+        (
             PARITY_TEXT,
             FIRST_JSON,
             [FIRST_BAYES, FIRST_GUESSING, FIRST_TABLE],
@@ -266,7 +296,7 @@ fn reports_of_examples(rt: HostRuntime) -> Result<(), Fail> {
 
 #[test]
 fn reports_of_tries_and_noise(rt: HostRuntime) -> Result<(), Fail> {
-    let [_, _, _, _, _, _, noisy] = reported();
+    let [_, _, _, _, _, _, _, noisy] = reported();
     for (words, text, out) in [
         ("kuifje leak p.kf --gain tries:2", PARITY_TEXT, FIRST_TRIES),
         ("kuifje leak p.kf --gain bayes", noisy, NOISY_BAYES),

@@ -2,7 +2,7 @@ use Rattle.std.proofs.Common.{map}
 use Rattle.kf_ast.specs.Views.{decl_tree, item_tree, decl_items, target_items, source_tree, stmt_tree, stmt_items}
 use Rattle.kf_ast.specs.Stmts.{stmts}
 use Rattle.kf_core.specs.Views.{st_tree, st_items}
-use Rattle.kf_check.specs.Views.{known_in}
+use Rattle.kf_check.specs.Views.{known_in, flags_in}
 use Rattle.kf_check.specs.Variables.{variables_in}
 use Rattle.kf_check.proofs.Left.{passed}
 use Rattle.kf_check.proofs.LawsPrograms.{checked_if_typed}
@@ -74,7 +74,7 @@ returns-clause-typed c =
     let xs = map stmt_tree (stmt_items c.args.src.now.body) in
     let decls = rw c.as_slice-decls.ensures at c.in_ok-declared.ensures.answer in
     let target = rw c.as_slice.ensures at c.in_ok-targeted.ensures in
-    let body = turn.stmts_declared vs (known_in c.in_ok-declared.declared.names) xs (map st_tree (st_items c.in_ok-body.body)) c.in_ok-declared.ensures.known (rw c.as_slice-2.ensures at c.in_ok-body.ensures) in
+    let body = turn.stmts_declared vs (known_in c.in_ok-declared.declared.names) ds (flags_in c.in_ok-declared.declared.names) xs (map st_tree (st_items c.in_ok-body.body)) c.in_ok-declared.ensures.known decls.2 (rw c.as_slice-2.ensures at c.in_ok-body.ensures) in
     let shape = rw (c.deref.ensures.value, c.as_slice-3.ensures) at c.in_ok-shape.ensures.shape in
     let all = turn.all_types vs items c.in_ok-targeted.targeted.copies _ shape.0 shape.1 shape.2 target.0 target.1 target.2 in
     whole.typed items xs ds some vs decls.0 _ all body.0 (rw c.new.ensures decls.1) target.3 body.1

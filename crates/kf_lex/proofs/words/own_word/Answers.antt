@@ -5,6 +5,7 @@ pub returns-in_default : goal.returns-in_default
 returns-in_default c = let no = c.in_default in let text = c.args.text.now in
     simp (
       differs _ text no.not-var,
+      differs _ text no.not-vis,
       differs _ text no.not-bool,
       differs _ text no.not-set,
       differs _ text no.not-of,

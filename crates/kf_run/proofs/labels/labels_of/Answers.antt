@@ -1,10 +1,17 @@
-use Rattle.std.proofs.Common.{Contains, map}
+use Rattle.std.proofs.Common.{◌+◌, ◌<◌, Contains, map, drop, sym, ◌∙◌, append-nil, ◌++◌}
+use Rattle.std.specs.List.{flat_map}
 use Rattle.std.proofs.lemmas.List.Elements.{recursion_from_All}
+use Rattle.kf_value.specs.Forms.{IsWellFormed}
+use Rattle.kf_value.specs.Shapes.{shape_size, shape_types}
 use Rattle.kf_value.specs.Views.{value_tree}
-use Rattle.kf_value.proofs.ListLemmas.{each_at, mapped_read}
+use Rattle.kf_value.proofs.ListLemmas.{each_at, left_step, mapped_read}
 use Rattle.kf_core.specs.Choices.{Weighted}
 use Rattle.kf_eval.specs.Choices.{weighted_items, weighted_tree}
+use Rattle.kf_run.specs.declared.ways.Way.{Way}
+use Rattle.kf_run.specs.Tables.{shows, way_to}
+use Rattle.kf_run.proofs.Making.{more_made, all_pushed}
 use Rattle.kf_run.proofs.labels.labels_of.Goals as goal
+use Rattle.kf_run.proofs.labels.labels_of.Goals.{in-Some+in_ok-push, in_default}
 
 pub place_of-label-requires-clause-among : goal.place_of-label-requires-clause-among
 place_of-label-requires-clause-among c =
@@ -14,3 +21,35 @@ place_of-label-requires-clause-among c =
     (recursion_from_All (λ (w : Weighted). Contains (map value_tree c.args.values.now) w.value) ws c.requires.among)
     (mapped_read weighted_tree cs c.loop-weighted.weighted-index c.weighted-item.result (rw c.as_slice-weighted-items.ensures at c.loop-weighted-test.true)
     (rw c.as_slice-weighted-items.ensures at c.weighted-item.is))
+
+pub store_behind-requires-clause-formed : goal.store_behind-requires-clause-formed
+store_behind-requires-clause-formed c =
+    let cs = weighted_items c.args.choice.now.items in
+    let ws = map weighted_tree cs in
+    each_at (λ (w : Weighted). IsWellFormed w.value) ws c.loop-weighted.weighted-index (weighted_tree c.weighted-item.result)
+    (recursion_from_All (λ (w : Weighted). IsWellFormed w.value) ws c.requires.formed)
+    (mapped_read weighted_tree cs c.loop-weighted.weighted-index c.weighted-item.result (rw c.as_slice-weighted-items.ensures at c.loop-weighted-test.true)
+    (rw c.as_slice-weighted-items.ensures at c.weighted-item.is))
+
+pub loop-weighted-preserved : goal.loop-weighted-preserved
+loop-weighted-preserved c =
+    let cs = weighted_items c.args.choice.now.items in
+    let i = c.loop-weighted.weighted-index in
+    let go = shows (shape_types c.args.shape.now) c.args.into (map value_tree c.args.values.now) c.args.store in
+    let w = weighted_tree c.weighted-item.result in
+    let front = c.loop-weighted.items.items in
+    let next = left_step weighted_tree cs i c.weighted-item.result (rw c.as_slice-weighted-items.ensures at c.loop-weighted-test.true) (rw c.as_slice-weighted-items.ensures at c.weighted-item.is) in
+    let left = map weighted_tree (drop i cs) in
+    let rest = map weighted_tree (drop (i + 1) cs) in
+    let whole = flat_map go (map weighted_tree cs) in
+    let named = c.place_of-label.ensures in
+    elim c.match-store_behind.branch [
+      | in-Some+in_ok-push b ↦ rw b.items-is (record {
+        items = more_made go left rest w front b.push.new.self.items whole next c.loop-weighted.invariant.items (b.in_ok-push.ensures.items ∙ (λ j. front ++ way_to (named j) w.weight (b.in-Some.ensures.behind j)));
+        below = all_pushed (λ (way : Way). way.to < shape_size c.args.shape.now) front b.push.new.self.items _ b.in_ok-push.ensures.items c.loop-weighted.invariant.below b.in-Some.ensures.below;
+      })
+      | in_default b ↦ rw b.items-is (record {
+        items = more_made go left rest w front front whole next c.loop-weighted.invariant.items (sym (append-nil front) ∙ (λ j. front ++ way_to (named j) w.weight (b.in_default.ensures.behind j)));
+        below = c.loop-weighted.invariant.below;
+      })
+    ]

@@ -176,27 +176,27 @@ push_loop-returns t c =
 
 -- ---- each form of statement
 
-pub push_one-assign-requires-clause-variable : goal.push_one-assign-requires-clause-variable
-push_one-assign-requires-clause-variable t c =
-    let known = sound.assign_parts (shape_kinds c.args.shape.now) c.args.statement.now c.requires.sound c.in-Assign.slot c.in-Assign.dist c.in-Assign.is in
+pub push_one-assignment-requires-clause-variable : goal.push_one-assignment-requires-clause-variable
+push_one-assignment-requires-clause-variable t c =
+    let known = sound.assign_parts (shape_kinds c.args.shape.now) c.args.statement.now c.requires.sound c.in-Assign.slot c.in-Assign.dist c.in-Assign.shown c.in-Assign.is in
     sound.variable_within c.args.shape.now c.in-Assign.slot c.from.result known.0 c.from.ensures known.1.0
 
-pub push_one-assign-requires-clause-kinded : goal.push_one-assign-requires-clause-kinded
-push_one-assign-requires-clause-kinded t c =
-    let known = sound.assign_parts (shape_kinds c.args.shape.now) c.args.statement.now c.requires.sound c.in-Assign.slot c.in-Assign.dist c.in-Assign.is in
+pub push_one-assignment-requires-clause-kinded : goal.push_one-assignment-requires-clause-kinded
+push_one-assignment-requires-clause-kinded t c =
+    let known = sound.assign_parts (shape_kinds c.args.shape.now) c.args.statement.now c.requires.sound c.in-Assign.slot c.in-Assign.dist c.in-Assign.shown c.in-Assign.is in
     (known.0, known.1.1)
 
-pub push_one-assign-requires-clause-goes : goal.push_one-assign-requires-clause-goes
-push_one-assign-requires-clause-goes t c =
+pub push_one-assignment-requires-clause-goes : goal.push_one-assignment-requires-clause-goes
+push_one-assignment-requires-clause-goes t c =
     subst (λ f. Goes f c.args.columns.columns) (sym (form.assign_runs (shape_types c.args.shape.now) c.args.turns c.args.statement.now c.in-Assign.slot
-    c.from.result c.in-Assign.dist c.in-Assign.is c.from.ensures)) c.requires.can.goes
+    c.from.result c.in-Assign.dist c.in-Assign.shown c.in-Assign.is c.from.ensures)) c.requires.can.goes
 
-pub push_one-observe-requires-clause-kinded : goal.push_one-observe-requires-clause-kinded
-push_one-observe-requires-clause-kinded t c = sound.observe_parts (shape_kinds c.args.shape.now) c.args.statement.now c.requires.sound c.in-Observe.dist
+pub push_one-show-requires-clause-kinded : goal.push_one-show-requires-clause-kinded
+push_one-show-requires-clause-kinded t c = sound.observe_parts (shape_kinds c.args.shape.now) c.args.statement.now c.requires.sound c.in-Observe.dist
     c.in-Observe.is
 
-pub push_one-observe-requires-clause-goes : goal.push_one-observe-requires-clause-goes
-push_one-observe-requires-clause-goes t c =
+pub push_one-show-requires-clause-goes : goal.push_one-show-requires-clause-goes
+push_one-show-requires-clause-goes t c =
     subst (λ f. Goes f c.args.columns.columns) (sym (form.observe_runs (shape_types c.args.shape.now) c.args.turns c.args.statement.now c.in-Observe.dist
     c.in-Observe.is)) c.requires.can.goes
 
@@ -334,8 +334,8 @@ push_one-returns-in-Skip t c =
 pub push_one-returns-in_ok-after-in-Assign : goal.push_one-returns-in_ok-after-in-Assign
 push_one-returns-in_ok-after-in-Assign t c =
     subst (λ f. HasGone f (shape_size c.args.shape.now) c.args.columns c.in_ok-after-in-Assign.after)
-    (form.assign_runs (shape_types c.args.shape.now) c.args.turns c.args.statement.now c.in-Assign.slot c.from.result c.in-Assign.dist c.in-Assign.is
-    c.from.ensures)
+    (form.assign_runs (shape_types c.args.shape.now) c.args.turns c.args.statement.now c.in-Assign.slot c.from.result c.in-Assign.dist c.in-Assign.shown
+    c.in-Assign.is c.from.ensures)
     (record { pushed = c.in_ok-after-in-Assign.ensures.pushed; scale = c.in_ok-after-in-Assign.ensures.scale; below = c.in_ok-after-in-Assign.ensures.below })
 
 pub push_one-returns-in_ok-after-in-Observe : goal.push_one-returns-in_ok-after-in-Observe

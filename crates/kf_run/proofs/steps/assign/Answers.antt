@@ -21,7 +21,7 @@ push_along-requires c =
     let es = c.in_ok-choices.choices.entries in
     let all = subst (All (Stands es)) c.as_slice.ensures.value c.in_ok-choices.ensures.all in
     let table = c.in_ok-table.table.entries in
-    let runs = assigned (shape_types c.args.shape.now) c.args.slot (dx_tree c.args.dist.now) in
+    let runs = assigned silent (shape_types c.args.shape.now) c.args.slot (dx_tree c.args.dist.now) in
     record {
       along = are_along nothing 1 runs runs table (moves_serve c.args.shape.now (dx_tree c.args.dist.now) c.in_ok-choices.choices.entries c.in_ok-choices.ensures.chosen c.in_ok-table.table.entries c.args.slot c.in_ok-table.ensures.made) columns
           (stand_through (stores_in columns) stores es table c.in_ok-stores.ensures.all all c.in_ok-table.ensures.all) c.requires.goes;
@@ -29,13 +29,13 @@ push_along-requires c =
 
 pub returns-clause-pushed : goal.returns-clause-pushed
 returns-clause-pushed c =
-    let runs = assigned (shape_types c.args.shape.now) c.args.slot (dx_tree c.args.dist.now) in
+    let runs = assigned silent (shape_types c.args.shape.now) c.args.slot (dx_tree c.args.dist.now) in
     let lead = tables_lead nothing 1 runs runs c.in_ok-table.table.entries (moves_serve c.args.shape.now (dx_tree c.args.dist.now) c.in_ok-choices.choices.entries c.in_ok-choices.ensures.chosen c.in_ok-table.table.entries c.args.slot c.in_ok-table.ensures.made) in
     (c.in_ok-after.ensures.pushed 1 nothing runs lead.0 (one_label nothing) lead.1).0
 
 pub returns-clause-below : goal.returns-clause-below
 returns-clause-below c =
-    let runs = assigned (shape_types c.args.shape.now) c.args.slot (dx_tree c.args.dist.now) in
+    let runs = assigned silent (shape_types c.args.shape.now) c.args.slot (dx_tree c.args.dist.now) in
     let lead = tables_lead nothing 1 runs runs c.in_ok-table.table.entries (moves_serve c.args.shape.now (dx_tree c.args.dist.now) c.in_ok-choices.choices.entries c.in_ok-choices.ensures.chosen c.in_ok-table.table.entries c.args.slot c.in_ok-table.ensures.made) in
     (c.in_ok-after.ensures.pushed 1 nothing runs lead.0 (one_label nothing) lead.1).1 (shape_size c.args.shape.now) c.in_ok-table.ensures.below
 

@@ -34,11 +34,11 @@ loop-weighted-preserved c =
     let whole = flat_map go (map weighted_tree cs) in
     elim c.match-moved.branch [
       | in-Some+in_ok-push b ↦ rw b.items-is (record {
-        items = more_made go left rest w front b.push.new.self.items whole next c.loop-weighted.invariant.items (b.in_ok-push.ensures.items ∙ ap (λ o. front ++ way_to w.weight o) b.in-Some.ensures.moved);
+        items = more_made go left rest w front b.push.new.self.items whole next c.loop-weighted.invariant.items (b.in_ok-push.ensures.items ∙ ap (λ o. front ++ way_to 0 w.weight o) b.in-Some.ensures.moved);
         below = all_pushed (λ (way : Way). way.to < shape_size c.args.shape.now) front b.push.new.self.items _ b.in_ok-push.ensures.items c.loop-weighted.invariant.below b.in-Some.ensures.below;
       })
       | in_default b ↦ rw b.items-is (record {
-        items = more_made go left rest w front front whole next c.loop-weighted.invariant.items (sym (append-nil front) ∙ ap (λ o. front ++ way_to w.weight o) b.in_default.ensures.moved);
+        items = more_made go left rest w front front whole next c.loop-weighted.invariant.items (sym (append-nil front) ∙ ap (λ o. front ++ way_to 0 w.weight o) b.in_default.ensures.moved);
         below = c.loop-weighted.invariant.below;
       })
     ]

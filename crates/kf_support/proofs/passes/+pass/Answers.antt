@@ -12,7 +12,7 @@ use Rattle.kf_support.proofs.passes.+pass.Goals as goal
 
 pub pass-assign-requires-clause-variable : goal.pass-assign-requires-clause-variable
 pass-assign-requires-clause-variable t c =
-    let known = sound.assign_parts (shape_kinds c.args.shape.now) c.args.statement.now c.requires.sound c.in-Assign.slot c.in-Assign.dist c.in-Assign.is in
+    let known = sound.assign_parts (shape_kinds c.args.shape.now) c.args.statement.now c.requires.sound c.in-Assign.slot c.in-Assign.dist c.in-Assign.shown c.in-Assign.is in
     sound.variable_within c.args.shape.now c.in-Assign.slot c.from.result known.0 c.from.ensures known.1.0
 
 pub pass-pass_while-requires : goal.pass-pass_while-requires

@@ -1,14 +1,38 @@
 use Rattle.std.proofs.Common.{◌+◌, map, drop}
-use Rattle.kf_value.proofs.ListLemmas.{left_step}
+use Rattle.std.proofs.lemmas.List.Elements.{recursion_from_All}
+use Rattle.kf_value.specs.Forms.{IsWellFormed}
+use Rattle.kf_value.specs.Shapes.{shape_size, shape_types}
+use Rattle.kf_value.proofs.ListLemmas.{each_at, left_step, mapped_read}
+use Rattle.kf_core.specs.Choices.{Weighted}
 use Rattle.kf_eval.specs.Choices.{weighted_tree}
+use Rattle.kf_support.specs.Moves.{store_behind}
 use Rattle.kf_traces.specs.Views.{part_of}
-use Rattle.kf_traces.proofs.Locating.{shares_step}
+use Rattle.kf_traces.proofs.Splits.{shares_step, shares_past}
 use Rattle.kf_traces.proofs.parts.add_shares.Goals as goal
+use Rattle.kf_traces.proofs.parts.add_shares.Goals.{in-Some+in_ok-add_part, in_default}
+
+pub store_behind-requires-clause-formed : goal.store_behind-requires-clause-formed
+store_behind-requires-clause-formed c =
+    let ws = map weighted_tree c.args.choices.now in
+    each_at (λ (w : Weighted). IsWellFormed w.value) ws c.loop-choice.choice-index (weighted_tree c.choice-item.result)
+    (recursion_from_All (λ (w : Weighted). IsWellFormed w.value) ws c.requires.formed)
+    (mapped_read weighted_tree c.args.choices.now c.loop-choice.choice-index c.choice-item.result c.loop-choice-test.true c.choice-item.is)
 
 pub loop-choice-preserved : goal.loop-choice-preserved
 loop-choice-preserved c =
+    let go = store_behind (shape_types c.args.shape.now) c.args.into in
+    let size = shape_size c.args.shape.now in
     let cs = c.args.choices.now in
     let i = c.loop-choice.choice-index in
+    let rest = map weighted_tree (drop (i + 1) cs) in
     let next = left_step weighted_tree cs i c.choice-item.result c.loop-choice-test.true c.choice-item.is in
-    shares_step c.args.store c.args.share (map weighted_tree (drop i cs)) (map weighted_tree (drop (i + 1) cs)) (weighted_tree c.choice-item.result) _ (map part_of c.loop-choice.parts.items) next
-    c.loop-choice.invariant (map part_of c.add_part.new.parts.items) c.in_ok-add_part.ensures
+    elim c.match-store_behind.branch [
+      | in-Some+in_ok-add_part w ↦
+          rw w.parts-is
+          (shares_step go c.args.store c.args.share size (map weighted_tree (drop i cs)) rest (weighted_tree c.choice-item.result) _ (map part_of c.loop-choice.parts.items) next c.loop-choice.invariant
+          w.in-Some.after (map part_of w.add_part.new.parts.items) w.in-Some.ensures.behind w.in-Some.ensures.below w.in_ok-add_part.ensures)
+      | in_default w ↦
+          rw w.parts-is
+          (shares_past go c.args.store c.args.share size (map weighted_tree (drop i cs)) rest (weighted_tree c.choice-item.result) _ (map part_of c.loop-choice.parts.items) next c.loop-choice.invariant
+          w.in_default.ensures.behind)
+    ]

@@ -1,10 +1,14 @@
 use Rattle.std.proofs.Common.{map, drop}
+use Rattle.kf_value.specs.Shapes.{shape_size, shape_types}
 use Rattle.kf_eval.specs.Choices.{weighted_tree}
+use Rattle.kf_support.specs.Moves.{store_behind}
 use Rattle.kf_traces.specs.Traced.{with_shares}
 use Rattle.kf_traces.specs.Views.{part_of}
-use Rattle.kf_traces.proofs.Locating.{SharesOn}
+use Rattle.kf_traces.proofs.Splits.{SharesOn}
 use Rattle.kf_traces.proofs.parts.add_shares.Given as goal
 
 abbrev pub invariant-loop-choice : goal.invariant-loop-choice
 invariant-loop-choice l =
-    SharesOn l.store l.share (map weighted_tree (drop l.choice-index l.choices)) (with_shares (map part_of l.initial.parts.items) l.store l.share (map weighted_tree l.choices)) (map part_of l.parts.items)
+    let go = store_behind (shape_types l.shape) l.into in
+    SharesOn go l.store l.share (shape_size l.shape) (map weighted_tree (drop l.choice-index l.choices))
+    (with_shares go (map part_of l.initial.parts.items) l.store l.share (map weighted_tree l.choices)) (map part_of l.parts.items)

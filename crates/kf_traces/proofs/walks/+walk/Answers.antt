@@ -63,9 +63,9 @@ turn-loop-state-preserved t c =
     (walking.mapped_joined visit_of c.push.new.self.items c.loop-state.visits.items (code.Left c.in-Some.state ∷ []) c.in_ok-push.ensures.items)
     (All-cons kept (Left s) [] (walking.goes_next (visits_next body c.args.rest) (walking.InSize size) (λ v. walking.InSize size (visitor v)) (flat_map (visits_next body c.args.rest) (map traced_of c.args.states.items)) (map visit_of c.loop-state.visits.items) (map traced_of (into_iter_items c.loop-state.state-iterator)) s (map traced_of (into_iter_items c.next.new.self)) step before) (All-nil kept))
 
-pub walk-assigned-requires-clause-variable : goal.walk-assigned-requires-clause-variable
-walk-assigned-requires-clause-variable t c =
-    let known = pass.assign_parts (shape_kinds c.args.shape.now) c.args.statement.now c.requires.sound c.in-Assign.slot c.in-Assign.dist c.in-Assign.is in
+pub walk-assigned_all-requires-clause-variable : goal.walk-assigned_all-requires-clause-variable
+walk-assigned_all-requires-clause-variable t c =
+    let known = pass.assign_parts (shape_kinds c.args.shape.now) c.args.statement.now c.requires.sound c.in-Assign.slot c.in-Assign.dist c.in-Assign.shown c.in-Assign.is in
     pass.variable_within c.args.shape.now c.in-Assign.slot c.from.result known.0 c.from.ensures known.1.0
 
 pub walk-walk_while-requires : goal.walk-walk_while-requires

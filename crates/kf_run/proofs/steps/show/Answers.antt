@@ -2,13 +2,14 @@ use Rattle.std.proofs.Common.{ℕ, ◌<◌, false, List, [], ◌∷◌, All, Con
 use Rattle.kf_value.specs.Shapes.{shape_size, shape_types}
 use Rattle.kf_value.specs.Values.{ValueTree, Truth}
 use Rattle.kf_value.specs.Views.{value_tree}
-use Rattle.kf_core.specs.Runs.{Run, shown, stay, tried}
+use Rattle.kf_core.specs.Runs.{Run, moved, place, shown, tried}
 use Rattle.kf_core.specs.Views.{dx_tree}
-use Rattle.kf_run.specs.Following.{observed}
+use Rattle.kf_support.specs.Moves.{store_behind}
+use Rattle.kf_run.specs.Following.{shown_to}
 use Rattle.kf_run.specs.Tables.{Stands, stores_in}
-use Rattle.kf_run.proofs.Stepping.{shows_serve, shows_below, values_ascend, among_each}
+use Rattle.kf_run.proofs.Stepping.{shows_serve, values_ascend, among_each}
 use Rattle.kf_run.proofs.Treading.{are_along, stand_through, stores_below, among_all, stores_clear, tables_lead}
-use Rattle.kf_run.proofs.steps.observe.Goals as goal
+use Rattle.kf_run.proofs.steps.show.Goals as goal
 
 pub choices_in-requires-clause-below : goal.choices_in-requires-clause-below
 choices_in-requires-clause-below c =
@@ -28,11 +29,11 @@ push_along-requires c =
     let vs = map value_tree c.in_ok-values.values.items in
     let among = among_each (λ (v : ValueTree). Contains (map value_tree c.in_ok-values.values.items) v) c.in_ok-choices.choices.entries c.in_ok-values.ensures.all in
     let made = rw c.as_slice-2.ensures.value at c.in_ok-table.ensures.made in
-    let runs = observed (tried (shape_types c.args.shape.now) (dx_tree c.args.dist.now)) in
+    let runs = shown_to (shape_types c.args.shape.now) c.args.into (dx_tree c.args.dist.now) in
     let trace : ℕ → List ValueTree = λ j. get_or vs j (Truth false) ∷ [] in
     let table = c.in_ok-table.table.entries in
     record {
-      along = are_along trace (length vs) runs runs table (shows_serve c.args.shape.now (dx_tree c.args.dist.now) c.in_ok-choices.choices.entries c.in_ok-choices.ensures.chosen c.in_ok-table.table.entries vs among made) columns
+      along = are_along trace (length vs) runs runs table (shows_serve c.args.shape.now (dx_tree c.args.dist.now) c.in_ok-choices.choices.entries c.in_ok-choices.ensures.chosen c.in_ok-table.table.entries c.args.into vs among made) columns
           (stand_through (stores_in columns) stores es table c.in_ok-stores.ensures.all all c.in_ok-table.ensures.all) c.requires.goes;
     }
 
@@ -41,9 +42,9 @@ returns-clause-pushed c =
     let vs = map value_tree c.in_ok-values.values.items in
     let among = among_each (λ (v : ValueTree). Contains (map value_tree c.in_ok-values.values.items) v) c.in_ok-choices.choices.entries c.in_ok-values.ensures.all in
     let made = rw c.as_slice-2.ensures.value at c.in_ok-table.ensures.made in
-    let runs = observed (tried (shape_types c.args.shape.now) (dx_tree c.args.dist.now)) in
+    let runs = shown_to (shape_types c.args.shape.now) c.args.into (dx_tree c.args.dist.now) in
     let trace : ℕ → List ValueTree = λ j. get_or vs j (Truth false) ∷ [] in
-    let lead = tables_lead trace (length vs) runs runs c.in_ok-table.table.entries (shows_serve c.args.shape.now (dx_tree c.args.dist.now) c.in_ok-choices.choices.entries c.in_ok-choices.ensures.chosen c.in_ok-table.table.entries vs among made) in
+    let lead = tables_lead trace (length vs) runs runs c.in_ok-table.table.entries (shows_serve c.args.shape.now (dx_tree c.args.dist.now) c.in_ok-choices.choices.entries c.in_ok-choices.ensures.chosen c.in_ok-table.table.entries c.args.into vs among made) in
     (c.in_ok-after.ensures.pushed (length vs) trace runs lead.0 (values_ascend vs c.in_ok-values.ensures.ascending) lead.1).0
 
 pub returns-clause-below : goal.returns-clause-below
@@ -51,16 +52,16 @@ returns-clause-below c =
     let vs = map value_tree c.in_ok-values.values.items in
     let among = among_each (λ (v : ValueTree). Contains (map value_tree c.in_ok-values.values.items) v) c.in_ok-choices.choices.entries c.in_ok-values.ensures.all in
     let made = rw c.as_slice-2.ensures.value at c.in_ok-table.ensures.made in
-    let runs = observed (tried (shape_types c.args.shape.now) (dx_tree c.args.dist.now)) in
+    let runs = shown_to (shape_types c.args.shape.now) c.args.into (dx_tree c.args.dist.now) in
     let trace : ℕ → List ValueTree = λ j. get_or vs j (Truth false) ∷ [] in
-    let lead = tables_lead trace (length vs) runs runs c.in_ok-table.table.entries (shows_serve c.args.shape.now (dx_tree c.args.dist.now) c.in_ok-choices.choices.entries c.in_ok-choices.ensures.chosen c.in_ok-table.table.entries vs among made) in
-    (c.in_ok-after.ensures.pushed (length vs) trace runs lead.0 (values_ascend vs c.in_ok-values.ensures.ascending) lead.1).1 (shape_size c.args.shape.now) (shows_below c.args.shape.now (dx_tree c.args.dist.now) c.in_ok-choices.choices.entries c.in_ok-choices.ensures.chosen c.in_ok-table.table.entries vs among made)
+    let lead = tables_lead trace (length vs) runs runs c.in_ok-table.table.entries (shows_serve c.args.shape.now (dx_tree c.args.dist.now) c.in_ok-choices.choices.entries c.in_ok-choices.ensures.chosen c.in_ok-table.table.entries c.args.into vs among made) in
+    (c.in_ok-after.ensures.pushed (length vs) trace runs lead.0 (values_ascend vs c.in_ok-values.ensures.ascending) lead.1).1 (shape_size c.args.shape.now) c.in_ok-table.ensures.below
 
 pub choices_in-requires-clause-clear : goal.choices_in-requires-clause-clear
 choices_in-requires-clause-clear c =
     let ts = shape_types c.args.shape.now in
     let d = dx_tree c.args.dist.now in
     let columns = c.args.columns.now.columns in
-    let next : ℕ → ValueTree → List Run = λ (n : ℕ) (v : ValueTree). stay n in
+    let next : ℕ → ValueTree → List Run = λ (n : ℕ) (v : ValueTree). moved (place d) (store_behind ts c.args.into n v) in
     subst (All (λ n. IsOk (tried ts d n))) (sym c.as_slice.ensures.value)
     (among_all (λ n. IsOk (tried ts d n)) (stores_in columns) c.in_ok-stores.stores.items (stores_clear shown next (tried ts d) columns c.requires.goes) c.in_ok-stores.ensures.only)

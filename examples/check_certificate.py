@@ -10,6 +10,7 @@ import re
 import sys
 from fractions import Fraction
 
+SIZE = re.compile(r"0|[1-9][0-9]*")
 WHOLE = re.compile(r"-?(0|[1-9][0-9]*)")
 FRACTION = re.compile(r"-?(0|[1-9][0-9]*)(/[1-9][0-9]*)?")
 
@@ -32,14 +33,34 @@ def number(pattern, text):
     return Fraction(text)
 
 
+def read_rows(cert):
+    """A matrix row by row: whether it has so many rows and columns, and its entries by their places."""
+    rows = [[number(FRACTION, text) for text in row] for row in cert["matrix"]]
+    entries = {(i, j): value for i, row in enumerate(rows) for j, value in enumerate(row)}
+    return lambda m, n: len(rows) == m and all(len(row) == n for row in rows), entries
+
+
+def read_entries(cert):
+    """The same of a matrix by named entries, whose places ascend; every other entry is 0."""
+    rows, columns = number(SIZE, cert["rows"]), number(SIZE, cert["columns"])
+    named = [(number(SIZE, i), number(SIZE, j), number(FRACTION, value)) for i, j, value in cert["entries"]]
+    places = [(i, j) for i, j, _ in named]
+    if places != sorted(set(places)) or any(i >= rows or j >= columns for i, j in places):
+        raise ValueError(places)
+    return lambda m, n: (rows, columns) == (m, n), {(i, j): value for i, j, value in named}
+
+
 def read_certificate(path):
     """The verdict with its matrix, or with the gains of values that aren't named and of each action those that are."""
     with open(path, encoding="utf-8") as file:
         cert = json.load(file)
-    if cert["format"] != "kuifje-cert-1" or cert["verdict"] not in ("yes", "no"):
-        raise ValueError(cert["format"])
-    if cert["verdict"] == "yes":
-        return "yes", [[number(FRACTION, text) for text in row] for row in cert["matrix"]]
+    form = cert["verdict"], cert["format"], sorted(cert)
+    if form == ("yes", "kuifje-cert-1", ["format", "matrix", "verdict"]):
+        return "yes", read_rows(cert)
+    if form == ("yes", "kuifje-cert-2", ["columns", "entries", "format", "rows", "verdict"]):
+        return "yes", read_entries(cert)
+    if form[0] != "no" or form[1] not in ("kuifje-cert-1", "kuifje-cert-2"):
+        raise ValueError(form)
     over = number(WHOLE, cert["over"])
     if over < 1 or cert["actions"] == []:
         raise ValueError(over)
@@ -64,13 +85,13 @@ def read_hyper(path):
 
 # ---- what a certificate must prove of them
 
-def check_matrix(rows, a, b):
-    reject_unless(len(rows) == len(a) and all(len(row) == len(b) for row in rows), "shape")
-    reject_unless(all(0 <= entry <= 1 for row in rows for entry in row), "range")
-    reject_unless(all(sum(row) == 1 for row in rows), "sum")
+def check_matrix(is_shaped, entries, a, b):
+    reject_unless(is_shaped(len(a), len(b)), "shape")
+    reject_unless(all(0 <= entry <= 1 for entry in entries.values()), "range")
+    reject_unless(all(sum(entries.get((i, j), 0) for j in range(len(b))) == 1 for i in range(len(a))), "sum")
     for j, inner_b in enumerate(b):
         for x in set().union(*a, *b):
-            carried = sum(inner_a.get(x, 0) * row[j] for inner_a, row in zip(a, rows))
+            carried = sum(inner_a.get(x, 0) * entries.get((i, j), 0) for i, inner_a in enumerate(a))
             reject_unless(carried == inner_b.get(x, 0), "cell")
 
 
@@ -96,7 +117,7 @@ def main():
     (target_a, a), (target_b, b) = read_hyper(sys.argv[2]), read_hyper(sys.argv[3])
     require(target_a == target_b, "targets differ", 2)
     if verdict == "yes":
-        check_matrix(proof, a, b)
+        check_matrix(*proof, a, b)
     else:
         check_table(*proof, a, b)
     print("accepted")

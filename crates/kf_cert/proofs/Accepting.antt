@@ -11,9 +11,8 @@ use Rattle.kf_simplex.specs.Base.{total}
 use Rattle.kf_simplex.proofs.Signs.{product_monotone, product_not_negative, factor_not_negative, cancel, cancel_le}
 use Rattle.kf_simplex.proofs.Sums.{total-ext, total-scale, total-scale_right, total_not_negative}
 use Rattle.kf_refine.specs.Refinements.{HyperTree, Fraction, count, entry, joint, IsShaped, CarriesWeights, Carries}
-use Rattle.kf_refine.specs.Verdicts.{Yes, No}
-use Rattle.kf_refine.specs.Views.{IsProper}
-use Rattle.kf_cert.specs.Marks.{IsInRange, SumToOne, IsMarked, denominator, over_one}
+use Rattle.kf_cert.specs.Certificates.{Yes, Named, No, matrix_of}
+use Rattle.kf_cert.specs.Marks.{IsInRange, SumToOne, MarkedByRules, denominator, over_one}
 use Rattle.kf_cert.specs.declared.mark.Mark.{Mark}
 use Rattle.kf_cert.specs.declared.mark.Mark.TheVariants.{Accepted, Rejected}
 use Rattle.kf_cert.specs.declared.mark.Rule.{Rule}
@@ -22,6 +21,7 @@ use Rattle.kf_cert.specs.declared.mark.CheckError.{CheckError}
 use Rattle.kf_cert.specs.declared.mark.CheckError.TheVariants as error
 use Rattle.kf_cert.specs.Laws.{AcceptedShows, CarryingAccepted}
 use Rattle.kf_cert.proofs.Denominators.{at_entry, from_entries, denominator_positive, over_one_is}
+use Rattle.kf_cert.proofs.NamedRows.{sized_shape, matrix_has}
 
 -- ---- what is accepted proves
 
@@ -60,14 +60,23 @@ not_rejected x e = cc
 pub not_wide : ◌≡◌ {A = Result Mark CheckError} (Ok Accepted) (Err error.Wide) → ⊥
 not_wide e = cc
 
-pub accepted_shows : AcceptedShows
-accepted_shows a b (Yes rows) is_a is_b sound marked =
-    let shape = held (not_rejected rule.Shape) marked in
-    let range = held (not_rejected rule.Range) shape.1 in
+rules_show : (a b : HyperTree) (rows : List (List Fraction)) → All (λ row. All (λ f. 0 < f.den) row) rows → IsShaped (count a) (count b) rows
+    → MarkedByRules a b rows (Ok Accepted) → Carries a b rows
+rules_show a b rows sound shape marked =
+    let range = held (not_rejected rule.Range) marked in
     let fits = held not_wide range.1 in
     let sum = held (not_rejected rule.Sum) fits.1 in
     let cell = held (not_rejected rule.Cell) sum.1 in
-    accepted_carries a b rows sound shape.0 range.0 sum.0 cell.0
+    accepted_carries a b rows sound shape range.0 sum.0 cell.0
+
+pub accepted_shows : AcceptedShows
+accepted_shows a b (Yes rows) is_a is_b sound marked =
+    let shape = held (not_rejected rule.Shape) marked in
+    rules_show a b rows sound shape.0 shape.1
+accepted_shows a b (Named t) is_a is_b sound marked =
+    let shape = held (not_rejected rule.Shape) marked in
+    let shaped : IsShaped (count a) (count b) (matrix_of t) = sized_shape (count a) (count b) t shape.0.0 shape.0.1 in
+    rules_show a b (matrix_of t) (matrix_has (λ f. 0 < f.den) (omega arith) t sound.positive) shaped shape.1
 accepted_shows a b (No t) is_a is_b sound marked =
     let values = held (not_rejected rule.Value) marked in
     let fits = held not_wide values.1 in
@@ -174,16 +183,17 @@ module _ (a b : HyperTree) (rows : List (List Fraction)) (is : Carries a b rows)
           let k = simp ring at (ap (λ (z : ℤ). e *ℤ z) same) in
           cancel (t *ℤ ones) (s *ℤ e *ℤ w) o some (simp ring (omega (arith, ints)))
 
-pub carrying_accepted : CarryingAccepted
-carrying_accepted a b rows is_a is_b is fits =
-    inr (is.shape, inr (in_range a b rows is, inr (fits, inr (sums a b rows is, inr (cells a b rows is, refl)))))
+carrying_rules : (a b : HyperTree) (rows : List (List Fraction)) → Carries a b rows → a.scale * denominator rows ≤ limit → MarkedByRules a b rows (Ok Accepted)
+carrying_rules a b rows is fits = inr (in_range a b rows is, inr (fits, inr (sums a b rows is, inr (cells a b rows is, refl))))
 
--- it is accepted, or the check is too wide
-pub carrying_marked : (a b : HyperTree) (rows : List (List Fraction)) → IsProper a → IsProper b → Carries a b rows
-    → IsMarked a b (Yes rows) (Ok Accepted) ⊎ IsMarked a b (Yes rows) (Err error.Wide)
-carrying_marked a b rows is_a is_b is =
+pub carrying_accepted : CarryingAccepted
+carrying_accepted a b rows is_a is_b is fits = inr (is.shape, carrying_rules a b rows is fits)
+
+-- the rules accept it, or the check is too wide
+pub carrying_marked : (a b : HyperTree) (rows : List (List Fraction)) → Carries a b rows → MarkedByRules a b rows (Ok Accepted) ⊎ MarkedByRules a b rows (Err error.Wide)
+carrying_marked a b rows is =
     ⊎_elim
     (λ (wide : limit < a.scale * denominator rows).
-    inr (inr (is.shape, inr (in_range a b rows is, inl (λ (fits : a.scale * denominator rows ≤ limit). omega (arith, wide, fits), refl)))))
-    (λ (fits : a.scale * denominator rows ≤ limit). inl (carrying_accepted a b rows is_a is_b is fits))
+    inr (inr (in_range a b rows is, inl (λ (fits : a.scale * denominator rows ≤ limit). omega (arith, wide, fits), refl))))
+    (λ (fits : a.scale * denominator rows ≤ limit). inl (carrying_rules a b rows is fits))
     (cases_lt limit (a.scale * denominator rows))

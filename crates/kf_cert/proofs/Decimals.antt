@@ -110,6 +110,10 @@ module _ (n : ℕ) (small : n < 10 ^ 64) where
   alone_positive : is_negative (decimal n) ≡ false
   alone_positive = ap is_negative (sym (append-nil (decimal n))) ∙ front_positive []
 
+-- digits have no sign
+pub no_minus : (n : ℕ) → n < 10 ^ 64 → is_negative (decimal n) ≡ false
+no_minus n small = alone_positive n small
+
 -- whole numbers in absolute value below 10 ^ 64
 pub whole_text : (z : ℤ) → unsigned_abs z < 10 ^ 64 → is_whole_text (signed_decimal z) ≡ true
 whole_text (pos n) small = ap is_numeral (alone_no_sign n small) ∙ numeral n small

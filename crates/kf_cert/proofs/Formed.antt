@@ -11,15 +11,14 @@ use Rattle.kf_json.specs.Json.{json_of, members, at_place, is_list, is_text, tex
 use Rattle.kf_json.specs.Rules.{is_name, first_broken}
 use Rattle.kf_gain.proofs.Entries.{split_and}
 use Rattle.kf_cert.specs.Numbers.{whole_said, numerator_said, denominator_said, fraction_said}
-use Rattle.kf_cert.specs.Certificates.{CertTree, says_yes, matrix_at, over_at, rest_at, actions_at, gains_at, name_at, form_1, form_2, form_3, form_4, form_5, form_6, narrow, is_fraction, is_row, is_whole_number, is_gain, is_named_action, has_numbers, has_actions, is_narrow, is_narrow_fraction, is_narrow_whole, is_narrow_action, rules, row_said, action_said, table_said, cert_said, cert_in, cert_of}
-use Rattle.kf_cert.specs.Reading.{gain_said, reads_fraction, reads_row, reads_matrix, reads_whole, reads_gain, reads_action, reads_table, reads_cert}
-use Rattle.kf_cert.specs.Views.{IsSound, IsSoundTable}
+use Rattle.kf_cert.specs.Certificates.{CertTree, Yes, Named, No, says_yes, has_entry_keys, matrix_at, rows_at, columns_at, entries_at, over_at, rest_at, actions_at, gains_at, name_at, form_1, form_2, form_3, form_4, form_5, form_6, form_7, narrow, is_fraction, is_row, has_rows, is_whole_number, is_size, is_entry, has_entries, has_its_matrix, is_gain, is_named_action, has_numbers, has_actions, is_narrow, is_narrow_fraction, is_narrow_whole, is_narrow_action, is_narrow_entry, is_narrow_matrix, are_narrow_entries, is_narrow_yes, is_narrow_table, rules, row_said, entry_said, named_said, action_said, table_said, yes_said, cert_said, names_in_order, cert_in, cert_of}
+use Rattle.kf_cert.specs.Reading.{gain_said, reads_fraction, reads_row, reads_matrix, reads_whole, reads_entry, reads_named, reads_yes, reads_gain, reads_action, reads_table, reads_cert}
+use Rattle.kf_cert.specs.Views.{IsSound, IsSoundNamed, IsSoundTable}
 use Rattle.kf_cert.specs.Laws.{ReadSound}
 use Rattle.kf_cert.specs.declared.cert.CertAction.{CertAction}
 use Rattle.kf_cert.specs.declared.cert.CertError.{CertError}
 use Rattle.kf_cert.specs.declared.cert.CertError.TheVariants as broken
 use Rattle.kf_cert.proofs.Digits.{positive}
-use Rattle.kf_refine.specs.Verdicts.{Yes, No}
 
 -- ---- the first broken rule
 
@@ -81,6 +80,16 @@ row_alike row is = all_alike is_fraction reads_fraction is_narrow_fraction fract
 whole_alike : (d : Data) → is_whole_number d ≡ true → reads_whole d ≡ is_narrow_whole d
 whole_alike d is = ap (λ b. b && is_narrow_whole d) (split_and (is_text d) _ is).1
 
+size_alike : (d : Data) → is_size d ≡ true → reads_whole d ≡ is_narrow_whole d
+size_alike d is = whole_alike d (split_and (is_whole_number d) _ is).0
+
+entry_alike : (e : Data) → is_entry e ≡ true → reads_entry e ≡ is_narrow_entry e
+entry_alike e is =
+    let three = split_and (length (members e) == 3) _ (split_and (is_list e) _ is).1 in
+    let row = split_and (is_size (at_place 0 e)) _ three.1 in
+    let column = split_and (is_size (at_place 1 e)) _ row.1 in
+    λ i. size_alike (at_place 0 e) row.0 i && (size_alike (at_place 1 e) column.0 i && fraction_alike (at_place 2 e) column.1 i)
+
 gain_alike : (g : Data) → is_gain g ≡ true → reads_gain g ≡ is_narrow_whole (at_place 1 g)
 gain_alike g is =
     let pair = split_and (length (members g) == 2) _ (split_and (is_list g) _ is).1 in
@@ -93,10 +102,15 @@ action_alike a is =
 
 -- what the rules say of a yes, and of a no
 module _ (d : Data) (f : Formed d) where
-  rows_formed : says_yes d ≡ true → list_all is_row (members (matrix_at d)) ≡ true
-  rows_formed agreed =
-      (split_and (is_list (matrix_at d)) _
-      (subst (λ b. (not b || (is_list (matrix_at d) && list_all is_row (members (matrix_at d)))) ≡ true) agreed f.four)).1
+  matrix_formed : says_yes d ≡ true → has_its_matrix d ≡ true
+  matrix_formed agreed = subst (λ b. (not b || has_its_matrix d) ≡ true) agreed f.four
+
+  rows_formed : says_yes d ≡ true → has_entry_keys d ≡ false → list_all is_row (members (matrix_at d)) ≡ true
+  rows_formed agreed other =
+      (split_and (is_list (matrix_at d)) _ (subst (λ b. (if b then has_entries d else has_rows d) ≡ true) other (matrix_formed agreed))).1
+
+  entries_formed : says_yes d ≡ true → has_entry_keys d ≡ true → has_entries d ≡ true
+  entries_formed agreed named = subst (λ b. (if b then has_entries d else has_rows d) ≡ true) named (matrix_formed agreed)
 
   table_formed : says_yes d ≡ false → (has_numbers d ≡ true) × (has_actions d ≡ true)
   table_formed other = split_and (has_numbers d) _ (subst (λ b. (b || (has_numbers d && has_actions d)) ≡ true) other f.five)
@@ -104,10 +118,7 @@ module _ (d : Data) (f : Formed d) where
   actions_formed : says_yes d ≡ false → list_all is_named_action (members (actions_at d)) ≡ true
   actions_formed other = subst (λ b. (b || list_all is_named_action (members (actions_at d))) ≡ true) other f.six
 
-  abbrev narrow_table : Bool
-  narrow_table = is_narrow_whole (over_at d) && (is_narrow_whole (rest_at d) && list_all is_narrow_action (members (actions_at d)))
-
-  table_alike : says_yes d ≡ false → reads_table d ≡ narrow_table
+  table_alike : says_yes d ≡ false → reads_table d ≡ is_narrow_table d
   table_alike other =
       let numbers = (table_formed other).0 in
       let over = split_and (is_whole_number (over_at d)) _ numbers in
@@ -115,15 +126,30 @@ module _ (d : Data) (f : Formed d) where
       λ i. whole_alike (over_at d) over.0 i && (whole_alike (rest_at d) rest.0 i
       && all_alike is_named_action reads_action is_narrow_action action_alike (members (actions_at d)) (actions_formed other) i)
 
-  matrix_alike : says_yes d ≡ true → reads_matrix d ≡ list_all (λ row. list_all is_narrow_fraction (members row)) (members (matrix_at d))
-  matrix_alike agreed = all_alike is_row reads_row (λ row. list_all is_narrow_fraction (members row)) row_alike (members (matrix_at d)) (rows_formed agreed)
+  matrix_alike : says_yes d ≡ true → has_entry_keys d ≡ false → reads_matrix d ≡ is_narrow_matrix d
+  matrix_alike agreed other =
+      all_alike is_row reads_row (λ row. list_all is_narrow_fraction (members row)) row_alike (members (matrix_at d)) (rows_formed agreed other)
+
+  named_alike : says_yes d ≡ true → has_entry_keys d ≡ true → reads_named d ≡ are_narrow_entries d
+  named_alike agreed named =
+      let rows = split_and (is_size (rows_at d)) _ (entries_formed agreed named) in
+      let columns = split_and (is_size (columns_at d)) _ rows.1 in
+      let entries = split_and (is_list (entries_at d)) _ columns.1 in
+      λ i. size_alike (rows_at d) rows.0 i && (size_alike (columns_at d) columns.0 i
+      && all_alike is_entry reads_entry is_narrow_entry entry_alike (members (entries_at d)) entries.1 i)
+
+  yes_alike : says_yes d ≡ true → reads_yes d ≡ is_narrow_yes d
+  yes_alike agreed = by_keys (has_entry_keys d) refl
+    where
+      by_keys : (b : Bool) → has_entry_keys d ≡ b → (if b then reads_named d else reads_matrix d) ≡ (if b then are_narrow_entries d else is_narrow_matrix d)
+      by_keys true named = named_alike agreed named
+      by_keys false other = matrix_alike agreed other
 
   pub reads_narrow : reads_cert d ≡ narrow d
   reads_narrow = by_verdict (says_yes d) refl
     where
-      by_verdict : (b : Bool) → says_yes d ≡ b
-          → (if b then reads_matrix d else reads_table d) ≡ (if b then list_all (λ row. list_all is_narrow_fraction (members row)) (members (matrix_at d)) else narrow_table)
-      by_verdict true agreed = matrix_alike agreed
+      by_verdict : (b : Bool) → says_yes d ≡ b → (if b then reads_yes d else reads_table d) ≡ (if b then is_narrow_yes d else is_narrow_table d)
+      by_verdict true agreed = yes_alike agreed
       by_verdict false other = table_alike other
 
 -- ---- the answer
@@ -134,18 +160,27 @@ answer d fault = elim fault [ None ↦ Ok (cert_said d) | Some e ↦ Err e ]
 abbrev answer_of : Option Data → Result CertTree CertError
 answer_of found = elim found [ None ↦ Err broken.Json | Some d ↦ cert_in d ]
 
+abbrev last_two : Data → List (Bool × CertError)
+last_two d = (narrow d, broken.Wide) ∷ (form_7 d, broken.Form 7) ∷ []
+
 module _ (bytes : List ℕ) (d : Data) (is : json_of bytes ≡ Some d) where
   pub cert_misformed : (e : CertError) → first_broken (take 6 (rules d)) None ≡ Some e → cert_of bytes ≡ Err e
-  cert_misformed e fault = ap answer_of is ∙ ap (answer d) (broken_front (take 6 (rules d)) ((narrow d, broken.Wide) ∷ []) e fault)
+  cert_misformed e fault = ap answer_of is ∙ ap (answer d) (broken_front (take 6 (rules d)) (last_two d) e fault)
 
   module _ (f : Formed d) where
-    of_formed : (b : Bool) → reads_cert d ≡ b → cert_of bytes ≡ answer d (first_broken ((b, broken.Wide) ∷ []) None)
+    of_formed : (b : Bool) → reads_cert d ≡ b → cert_of bytes ≡ answer d (first_broken ((b, broken.Wide) ∷ (form_7 d, broken.Form 7) ∷ []) None)
     of_formed b reads =
-        ap answer_of is ∙ ap (answer d) (past_six d ((narrow d, broken.Wide) ∷ []) f)
-        ∙ ap (λ n. answer d (first_broken ((n, broken.Wide) ∷ []) None)) (sym (reads_narrow d f) ∙ reads)
+        ap answer_of is ∙ ap (answer d) (past_six d (last_two d) f)
+        ∙ ap (λ n. answer d (first_broken ((n, broken.Wide) ∷ (form_7 d, broken.Form 7) ∷ []) None)) (sym (reads_narrow d f) ∙ reads)
 
-    pub cert_read : reads_cert d ≡ true → cert_of bytes ≡ Ok (cert_said d)
-    cert_read reads = of_formed true reads
+    of_narrow : reads_cert d ≡ true → (b : Bool) → form_7 d ≡ b → cert_of bytes ≡ answer d (first_broken ((b, broken.Form 7) ∷ []) None)
+    of_narrow reads b ordered = of_formed true reads ∙ ap (λ n. answer d (first_broken ((n, broken.Form 7) ∷ []) None)) ordered
+
+    pub cert_read : reads_cert d ≡ true → names_in_order (cert_said d) ≡ true → cert_of bytes ≡ Ok (cert_said d)
+    cert_read reads ordered = of_narrow reads true ordered
+
+    pub cert_unordered : reads_cert d ≡ true → names_in_order (cert_said d) ≡ false → cert_of bytes ≡ Err (broken.Form 7)
+    cert_unordered reads other = of_narrow reads false other
 
     pub cert_wide : reads_cert d ≡ false → cert_of bytes ≡ Err broken.Wide
     cert_wide wide = of_formed false wide
@@ -163,6 +198,11 @@ fraction_sound d is =
 
 row_sound : (row : Data) → is_row row ≡ true → All (λ f. 0 < f.den) (row_said row)
 row_sound row is = all_made (λ f. 0 < f.den) (λ f. fraction_said (text_of f)) is_fraction fraction_sound (members row) (split_and (is_list row) _ is).1
+
+entry_sound : (e : Data) → is_entry e ≡ true → 0 < (entry_said e).value.den
+entry_sound e is =
+    let three = split_and (length (members e) == 3) _ (split_and (is_list e) _ is).1 in
+    fraction_sound (at_place 2 e) (split_and (is_size (at_place 1 e)) _ (split_and (is_size (at_place 0 e)) _ three.1).1).1
 
 within : (z : ℤ) → is_narrow z ≡ true → unsigned_abs z ≤ limit
 within z is = leb-true (unsigned_abs z) limit is
@@ -194,12 +234,9 @@ not_empty [] some none = absurd (cc)
 not_empty (d ∷ ds) some none = absurd (cc)
 
 module _ (d : Data) (f : Formed d) (slim : narrow d ≡ true) where
-  abbrev slim_matrix : Bool
-  slim_matrix = list_all (λ row. list_all is_narrow_fraction (members row)) (members (matrix_at d))
-
   table_sound : says_yes d ≡ false → IsSoundTable (table_said d)
   table_sound other =
-      let slim_table : narrow_table d f ≡ true = subst (λ b. (if b then slim_matrix else narrow_table d f) ≡ true) other slim in
+      let slim_table : is_narrow_table d ≡ true = subst (λ b. (if b then is_narrow_yes d else is_narrow_table d) ≡ true) other slim in
       let numbers = split_and (is_whole_number (rest_at d)) _ (split_and (is_whole_number (over_at d)) _ (table_formed d f other).0).1 in
       let some = split_and (nat_le 1 (length (members (actions_at d)))) _ (split_and (is_list (actions_at d)) _ (table_formed d f other).1).1 in
       let over = split_and (is_narrow_whole (over_at d)) _ slim_table in
@@ -212,21 +249,46 @@ module _ (d : Data) (f : Formed d) (slim : narrow d ≡ true) where
             (within (whole_said (text_of (rest_at d))) rest.0) (actions_within (members (actions_at d)) rest.1);
       }
 
-  said_sound : IsSound (cert_said d)
+  named_sound : says_yes d ≡ true → has_entry_keys d ≡ true → names_in_order (Named (named_said d)) ≡ true → IsSoundNamed (named_said d)
+  named_sound agreed named ordered =
+      let columns = split_and (is_size (columns_at d)) _ (split_and (is_size (rows_at d)) _ (entries_formed d f agreed named)).1 in
+      record {
+        ordered = ordered;
+        positive = all_made (λ e. 0 < e.value.den) entry_said is_entry entry_sound (members (entries_at d)) (split_and (is_list (entries_at d)) _ columns.1).1;
+      }
+
+  -- what a yes says where it has the keys of named entries, and where it hasn't
+  abbrev said_by_keys : Bool → CertTree
+  said_by_keys b = if b then Named (named_said d) else Yes (map row_said (members (matrix_at d)))
+
+  yes_sound : says_yes d ≡ true → names_in_order (yes_said d) ≡ true → IsSound (yes_said d)
+  yes_sound agreed = by_keys (has_entry_keys d) refl
+    where
+      by_keys : (b : Bool) → has_entry_keys d ≡ b → names_in_order (said_by_keys b) ≡ true → IsSound (said_by_keys b)
+      by_keys true named ordered = named_sound agreed named ordered
+      by_keys false other ordered = all_made (λ row. All (λ f. 0 < f.den) row) row_said is_row row_sound (members (matrix_at d)) (rows_formed d f agreed other)
+
+  -- what a value says by its verdict
+  abbrev said_by_verdict : Bool → CertTree
+  said_by_verdict b = if b then yes_said d else No (table_said d)
+
+  said_sound : names_in_order (cert_said d) ≡ true → IsSound (cert_said d)
   said_sound = by_verdict (says_yes d) refl
     where
-      by_verdict : (b : Bool) → says_yes d ≡ b → IsSound (if b then Yes (map row_said (members (matrix_at d))) else No (table_said d))
-      by_verdict true agreed = all_made (λ row. All (λ f. 0 < f.den) row) row_said is_row row_sound (members (matrix_at d)) (rows_formed d f agreed)
-      by_verdict false other = table_sound other
+      by_verdict : (b : Bool) → says_yes d ≡ b → names_in_order (said_by_verdict b) ≡ true → IsSound (said_by_verdict b)
+      by_verdict true agreed ordered = yes_sound agreed ordered
+      by_verdict false other ordered = table_sound other
 
 pub read_sound : ReadSound
 read_sound bytes c = by_json (json_of bytes)
   where
     by_fault : (d : Data) (fault : Option CertError) → first_broken (rules d) None ≡ fault → answer d fault ≡ Ok c → IsSound c
     by_fault d None none is =
-        let all = formed_then d ((narrow d, broken.Wide) ∷ []) none in
+        let all = formed_then d (last_two d) none in
+        let slim = kept (narrow d) broken.Wide (first_broken ((form_7 d, broken.Form 7) ∷ []) None) all.1 in
+        let ordered = kept (form_7 d) (broken.Form 7) None slim.1 in
         let same : cert_said d ≡ c = (cc) in
-        subst IsSound same (said_sound d all.0 (kept (narrow d) broken.Wide None all.1).0)
+        subst IsSound same (said_sound d all.0 slim.0 ordered.0)
     by_fault d (Some e) some is = absurd (cc)
 
     by_json : (found : Option Data) → answer_of found ≡ Ok c → IsSound c

@@ -16,13 +16,16 @@ pub mod Members
 pub mod Multiples
 pub mod Named
 pub mod NamedEntries
+pub mod NamedRows
 pub mod Numbering
+pub mod PlaceOrder
 pub mod PlainTexts
 pub mod Printable
 pub mod Proclaiming
 pub mod ReadingBack
 pub mod Rejecting
 pub mod RowSums
+pub mod RowsMade
 pub mod SaidBack
 pub mod Separating
 pub mod Standing

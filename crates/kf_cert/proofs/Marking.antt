@@ -1,6 +1,6 @@
 -- A certificate has one mark at most, and each has one: its rules can be decided.
 use Rattle.std.proofs.Common.{◌≡◌, ◌⊎◌, inl, inr, ⊎_elim, ℕ, zero, suc, ◌+◌, ◌*◌, ◌<◌, ◌≤◌, List, [], ◌∷◌, All, Bool, true, false, length, get_or, refl, sym, ◌∙◌, subst, arith}
-use Rattle.std.specs.Prelude.{◌≢◌}
+use Rattle.std.specs.Prelude.{◌≢◌, Result}
 use Rattle.std.specs.List.{list_all}
 use Rattle.std.proofs.Math.IntN.{ℤ, pos, ◌*ℤ◌}
 use Rattle.std.proofs.lemmas.Bool.{cases_eq, cases_lt}
@@ -22,13 +22,14 @@ use Rattle.kf_json.specs.Rules.{are_distinct}
 use Rattle.kf_simplex.specs.Base.{total}
 use Rattle.kf_simplex.proofs.Sums.{total_all_zero}
 use Rattle.kf_refine.specs.Refinements.{HyperTree, Fraction, count, joint, IsShaped, CarriesWeights, Separates}
-use Rattle.kf_refine.specs.Verdicts.{Yes, No}
 use Rattle.kf_refine.specs.Views.{IsProper}
-use Rattle.kf_cert.specs.Certificates.{NamedTable}
+use Rattle.kf_cert.specs.Certificates.{NamedTable, Yes, Named, No, matrix_of}
 use Rattle.kf_cert.specs.declared.cert.CertAction.{CertAction}
-use Rattle.kf_cert.specs.Marks.{Unless, IsInRange, denominator, over_one, SumToOne, value_texts, NamesValues, width, StandsFor, IsSeparating}
+use Rattle.kf_cert.specs.Marks.{Unless, MarkedByRules, IsInRange, denominator, over_one, SumToOne, value_texts, NamesValues, width, StandsFor, IsSeparating}
 use Rattle.kf_cert.specs.Views.{IsSoundTable}
 use Rattle.kf_cert.specs.Laws.{OneMark, SomeMark}
+use Rattle.kf_cert.specs.declared.mark.Mark.{Mark}
+use Rattle.kf_cert.specs.declared.mark.CheckError.{CheckError}
 use Rattle.kf_cert.proofs.Numbering.{table_made, one_table, table_acts}
 
 -- ---- one mark at most
@@ -45,9 +46,12 @@ module _ {R : Type 0} where
   last_one : (last r q : R) → r ≡ last → q ≡ last → r ≡ q
   last_one last r q is same = is ∙ sym same
 
+one_by_rules : (a b : HyperTree) (rows : List (List Fraction)) (r q : Result Mark CheckError) → MarkedByRules a b rows r → MarkedByRules a b rows q → r ≡ q
+one_by_rules a b rows r q = unless_one _ _ _ (unless_one _ _ _ (unless_one _ _ _ (unless_one _ _ _ (last_one _)))) r q
+
 pub one_mark : OneMark
-one_mark a b (Yes rows) r q =
-    unless_one _ _ _ (unless_one _ _ _ (unless_one _ _ _ (unless_one _ _ _ (unless_one _ _ _ (last_one _))))) r q
+one_mark a b (Yes rows) r q = unless_one _ _ _ (one_by_rules a b rows) r q
+one_mark a b (Named t) r q = unless_one _ _ _ (one_by_rules a b (matrix_of t)) r q
 one_mark a b (No t) r q = unless_one _ _ _ (unless_one _ _ _ (unless_one _ _ _ (last_one _))) r q
 
 -- ---- what can be decided
@@ -213,13 +217,18 @@ module _ {R : Type 0} (holds : Type 0) (broken : R) (next : R → Type 0) where
   some_unless (inl h) some = let after = some h in (after.0, inr (h, after.1))
   some_unless (inr never) some = (broken, inl (never, refl))
 
-pub some_mark : SomeMark
-some_mark a b (Yes rows) is_a is_b same sound =
-    some_unless _ _ _ (decide_shape (count a) (count b) rows) (λ shape.
+some_by_rules : (a b : HyperTree) (rows : List (List Fraction)) → IsProper a → IsProper b → (r : Result Mark CheckError) × MarkedByRules a b rows r
+some_by_rules a b rows is_a is_b =
     some_unless _ _ _ (decide_range rows) (λ range.
     some_unless _ _ _ (decide_le (a.scale * denominator rows) limit) (λ fits.
     some_unless _ _ _ (decide_sums (count a) (count b) rows) (λ sum.
-    some_unless _ _ _ (decide_cells a b (denominator rows) (over_one rows) is_a is_b) (λ cell. (_, refl))))))
+    some_unless _ _ _ (decide_cells a b (denominator rows) (over_one rows) is_a is_b) (λ cell. (_, refl)))))
+
+pub some_mark : SomeMark
+some_mark a b (Yes rows) is_a is_b same sound =
+    some_unless _ _ _ (decide_shape (count a) (count b) rows) (λ shape. some_by_rules a b rows is_a is_b)
+some_mark a b (Named t) is_a is_b same sound =
+    some_unless _ _ _ (decide_both (cases_eq t.rows (count a)) (cases_eq t.columns (count b))) (λ sizes. some_by_rules a b (matrix_of t) is_a is_b)
 some_mark a b (No t) is_a is_b same sound =
     some_unless _ _ _ (decide_values a t) (λ known.
     some_unless _ _ _ (decide_both (decide_le (a.scale * width t) limit) (decide_le (b.scale * width t) limit)) (λ fits.

@@ -42,10 +42,11 @@ use Rattle.kf_refine.specs.Shapes.{IsWritable, IsWritableAction}
 use Rattle.kf_refine.specs.Verdicts.{No, Runs, IsMatrixOf, IsTableOf, IsActionOf, action_at, multiplier}
 use Rattle.kf_refine.specs.Views.{IsProper}
 use Rattle.kf_refine.proofs.Spreading.{pair_below}
-use Rattle.kf_cert.specs.Views.{IsLowest, IsPrintable}
+use Rattle.kf_cert.specs.Views.{IsLowest, IsPrintable, IsPrintableMatrix}
 use Rattle.kf_cert.proofs.Denominators.{from_entries}
 use Rattle.kf_cert.proofs.Marking.{no_weight}
 use Rattle.kf_cert.proofs.Named.{IsNamable}
+use Rattle.kf_cert.proofs.NamedRows.{widest_most}
 
 -- ---- the fractions of a solution
 
@@ -73,6 +74,30 @@ lowest_at (x ∷ xs) (suc k) = lowest_at xs k
 pub matrix_lowest : (m n : ℕ) (solution : List Frac) (rows : List (List Fraction)) → IsMatrixOf m n solution rows → All (λ row. All IsLowest row) rows
 matrix_lowest m n solution rows is =
     from_entries IsLowest m n rows is.shape (λ i j l k. subst IsLowest (sym (is.entries i j l k)) (lowest_at solution (i * n + j)))
+
+-- a hyper has no more inners than its scale
+count_most : (inners : List Inner) → All (λ i. 0 < i.total) inners → length inners ≤ sum_by (λ i. i.total) inners
+count_most [] used = omega arith
+count_most (i ∷ inners) used =
+    omega (
+      arith,
+      sum_by-cons (λ (i : Inner). i.total) i inners,
+      All-head (λ (i : Inner). 0 < i.total) i inners used,
+      count_most inners (All-tail (λ (i : Inner). 0 < i.total) i inners used),
+    )
+
+count_fits : (h : HyperTree) → IsProper h → count h ≤ limit
+count_fits h proper = omega (arith, count_most h.inners proper.used, proper.whole, proper.narrow)
+
+pub matrix_printable : (a b : HyperTree) (solution : List Frac) (rows : List (List Fraction)) → IsProper a → IsProper b → IsMatrixOf (count a) (count b) solution rows
+    → IsPrintableMatrix rows
+matrix_printable a b solution rows is_a is_b is = record {
+  lowest = matrix_lowest (count a) (count b) solution rows is;
+  small = record {
+    rows = omega (arith, is.shape.many, count_fits a is_a);
+    columns = omega (arith, widest_most (count b) rows is.shape.each, count_fits b is_b);
+  };
+}
 
 -- ---- bounds of whole numbers
 

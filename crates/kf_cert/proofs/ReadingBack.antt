@@ -1,7 +1,7 @@
 -- The certificate that is written of a verdict is read back.
 use Rattle.std.proofs.Common.{◌≡◌, ℕ, suc, ◌≤◌, List, [], ◌∷◌, map, false, Option, None, Some, Err, Result, IsUtf8, codes, refl, ap, ◌∙◌, arith}
 use Rattle.std.specs.Prelude.{All}
-use Rattle.std.specs.Fmt.{signed_decimal}
+use Rattle.std.specs.Fmt.{decimal, signed_decimal}
 use Rattle.std.proofs.lemmas.List.Elements.{All-head, All-tail}
 use Rattle.json.proofs.Printed.Utf8.{IsUtf8-are_ascii}
 use Rattle.serde_json.specs.Data.{Data, string, array, depth, items_depth}
@@ -14,11 +14,11 @@ use Rattle.kf_json.proofs.Viewing.{json_read}
 use Rattle.kf_gain.specs.declared.table.Action.{Action}
 use Rattle.kf_gain.specs.declared.table.GainEntry.{GainEntry}
 use Rattle.kf_gain.specs.Gains.{TableTree}
-use Rattle.kf_refine.specs.Refinements.{Fraction}
 use Rattle.kf_refine.specs.Shapes.{IsWritable, IsWritableAction}
-use Rattle.kf_refine.specs.Verdicts.{VerdictTree, Yes, No}
-use Rattle.kf_cert.specs.Certificates.{CertTree, cert_in}
-use Rattle.kf_cert.specs.CertTexts.{items, row_data, gain_data, action_data, yes_data, no_data, cert_data, cert_text}
+use Rattle.kf_refine.specs.Verdicts.{VerdictTree}
+use Rattle.kf_refine.specs.Verdicts as verdict
+use Rattle.kf_cert.specs.Certificates.{CertTree, EntryTree, NamedTree, cert_in}
+use Rattle.kf_cert.specs.CertTexts.{items, entry_data, named_data, named_of, gain_data, action_data, no_data, cert_data, cert_text}
 use Rattle.kf_cert.specs.Laws.{ReadsBack}
 use Rattle.kf_cert.specs.Views.{IsPrintable}
 use Rattle.kf_cert.specs.declared.cert.CertError.{CertError}
@@ -71,24 +71,39 @@ readable_string bytes utf8 = record { texts = utf8; shallow = omega arith; order
 
 -- ---- a yes
 
-row_readable : (row : List Fraction) → IsReadable 1 (row_data row)
-row_readable row =
-    readable_list 0 (map (λ (f : Fraction). string (fraction_text f.num f.den)) row)
-    (readable_each (λ (f : Fraction). Unit {0}) 0 (λ (f : Fraction). string (fraction_text f.num f.den)) (λ f h. readable_string (fraction_text f.num f.den) (fraction_utf8 f.num f.den)) row (anything row))
+entry_readable : (e : EntryTree) → IsReadable 1 (entry_data e)
+entry_readable e =
+    readable_list 0 (string (decimal e.row) ∷ string (decimal e.column) ∷ string (fraction_text e.value.num e.value.den) ∷ [])
+    (readable_more 0 _ _ (readable_string (decimal e.row) (decimal_utf8 e.row))
+    (readable_more 0 _ _ (readable_string (decimal e.column) (decimal_utf8 e.column))
+    (readable_more 0 _ [] (readable_string (fraction_text e.value.num e.value.den) (fraction_utf8 e.value.num e.value.den))
+    (record { texts = tt; shallow = omega arith; ordered = refl; whole = refl }))))
 
-yes_readable : (rows : List (List Fraction)) → IsReadable max_depth (yes_data rows)
-yes_readable rows =
-    let matrix : IsReadable 2 (array (items (map row_data rows))) =
-    readable_list 1 (map row_data rows) (readable_each (λ (row : List Fraction). Unit {0}) 1 row_data (λ row h. row_readable row) rows (anything rows)) in
+named_readable : (t : NamedTree) → IsReadable max_depth (named_data t)
+named_readable t =
+    let entries : IsReadable 2 (array (items (map entry_data t.entries))) =
+    readable_list 1 (map entry_data t.entries) (readable_each (λ (e : EntryTree). Unit {0}) 1 entry_data (λ e h. entry_readable e) t.entries (anything t.entries)) in
     record {
       texts = (
-        IsUtf8-are_ascii (codes "format") refl,
-        IsUtf8-are_ascii (codes "kuifje-cert-1") refl,
-        (IsUtf8-are_ascii (codes "matrix") refl, matrix.texts, (IsUtf8-are_ascii (codes "verdict") refl, IsUtf8-are_ascii (codes "yes") refl, tt)),
+        IsUtf8-are_ascii (codes "columns") refl,
+        decimal_utf8 t.columns,
+        (
+          IsUtf8-are_ascii (codes "entries") refl,
+          entries.texts,
+          (
+            IsUtf8-are_ascii (codes "format") refl,
+            IsUtf8-are_ascii (codes "kuifje-cert-2") refl,
+            (
+              IsUtf8-are_ascii (codes "rows") refl,
+              decimal_utf8 t.rows,
+              (IsUtf8-are_ascii (codes "verdict") refl, IsUtf8-are_ascii (codes "yes") refl, tt),
+            ),
+          ),
+        ),
       );
-      shallow = omega (arith, matrix.shallow);
-      ordered = rw matrix.ordered refl;
-      whole = rw matrix.whole refl;
+      shallow = omega (arith, entries.shallow);
+      ordered = rw entries.ordered refl;
+      whole = rw entries.whole refl;
     }
 
 -- ---- a no
@@ -111,7 +126,7 @@ module _ (target : List Item) where
         whole = rw gains.whole refl;
       }
 
-  no_readable : (t : TableTree) → IsWritable target (No t) → IsReadable max_depth (no_data target t)
+  no_readable : (t : TableTree) → IsWritable target (verdict.No t) → IsReadable max_depth (no_data target t)
   no_readable t can =
       let actions : IsReadable 4 (array (items (map (action_data target) t.actions))) =
       readable_list 3 (map (action_data target) t.actions) (readable_each (IsWritableAction target) 3 (action_data target) action_readable t.actions can) in
@@ -121,7 +136,7 @@ module _ (target : List Item) where
           actions.texts,
           (
             IsUtf8-are_ascii (codes "format") refl,
-            IsUtf8-are_ascii (codes "kuifje-cert-1") refl,
+            IsUtf8-are_ascii (codes "kuifje-cert-2") refl,
             (
               IsUtf8-are_ascii (codes "over") refl,
               decimal_utf8 t.over,
@@ -139,8 +154,8 @@ module _ (target : List Item) where
       }
 
 cert_readable : (target : List Item) (v : VerdictTree) → IsWritable target v → IsReadable max_depth (cert_data target v)
-cert_readable target (Yes rows) can = yes_readable rows
-cert_readable target (No t) can = no_readable target t can
+cert_readable target (verdict.Yes rows) can = named_readable (named_of rows)
+cert_readable target (verdict.No t) can = no_readable target t can
 
 -- a verdict's value has no number
 pub cert_has_no_float : (target : List Item) (v : VerdictTree) → IsWritable target v → has_float (cert_data target v) ≡ false
@@ -149,8 +164,8 @@ cert_has_no_float target v can = (cert_readable target v can).whole
 -- ---- the law
 
 printable_writable : (target : List Item) (v : VerdictTree) → IsPrintable target v → IsWritable target v
-printable_writable target (Yes rows) can = tt
-printable_writable target (No t) can = can.1
+printable_writable target (verdict.Yes rows) can = tt
+printable_writable target (verdict.No t) can = can.1
 
 json_back : (target : List Item) (v : VerdictTree) → IsPrintable target v → json_of (cert_text target v) ≡ Some (cert_data target v)
 json_back target v can =

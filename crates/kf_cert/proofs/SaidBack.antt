@@ -1,5 +1,5 @@
 -- The JSON value that is written of a verdict keeps all rules, and says the verdict.
-use Rattle.std.proofs.Common.{◌≡◌, ◌≢◌, ℕ, ◌<◌, ◌≤◌, ◌^◌, nat_le, List, [], ◌∷◌, ◌++◌, length, map, Bool, true, ◌&&◌, Option, None, Some, Ok, Err, Result, refl, ap, ap₂, ◌∙◌, arith}
+use Rattle.std.proofs.Common.{◌≡◌, ◌≢◌, ℕ, ◌<◌, ◌≤◌, ◌^◌, nat_le, List, [], ◌∷◌, ◌++◌, length, map, Bool, true, not, ◌&&◌, Option, None, Some, Ok, Err, Result, refl, ap, ap₂, ◌∙◌, arith}
 use Rattle.std.proofs.Math.IntN.{ℤ, pos}
 use Rattle.std.specs.Prelude.{All, ⊤, decimal, int_le, unsigned_abs, flat_map}
 use Rattle.std.specs.Fmt.{signed_decimal}
@@ -9,7 +9,7 @@ use Rattle.std.proofs.lemmas.List.Elements.{All-nil, All-cons, All-head, All-tai
 use Rattle.serde_json.specs.Data.{Data, string}
 use Rattle.kf_frac.specs.Fractions.{limit, fraction_text}
 use Rattle.kf_value.specs.Targets.{Item, target_value_text}
-use Rattle.kf_json.specs.Json.{listed, members, at_place, text_of}
+use Rattle.kf_json.specs.Json.{listed, at_place, text_of}
 use Rattle.kf_json.specs.Rules.{is_name, first_broken}
 use Rattle.kf_gain.specs.declared.table.Action.{Action}
 use Rattle.kf_gain.specs.declared.table.GainEntry.{GainEntry}
@@ -17,15 +17,17 @@ use Rattle.kf_gain.specs.Gains.{TableTree}
 use Rattle.kf_gain.specs.Shapes.{IsTableShape}
 use Rattle.kf_refine.specs.Refinements.{Fraction}
 use Rattle.kf_refine.specs.Shapes.{IsWritable, IsWritableAction}
-use Rattle.kf_refine.specs.Verdicts.{VerdictTree, Yes, No}
-use Rattle.kf_cert.specs.Numbers.{whole_said, fraction_said}
-use Rattle.kf_cert.specs.Certificates.{CertTree, NamedTable, narrow, is_fraction, is_row, is_action, has_numbers, has_actions, is_gain, is_named_action, is_narrow, is_narrow_fraction, is_narrow_whole, is_narrow_action, rules, row_said, action_said, table_said, cert_said, cert_in}
-use Rattle.kf_cert.specs.CertTexts.{items, row_data, gain_data, action_data, yes_data, no_data, cert_data}
-use Rattle.kf_cert.specs.Views.{IsLowest, IsPrintable, named_by, read_back}
+use Rattle.kf_refine.specs.Verdicts.{VerdictTree}
+use Rattle.kf_refine.specs.Verdicts as verdict
+use Rattle.kf_cert.specs.Numbers.{whole_said}
+use Rattle.kf_cert.specs.Certificates.{CertTree, Named, No, EntryTree, NamedTable, NamedTree, narrow, is_size, is_entry, has_entries, is_action, has_numbers, has_actions, is_gain, is_named_action, is_narrow, is_narrow_fraction, is_narrow_whole, is_narrow_action, is_narrow_entry, are_narrow_entries, is_in_order, rules, size_said, entry_said, named_said, action_said, table_said, cert_said, cert_in}
+use Rattle.kf_cert.specs.CertTexts.{items, entry_data, named_data, named_of, widest, gain_data, action_data, no_data, cert_data}
+use Rattle.kf_cert.specs.Views.{IsLowest, IsPrintable, IsPrintableMatrix, named_by, read_back}
 use Rattle.kf_cert.specs.declared.cert.CertAction.{CertAction}
 use Rattle.kf_cert.specs.declared.cert.CertEntry.{CertEntry}
 use Rattle.kf_cert.specs.declared.cert.CertError.{CertError}
-use Rattle.kf_cert.proofs.Decimals.{whole_text, whole_is, numerator_read, denominator_read, fraction_is_text, fraction_read}
+use Rattle.kf_cert.proofs.Decimals.{whole_text, whole_is, no_minus, numerator_read, denominator_read, fraction_is_text, fraction_read}
+use Rattle.kf_cert.proofs.NamedRows.{IsGoodEntry, all_good, in_order}
 
 -- ---- lists
 
@@ -82,23 +84,81 @@ fraction_narrow f low =
     ap₂ (λ (z : ℤ) (d : ℕ). is_narrow z && nat_le d limit) (numerator_read f low) (denominator_read f low)
     ∙ ap₂ (λ (a b : Bool). a && b) (narrow_is f.num low.narrow_num) (le-leb f.den limit low.narrow_den)
 
-row_passes : (row : List Fraction) → All IsLowest row → is_row (row_data row) ≡ true
-row_passes row low = each_passes IsLowest is_fraction (λ f. string (fraction_text f.num f.den)) fraction_is_text row low
+module _ (n : ℕ) (fits : n ≤ limit) where
+  small : n < 10 ^ 64
+  small = omega (arith, fits)
 
-row_narrow : (row : List Fraction) → All IsLowest row → list_all is_narrow_fraction (members (row_data row)) ≡ true
-row_narrow row low = each_passes IsLowest is_narrow_fraction (λ f. string (fraction_text f.num f.den)) fraction_narrow row low
+  size_back : whole_said (decimal n) ≡ pos n
+  size_back = whole_is (pos n) small
 
-row_back : (row : List Fraction) → All IsLowest row → row_said (row_data row) ≡ row
-row_back row low =
-    each_read IsLowest (λ (d : Data). fraction_said (text_of d)) (λ f. string (fraction_text f.num f.den)) (λ (f : Fraction). f) fraction_read row low
-    ∙ map_same row
+  -- a size passes, is narrow, and is said
+  size_passes : is_size (string (decimal n)) ≡ true
+  size_passes = ap₂ (λ (a b : Bool). a && b) (whole_text (pos n) small) (ap not (no_minus n small))
 
-yes_said : (rows : List (List Fraction)) → All (All IsLowest) rows → cert_in (yes_data rows) ≡ Ok (Yes rows)
-yes_said rows low =
-    let formed = each_passes (All IsLowest) is_row row_data row_passes rows low in
-    let fits = each_passes (All IsLowest) (λ (row : Data). list_all is_narrow_fraction (members row)) row_data row_narrow rows low in
-    said (yes_data rows) (refl, (refl, (refl, (formed, (refl, (refl, (fits, tt)))))))
-    ∙ ap (λ (m : List (List Fraction)). Ok (Yes m)) (each_read (All IsLowest) row_said row_data (λ (row : List Fraction). row) row_back rows low ∙ map_same rows)
+  size_narrow : is_narrow_whole (string (decimal n)) ≡ true
+  size_narrow = ap is_narrow size_back ∙ narrow_is (pos n) fits
+
+  size_is : size_said (string (decimal n)) ≡ n
+  size_is = ap unsigned_abs size_back
+
+-- an entry at a place that numbers name
+record IsWritableEntry (e : EntryTree) : Type 0 where
+  row : e.row ≤ limit
+  column : e.column ≤ limit
+  value : IsLowest e.value
+
+entry_passes : (e : EntryTree) → IsWritableEntry e → is_entry (entry_data e) ≡ true
+entry_passes e good =
+    ap₂ (λ (a b : Bool). a && b) (size_passes e.row good.row)
+    (ap₂ (λ (a b : Bool). a && b) (size_passes e.column good.column) (fraction_is_text e.value good.value))
+
+entry_narrow : (e : EntryTree) → IsWritableEntry e → is_narrow_entry (entry_data e) ≡ true
+entry_narrow e good =
+    ap₂ (λ (a b : Bool). a && b) (size_narrow e.row good.row)
+    (ap₂ (λ (a b : Bool). a && b) (size_narrow e.column good.column) (fraction_narrow e.value good.value))
+
+entry_read : (e : EntryTree) → IsWritableEntry e → entry_said (entry_data e) ≡ e
+entry_read e good i = record {
+  row = size_is e.row good.row i;
+  column = size_is e.column good.column i;
+  value = fraction_read e.value good.value i;
+}
+
+-- named entries that can be written, in their order
+module _ (t : NamedTree) (rows : t.rows ≤ limit) (columns : t.columns ≤ limit) (good : All IsWritableEntry t.entries) (ordered : is_in_order t ≡ true) where
+  entries_pass : has_entries (named_data t) ≡ true
+  entries_pass =
+      ap₂ (λ (a b : Bool). a && b) (size_passes t.rows rows)
+      (ap₂ (λ (a b : Bool). a && b) (size_passes t.columns columns) (each_passes IsWritableEntry is_entry entry_data entry_passes t.entries good))
+
+  entries_fit : are_narrow_entries (named_data t) ≡ true
+  entries_fit =
+      ap₂ (λ (a b : Bool). a && b) (size_narrow t.rows rows)
+      (ap₂ (λ (a b : Bool). a && b) (size_narrow t.columns columns) (each_passes IsWritableEntry is_narrow_entry entry_data entry_narrow t.entries good))
+
+  named_back : named_said (named_data t) ≡ t
+  named_back i = record {
+    rows = size_is t.rows rows i;
+    columns = size_is t.columns columns i;
+    entries = (each_read IsWritableEntry entry_said entry_data (λ (e : EntryTree). e) entry_read t.entries good ∙ map_same t.entries) i;
+  }
+
+  entries_said : cert_in (named_data t) ≡ Ok (Named t)
+  entries_said =
+      said (named_data t) (refl, (refl, (refl, (entries_pass, (refl, (refl, (entries_fit, (ap is_in_order named_back ∙ ordered, tt))))))))
+      ∙ ap (λ (m : NamedTree). Ok (Named m)) named_back
+
+yes_said : (rows : List (List Fraction)) → IsPrintableMatrix rows → cert_in (named_data (named_of rows)) ≡ Ok (Named (named_of rows))
+yes_said rows can =
+    entries_said (named_of rows) can.small.rows can.small.columns
+    (λ k d within. writable (all_good rows can.lowest k d within)) (in_order rows can.lowest)
+  where
+    writable : {e : EntryTree} → IsGoodEntry (length rows) (widest rows) e → IsWritableEntry e
+    writable good = record {
+      row = omega (arith, good.row, can.small.rows);
+      column = omega (arith, good.column, can.small.columns);
+      value = good.value;
+    }
 
 -- ---- a no
 
@@ -165,7 +225,7 @@ module _ (target : List Item) where
   some_actions [] some = absurd (some refl)
   some_actions (a ∷ actions) some = le-leb 1 _ (omega arith)
 
-  module _ (t : TableTree) (shape : IsTableShape t) (writable : IsWritable target (No t)) where
+  module _ (t : TableTree) (shape : IsTableShape t) (writable : IsWritable target (verdict.No t)) where
     good_actions : All IsGood t.actions
     good_actions = both_named target t.actions writable (actions_narrow t.actions (All-tail IsNarrow t.rest (flat_map (λ (a : Action). map (λ (e : GainEntry). e.gain) a.gains) t.actions) shape.within))
 
@@ -204,9 +264,9 @@ module _ (target : List Item) where
 
     no_said : cert_in (no_data target t) ≡ Ok (No (named_by target t))
     no_said =
-        said (no_data target t) (refl, (refl, (refl, (refl, (ap₂ (λ (x y : Bool). x && y) numbers_pass actions_pass, (each_passes IsGood is_named_action (action_data target) action_passes t.actions good_actions, (fits, tt)))))))
+        said (no_data target t) (refl, (refl, (refl, (refl, (ap₂ (λ (x y : Bool). x && y) numbers_pass actions_pass, (each_passes IsGood is_named_action (action_data target) action_passes t.actions good_actions, (fits, (refl, tt))))))))
         ∙ ap (λ (n : NamedTable). Ok (No n)) table_back
 
 pub cert_back : (target : List Item) (v : VerdictTree) → IsPrintable target v → cert_in (cert_data target v) ≡ Ok (read_back target v)
-cert_back target (Yes rows) low = yes_said rows low
-cert_back target (No t) can = no_said target t can.0 can.1
+cert_back target (verdict.Yes rows) can = yes_said rows can
+cert_back target (verdict.No t) can = no_said target t can.0 can.1

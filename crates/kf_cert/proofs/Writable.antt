@@ -9,7 +9,7 @@ use Rattle.kf_refine.specs.Shapes.{IsWritable}
 use Rattle.kf_refine.specs.Views.{fraction_of, verdict_tree}
 use Rattle.kf_refine.specs.declared.verdict.Verdict.{Verdict}
 use Rattle.kf_refine.specs.declared.verdict.Verdict.TheVariants as verdict
-use Rattle.kf_cert.specs.Views.{IsLowest, IsPrintable}
+use Rattle.kf_cert.specs.Views.{IsLowest, HasSmall, IsPrintable}
 
 lowest : (f : Frac) → IsLowest (fraction_of f)
 lowest f = record {
@@ -28,6 +28,6 @@ lowest_rows : (rows : List (List Frac)) → All (All IsLowest) (map (map fractio
 lowest_rows [] = All-nil (All IsLowest)
 lowest_rows (row ∷ rows) = All-cons (All IsLowest) (map fraction_of row) (map (map fraction_of) rows) (lowest_row row) (lowest_rows rows)
 
-pub printable : (target : List Item) (v : Verdict) → IsWritable target (verdict_tree v) → IsPrintable target (verdict_tree v)
-printable target (verdict.Yes m) can = lowest_rows m.rows
-printable target (verdict.No t) can = (t.shape, can)
+pub printable : (target : List Item) (v : Verdict) → IsWritable target (verdict_tree v) → HasSmall (verdict_tree v) → IsPrintable target (verdict_tree v)
+printable target (verdict.Yes m) can small = record { lowest = lowest_rows m.rows; small = small }
+printable target (verdict.No t) can small = (t.shape, can)

@@ -1,5 +1,5 @@
 -- Believed: certificates as they are written.
-use Rattle.std.specs.Prelude.{ℕ, List, [], ◌∷◌, ◌++◌, map, codes}
+use Rattle.std.specs.Prelude.{ℕ, ◌+◌, ◌==◌, max, unsigned_abs, List, [], ◌∷◌, ◌++◌, map, length, codes, if◌then◌else◌}
 use Rattle.std.specs.Fmt.{decimal, signed_decimal}
 use Rattle.serde_json.specs.Data.{Data, string, array, object, Items, no_items, item, no_members, member}
 use Rattle.serde_json.specs.Written.{compact_text}
@@ -10,14 +10,11 @@ use Rattle.kf_gain.specs.declared.table.GainEntry.{GainEntry}
 use Rattle.kf_gain.specs.Gains.{TableTree}
 use Rattle.kf_refine.specs.Refinements.{Fraction}
 use Rattle.kf_refine.specs.Verdicts.{VerdictTree, Yes, No}
+use Rattle.kf_cert.specs.Certificates.{EntryTree, NamedTree}
 
 abbrev pub items : List Data → Items
 items [] = no_items
 items (d ∷ ds) = item d (items ds)
-
--- a row of a matrix
-abbrev pub row_data : List Fraction → Data
-row_data row = array (items (map (λ f. string (fraction_text f.num f.den)) row))
 
 -- the text of a value, and that of its gain
 abbrev pub gain_data : List Item → GainEntry → Data
@@ -27,23 +24,55 @@ abbrev pub action_data : List Item → Action → Data
 action_data target a =
     object (member (codes "gains") (array (items (map (gain_data target) a.gains))) (member (codes "name") (string a.name) no_members))
 
-abbrev pub yes_data : List (List Fraction) → Data
-yes_data rows =
-    object (member (codes "format") (string (codes "kuifje-cert-1"))
-    (member (codes "matrix") (array (items (map row_data rows)))
-    (member (codes "verdict") (string (codes "yes")) no_members)))
+-- a named entry: the texts of its row, its column and its value
+abbrev pub entry_data : EntryTree → Data
+entry_data e =
+    array (item (string (decimal e.row)) (item (string (decimal e.column))
+    (item (string (fraction_text e.value.num e.value.den)) no_items)))
+
+abbrev pub named_data : NamedTree → Data
+named_data t =
+    object (member (codes "columns") (string (decimal t.columns))
+    (member (codes "entries") (array (items (map entry_data t.entries)))
+    (member (codes "format") (string (codes "kuifje-cert-2"))
+    (member (codes "rows") (string (decimal t.rows))
+    (member (codes "verdict") (string (codes "yes")) no_members)))))
 
 abbrev pub no_data : List Item → TableTree → Data
 no_data target t =
     object (member (codes "actions") (array (items (map (action_data target) t.actions)))
-    (member (codes "format") (string (codes "kuifje-cert-1"))
+    (member (codes "format") (string (codes "kuifje-cert-2"))
     (member (codes "over") (string (decimal t.over))
     (member (codes "rest") (string (signed_decimal t.rest))
     (member (codes "verdict") (string (codes "no")) no_members)))))
 
+-- ---- a matrix by its entries that aren't 0
+
+-- how long its longest row is
+abbrev pub widest : List (List Fraction) → ℕ
+widest [] = 0
+widest (row ∷ rows) = max (length row) (widest rows)
+
+-- those of row i, from column j on
+abbrev pub row_entries : ℕ → ℕ → List Fraction → List EntryTree
+row_entries i j [] = []
+row_entries i j (f ∷ row) =
+    (if unsigned_abs f.num == 0 then [] else record { row = i; column = j; value = f } ∷ []) ++ row_entries i (j + 1) row
+
+-- those of all rows, from row i on
+abbrev pub rows_entries : ℕ → List (List Fraction) → List EntryTree
+rows_entries i [] = []
+rows_entries i (row ∷ rows) = row_entries i 0 row ++ rows_entries (i + 1) rows
+
+-- as many rows as there are, as many columns as the longest has, and the entries that aren't 0 in the order of their places
+abbrev pub named_of : List (List Fraction) → NamedTree
+named_of rows = record { rows = length rows; columns = widest rows; entries = rows_entries 0 rows }
+
+-- ---- the text
+
 -- the JSON value of a verdict on hypers of a target
 abbrev pub cert_data : List Item → VerdictTree → Data
-cert_data target (Yes rows) = yes_data rows
+cert_data target (Yes rows) = named_data (named_of rows)
 cert_data target (No t) = no_data target t
 
 -- its text without spaces, and LF

@@ -1,13 +1,12 @@
 -- Believed: certificates as JSON files: which bytes are one, what it says, and the first rule that other bytes break.
-use Rattle.std.specs.Prelude.{ℕ, ◌&&◌, ◌||◌, ◌==◌, nat_le, ℤ, pos, int_le, unsigned_abs, List, [], ◌∷◌, map, length, Bool, not, None, Some, Result, Ok, Err, codes, if◌then◌else◌}
-use Rattle.std.specs.List.{list_all}
+use Rattle.std.specs.Prelude.{ℕ, ◌&&◌, ◌||◌, ◌==◌, nat_le, nat_lt, ℤ, pos, int_le, unsigned_abs, List, [], ◌∷◌, map, length, Bool, true, not, None, Some, Result, Ok, Err, codes, if◌then◌else◌}
+use Rattle.std.specs.List.{list_all, range_with_len}
 use Rattle.serde_json.specs.Data.{Data}
 use Rattle.kf_frac.specs.Fractions.{limit}
 use Rattle.kf_json.specs.Json.{json_of, has_keys, at_key, is_list, members, at_place, is_text, text_of, is_the_text}
 use Rattle.kf_json.specs.Rules.{is_name, first_broken}
 use Rattle.kf_refine.specs.Refinements.{Fraction}
-use Rattle.kf_refine.specs.Verdicts.{VerdictOf, Yes, No}
-use Rattle.kf_cert.specs.Numbers.{is_whole_text, is_fraction_text, whole_said, numerator_said, denominator_said, fraction_said}
+use Rattle.kf_cert.specs.Numbers.{is_negative, is_whole_text, is_fraction_text, whole_said, numerator_said, denominator_said, fraction_said}
 use Rattle.kf_cert.specs.declared.cert.CertAction.{CertAction}
 use Rattle.kf_cert.specs.declared.cert.CertError.{CertError}
 use Rattle.kf_cert.specs.declared.cert.CertError.TheVariants as broken
@@ -18,9 +17,56 @@ pub record NamedTable : Type 0 where
   pub rest : ℤ
   pub actions : List CertAction
 
--- a certificate: the matrix that is to prove a yes, or the table that is to prove a no
-abbrev pub CertTree : Type 0
-CertTree = VerdictOf NamedTable
+-- an entry of a matrix with its place, both counted from 0
+pub record EntryTree : Type 0 where
+  pub row : ℕ
+  pub column : ℕ
+  pub value : Fraction
+
+-- a matrix of so many rows and columns by the entries that it names
+pub record NamedTree : Type 0 where
+  pub rows : ℕ
+  pub columns : ℕ
+  pub entries : List EntryTree
+
+-- a certificate: the matrix that is to prove a yes, row by row or by named entries, or the table that is to prove a no
+pub data CertTree : Type 0 where
+  Yes : List (List Fraction) → CertTree
+  Named : NamedTree → CertTree
+  No : NamedTable → CertTree
+
+-- ---- the matrix of named entries
+
+-- an entry stands in row i and column j
+abbrev pub stands_at : ℕ → ℕ → EntryTree → Bool
+stands_at i j e = (e.row == i) && (e.column == j)
+
+-- the value that is named for row i and column j; 0 over 1 where none is
+abbrev pub value_at : List EntryTree → ℕ → ℕ → Fraction
+value_at [] i j = record { num = pos 0; den = 1 }
+value_at (e ∷ entries) i j = if stands_at i j e then e.value else value_at entries i j
+
+-- so many rows and columns, each entry the value that is named for its place
+abbrev pub matrix_of : NamedTree → List (List Fraction)
+matrix_of t = map (λ i. map (λ j. value_at t.entries i j) (range_with_len 0 t.columns)) (range_with_len 0 t.rows)
+
+-- an entry's place comes before row i and column j: it is in an earlier row, or in the same row and an earlier column
+abbrev pub comes_before : ℕ → ℕ → EntryTree → Bool
+comes_before i j e = nat_lt e.row i || ((e.row == i) && nat_lt e.column j)
+
+-- each place comes before the next
+abbrev pub ascends : List EntryTree → Bool
+ascends [] = true
+ascends (e ∷ []) = true
+ascends (e ∷ f ∷ entries) = comes_before f.row f.column e && ascends (f ∷ entries)
+
+-- each place is one of the matrix
+abbrev pub is_inside : ℕ → ℕ → EntryTree → Bool
+is_inside rows columns e = nat_lt e.row rows && nat_lt e.column columns
+
+-- the places ascend strictly, and all are places of the matrix
+abbrev pub is_in_order : NamedTree → Bool
+is_in_order t = ascends t.entries && list_all (is_inside t.rows t.columns) t.entries
 
 -- ---- what stands where
 
@@ -29,6 +75,15 @@ verdict_at d = at_key (codes "verdict") d
 
 abbrev pub matrix_at : Data → Data
 matrix_at d = at_key (codes "matrix") d
+
+abbrev pub rows_at : Data → Data
+rows_at d = at_key (codes "rows") d
+
+abbrev pub columns_at : Data → Data
+columns_at d = at_key (codes "columns") d
+
+abbrev pub entries_at : Data → Data
+entries_at d = at_key (codes "entries") d
 
 abbrev pub over_at : Data → Data
 over_at d = at_key (codes "over") d
@@ -51,21 +106,42 @@ says_yes d = is_the_text (codes "yes") (verdict_at d)
 abbrev pub says_no : Data → Bool
 says_no d = is_the_text (codes "no") (verdict_at d)
 
+-- the keys of a yes whose matrix stands row by row
+abbrev pub has_matrix_keys : Data → Bool
+has_matrix_keys d = has_keys (codes "format" ∷ codes "matrix" ∷ codes "verdict" ∷ []) d
+
+-- the keys of a yes whose matrix stands by named entries
+abbrev pub has_entry_keys : Data → Bool
+has_entry_keys d = has_keys (codes "columns" ∷ codes "entries" ∷ codes "format" ∷ codes "rows" ∷ codes "verdict" ∷ []) d
+
+-- the keys of a no
+abbrev pub has_table_keys : Data → Bool
+has_table_keys d = has_keys (codes "actions" ∷ codes "format" ∷ codes "over" ∷ codes "rest" ∷ codes "verdict" ∷ []) d
+
+-- the first format, and the second
+abbrev pub is_first_format : Data → Bool
+is_first_format d = is_the_text (codes "kuifje-cert-1") (at_key (codes "format") d)
+
+abbrev pub is_second_format : Data → Bool
+is_second_format d = is_the_text (codes "kuifje-cert-2") (at_key (codes "format") d)
+
 -- ---- the rules, each over the whole value; a later one presupposes those before it
 
 -- Form 1: an object whose verdict is one of two texts
 abbrev pub form_1 : Data → Bool
 form_1 d = says_yes d || says_no d
 
--- Form 2: exactly the keys of a yes, or of a no
+-- Form 2: exactly the keys of one of the two forms of a yes, or those of a no
 abbrev pub form_2 : Data → Bool
-form_2 d =
-    if says_yes d then has_keys (codes "format" ∷ codes "matrix" ∷ codes "verdict" ∷ []) d
-    else has_keys (codes "actions" ∷ codes "format" ∷ codes "over" ∷ codes "rest" ∷ codes "verdict" ∷ []) d
+form_2 d = if says_yes d then has_matrix_keys d || has_entry_keys d else has_table_keys d
 
--- Form 3: the format is this one
+-- the format of a yes with these keys
+abbrev pub has_yes_format : Data → Bool
+has_yes_format d = if has_entry_keys d then is_second_format d else is_first_format d
+
+-- Form 3: named entries are of the second format, a matrix row by row is of the first, and a no is of either
 abbrev pub form_3 : Data → Bool
-form_3 d = is_the_text (codes "kuifje-cert-1") (at_key (codes "format") d)
+form_3 d = if says_yes d then has_yes_format d else is_first_format d || is_second_format d
 
 -- a text that is a fraction
 abbrev pub is_fraction : Data → Bool
@@ -75,13 +151,33 @@ is_fraction d = is_text d && is_fraction_text (text_of d)
 abbrev pub is_row : Data → Bool
 is_row d = is_list d && list_all is_fraction (members d)
 
--- Form 4: a yes has a list of such lists
-abbrev pub form_4 : Data → Bool
-form_4 d = not (says_yes d) || (is_list (matrix_at d) && list_all is_row (members (matrix_at d)))
+-- a matrix row by row is a list of such lists
+abbrev pub has_rows : Data → Bool
+has_rows d = is_list (matrix_at d) && list_all is_row (members (matrix_at d))
 
 -- a text that is a whole number
 abbrev pub is_whole_number : Data → Bool
 is_whole_number d = is_text d && is_whole_text (text_of d)
+
+-- a text that is one, without a `-`
+abbrev pub is_size : Data → Bool
+is_size d = is_whole_number d && not (is_negative (text_of d))
+
+-- a list of three: the row and the column, which are such, and a fraction
+abbrev pub is_entry : Data → Bool
+is_entry e = is_list e && ((length (members e) == 3) && (is_size (at_place 0 e) && (is_size (at_place 1 e) && is_fraction (at_place 2 e))))
+
+-- `rows` and `columns` are such, and the named entries are a list of such lists
+abbrev pub has_entries : Data → Bool
+has_entries d = is_size (rows_at d) && (is_size (columns_at d) && (is_list (entries_at d) && list_all is_entry (members (entries_at d))))
+
+-- the matrix stands in the way of its keys
+abbrev pub has_its_matrix : Data → Bool
+has_its_matrix d = if has_entry_keys d then has_entries d else has_rows d
+
+-- Form 4: a yes has its matrix in one of these ways
+abbrev pub form_4 : Data → Bool
+form_4 d = not (says_yes d) || has_its_matrix d
 
 -- an object with exactly these keys
 abbrev pub is_action : Data → Bool
@@ -126,22 +222,52 @@ is_narrow_whole d = is_narrow (whole_said (text_of d))
 abbrev pub is_narrow_action : Data → Bool
 is_narrow_action a = list_all (λ g. is_narrow_whole (at_place 1 g)) (members (gains_at a))
 
+-- all numbers of a matrix that stands row by row are
+abbrev pub is_narrow_matrix : Data → Bool
+is_narrow_matrix d = list_all (λ row. list_all is_narrow_fraction (members row)) (members (matrix_at d))
+
+-- the row, the column and the value of a named entry are
+abbrev pub is_narrow_entry : Data → Bool
+is_narrow_entry e = is_narrow_whole (at_place 0 e) && (is_narrow_whole (at_place 1 e) && is_narrow_fraction (at_place 2 e))
+
+-- all numbers of a matrix by named entries are
+abbrev pub are_narrow_entries : Data → Bool
+are_narrow_entries d = is_narrow_whole (rows_at d) && (is_narrow_whole (columns_at d) && list_all is_narrow_entry (members (entries_at d)))
+
+-- all numbers of a yes are
+abbrev pub is_narrow_yes : Data → Bool
+is_narrow_yes d = if has_entry_keys d then are_narrow_entries d else is_narrow_matrix d
+
+-- all numbers of a table are
+abbrev pub is_narrow_table : Data → Bool
+is_narrow_table d = is_narrow_whole (over_at d) && (is_narrow_whole (rest_at d) && list_all is_narrow_action (members (actions_at d)))
+
 -- Wide is broken where some number is wider
 abbrev pub narrow : Data → Bool
-narrow d =
-    if says_yes d then list_all (λ row. list_all is_narrow_fraction (members row)) (members (matrix_at d))
-    else is_narrow_whole (over_at d) && (is_narrow_whole (rest_at d) && list_all is_narrow_action (members (actions_at d)))
-
--- the rules in their order, each with the answer where it is broken
-abbrev pub rules : Data → List (Bool × CertError)
-rules d =
-    (form_1 d, broken.Form 1) ∷ (form_2 d, broken.Form 2) ∷ (form_3 d, broken.Form 3) ∷ (form_4 d, broken.Form 4)
-    ∷ (form_5 d, broken.Form 5) ∷ (form_6 d, broken.Form 6) ∷ (narrow d, broken.Wide) ∷ []
+narrow d = if says_yes d then is_narrow_yes d else is_narrow_table d
 
 -- ---- what a certificate says
 
 abbrev pub row_said : Data → List Fraction
 row_said row = map (λ f. fraction_said (text_of f)) (members row)
+
+-- a whole number without a sign
+abbrev pub size_said : Data → ℕ
+size_said d = unsigned_abs (whole_said (text_of d))
+
+abbrev pub entry_said : Data → EntryTree
+entry_said e = record {
+  row = size_said (at_place 0 e);
+  column = size_said (at_place 1 e);
+  value = fraction_said (text_of (at_place 2 e));
+}
+
+abbrev pub named_said : Data → NamedTree
+named_said d = record {
+  rows = size_said (rows_at d);
+  columns = size_said (columns_at d);
+  entries = map entry_said (members (entries_at d));
+}
 
 abbrev pub action_said : Data → CertAction
 action_said a = record {
@@ -156,8 +282,29 @@ table_said d = record {
   actions = map action_said (members (actions_at d));
 }
 
+abbrev pub yes_said : Data → CertTree
+yes_said d = if has_entry_keys d then Named (named_said d) else Yes (map row_said (members (matrix_at d)))
+
 abbrev pub cert_said : Data → CertTree
-cert_said d = if says_yes d then Yes (map row_said (members (matrix_at d))) else No (table_said d)
+cert_said d = if says_yes d then yes_said d else No (table_said d)
+
+-- ---- the rules in their order
+
+-- the entries that a certificate names are in their order
+abbrev pub names_in_order : CertTree → Bool
+names_in_order (Yes rows) = true
+names_in_order (Named t) = is_in_order t
+names_in_order (No t) = true
+
+-- Form 7: the places of named entries ascend strictly, by row and then by column, and all are places of the matrix
+abbrev pub form_7 : Data → Bool
+form_7 d = names_in_order (cert_said d)
+
+-- the rules in their order, each with the answer where it is broken
+abbrev pub rules : Data → List (Bool × CertError)
+rules d =
+    (form_1 d, broken.Form 1) ∷ (form_2 d, broken.Form 2) ∷ (form_3 d, broken.Form 3) ∷ (form_4 d, broken.Form 4)
+    ∷ (form_5 d, broken.Form 5) ∷ (form_6 d, broken.Form 6) ∷ (narrow d, broken.Wide) ∷ (form_7 d, broken.Form 7) ∷ []
 
 -- the first rule that a JSON value breaks, or what it says
 abbrev pub cert_in : Data → Result CertTree CertError

@@ -3,13 +3,13 @@ use Rattle.std.specs.Prelude.{◌≡◌, ◌⊎◌, ℕ, ◌*◌, ◌≤◌, All
 use Rattle.kf_frac.specs.Fractions.{limit}
 use Rattle.kf_value.specs.Sizes.{fault_of}
 use Rattle.kf_value.specs.Targets.{Item}
-use Rattle.kf_refine.specs.Refinements.{HyperTree, Fraction, Carries}
-use Rattle.kf_refine.specs.Verdicts.{VerdictTree, Yes, No, IsVerdict}
+use Rattle.kf_refine.specs.Refinements.{HyperTree, Fraction, IsShaped, Carries}
+use Rattle.kf_refine.specs.Verdicts.{VerdictTree, IsVerdict}
 use Rattle.kf_refine.specs.Views.{IsProper}
-use Rattle.kf_cert.specs.Certificates.{CertTree, cert_of}
-use Rattle.kf_cert.specs.CertTexts.{cert_text}
+use Rattle.kf_cert.specs.Certificates.{CertTree, Yes, Named, No, cert_of, matrix_of}
+use Rattle.kf_cert.specs.CertTexts.{cert_text, named_of}
 use Rattle.kf_cert.specs.Marks.{IsMarked, IsSeparating, denominator}
-use Rattle.kf_cert.specs.Views.{read_back, IsPrintable, IsSound}
+use Rattle.kf_cert.specs.Views.{read_back, IsLowest, IsPrintable, IsSound}
 use Rattle.kf_cert.specs.declared.mark.Mark.{Mark}
 use Rattle.kf_cert.specs.declared.mark.Mark.TheVariants.{Accepted}
 use Rattle.kf_cert.specs.declared.mark.CheckError.{CheckError}
@@ -18,6 +18,7 @@ use Rattle.kf_cert.specs.declared.mark.CheckError.TheVariants as error
 -- what a certificate proves: its matrix carries the one hyper to the other, or its table separates them
 abbrev pub Shows : HyperTree → HyperTree → CertTree → Type 0
 Shows a b (Yes rows) = Carries a b rows
+Shows a b (Named t) = Carries a b (matrix_of t)
 Shows a b (No t) = IsSeparating a b t
 
 -- what is accepted proves
@@ -28,6 +29,10 @@ AcceptedShows = (a b : HyperTree) (c : CertTree) → IsProper a → IsProper b �
 abbrev pub CarryingAccepted : Type 0
 CarryingAccepted = (a b : HyperTree) (rows : List (List Fraction)) → IsProper a → IsProper b → Carries a b rows
     → a.scale * denominator rows ≤ limit → IsMarked a b (Yes rows) (Ok Accepted)
+
+-- the entries that are named of a matrix name that matrix, where its rows have one length and its fractions are in lowest terms
+abbrev pub NamesAll : Type 0
+NamesAll = (m n : ℕ) (rows : List (List Fraction)) → IsShaped m n rows → All (λ row. All IsLowest row) rows → matrix_of (named_of rows) ≡ rows
 
 -- there is a mark, or the check is too wide
 abbrev pub SomeMark : Type 0

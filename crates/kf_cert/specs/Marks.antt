@@ -13,8 +13,7 @@ use Rattle.kf_gain.specs.Tables.{is_value_text}
 use Rattle.kf_gain.specs.Vulnerabilities.{greatest}
 use Rattle.kf_simplex.specs.Base.{total}
 use Rattle.kf_refine.specs.Refinements.{HyperTree, count, Fraction, entry, IsShaped, CarriesWeights, Separates}
-use Rattle.kf_refine.specs.Verdicts.{Yes, No}
-use Rattle.kf_cert.specs.Certificates.{CertTree, NamedTable}
+use Rattle.kf_cert.specs.Certificates.{CertTree, Yes, Named, No, NamedTable, matrix_of}
 use Rattle.kf_cert.specs.declared.cert.CertAction.{CertAction}
 use Rattle.kf_cert.specs.declared.cert.CertEntry.{CertEntry}
 use Rattle.kf_cert.specs.declared.mark.Mark.{Mark}
@@ -87,13 +86,18 @@ IsSeparating a b t = (table : TableTree) × StandsFor a.target t table × Separa
 
 -- ---- the rules in their order
 
-abbrev pub IsMarked : HyperTree → HyperTree → CertTree → Result Mark CheckError → Type 0
-IsMarked a b (Yes rows) =
-    Unless (IsShaped (count a) (count b) rows) (Ok (Rejected rule.Shape))
-    (Unless (IsInRange rows) (Ok (Rejected rule.Range))
+-- the rules on the entries of a matrix that has its shape
+abbrev pub MarkedByRules : HyperTree → HyperTree → List (List Fraction) → Result Mark CheckError → Type 0
+MarkedByRules a b rows =
+    Unless (IsInRange rows) (Ok (Rejected rule.Range))
     (Unless (a.scale * denominator rows ≤ limit) (Err error.Wide)
     (Unless (SumToOne (count a) (count b) rows) (Ok (Rejected rule.Sum))
-    (Unless (CarriesWeights a b (denominator rows) (over_one rows)) (Ok (Rejected rule.Cell)) (λ r. r ≡ Ok Accepted)))))
+    (Unless (CarriesWeights a b (denominator rows) (over_one rows)) (Ok (Rejected rule.Cell)) (λ r. r ≡ Ok Accepted))))
+
+-- a matrix has a row for each inner of the first hyper and a column for each of the second, whether it stands row by row or by entries
+abbrev pub IsMarked : HyperTree → HyperTree → CertTree → Result Mark CheckError → Type 0
+IsMarked a b (Yes rows) = Unless (IsShaped (count a) (count b) rows) (Ok (Rejected rule.Shape)) (MarkedByRules a b rows)
+IsMarked a b (Named t) = Unless ((t.rows ≡ count a) × (t.columns ≡ count b)) (Ok (Rejected rule.Shape)) (MarkedByRules a b (matrix_of t))
 IsMarked a b (No t) =
     Unless (NamesValues a.target t) (Ok (Rejected rule.Value))
     (Unless ((a.scale * width t ≤ limit) × (b.scale * width t ≤ limit)) (Err error.Wide)

@@ -1,5 +1,6 @@
 ghost use Rattle.std.specs.Prelude.{◌≡◌};
 
+use kf_frac::Frac;
 use kf_json::JsonError;
 use kf_refine::Matrix;
 use kf_value::{Mem, Name};
@@ -91,11 +92,62 @@ pub struct CertGain {
     pub actions: CertActionList,
 }
 
+/// An entry of a matrix with its place.
+#[derive(Clone, Copy, Debug, PartialEq, Eq)]
+pub struct NamedEntry {
+    /// Its row, from 0.
+    pub row: u128,
+    /// Its column, from 0.
+    pub column: u128,
+    pub value: Frac,
+}
+
+/// Named entries in the file's order.
+#[derive(Drop)]
+pub struct NamedEntryList {
+    items: Vec<NamedEntry>,
+}
+
+impl Model for NamedEntryList {
+    ghost use Rattle.std.specs.Prelude.{List};
+    ghost use Rattle.kf_cert.specs.declared.cert.NamedEntry.{NamedEntry};
+
+    ghost Value = { List NamedEntry };
+
+    ghost view = { λ l. l.items.items };
+}
+
+impl NamedEntryList {
+    pub fn new(items: Vec<NamedEntry>) -> Self
+        ensures { result ≡ items.items }
+    {
+        NamedEntryList { items }
+    }
+
+    pub fn as_slice(&self) -> &[NamedEntry]
+        ensures { result.now ≡ self.now }
+    {
+        self.items.as_slice()
+    }
+}
+
+/// A matrix by the entries that it names; every other entry is 0.
+#[derive(Drop)]
+pub struct NamedMatrix {
+    /// How many rows it has.
+    pub rows: u128,
+    /// How many columns it has.
+    pub columns: u128,
+    pub entries: NamedEntryList,
+}
+
 /// What is to prove a verdict on two hypers.
 #[derive(Drop)]
 pub enum Cert {
-    /// That the second leaks no more than the first: a matrix that is to carry the first's joint weights to the second's.
+    /// That the second leaks no more than the first: a matrix, row by row, that is to carry the first's joint weights to the second's.
     Yes(Matrix),
+    /// The same, by a matrix whose entries are named.
+    Named(NamedMatrix),
     /// That it leaks more: a gain table under which the first is to have the smaller posterior vulnerability.
     No(CertGain),
 }
@@ -105,7 +157,7 @@ pub enum Cert {
 pub enum CertError {
     /// The bytes are no JSON.
     Json,
-    /// The value has not the form of a certificate: the number of the broken rule, from 1 to 6.
+    /// The value has not the form of a certificate: the number of the broken rule, from 1 to 7.
     Form { rule: u8 },
     /// A number, as it is written, passes 2^127 - 1 in absolute value.
     Wide,

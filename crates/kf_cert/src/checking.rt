@@ -8,7 +8,7 @@ ghost use Rattle.kf_cert.specs.Views.{cert_tree, IsSound};
 ghost use Rattle.kf_refine.specs.Views.{hyper_tree};
 
 use crate::gain_rules::check_gain;
-use crate::matrix_rules::check_matrix;
+use crate::matrix_rules::{check_matrix, check_named};
 use crate::{Cert, CheckError, Mark};
 use kf_hyper::Hyper;
 use std::alloc::Global;
@@ -24,6 +24,7 @@ pub fn check_cert(alloc: Global, a: &Hyper, b: &Hyper, c: &Cert) -> Result<Mark,
 {
     match c {
         Cert::Yes(matrix) => check_matrix(alloc, a, b, matrix),
+        Cert::Named(matrix) => check_named(alloc, a, b, matrix),
         Cert::No(gain) => check_gain(alloc, a, b, gain),
     }
 }

@@ -9,7 +9,7 @@ ghost use Rattle.kf_json.specs.Rules.{first_broken};
 ghost use Rattle.kf_json.specs.Seen.{seen};
 
 use crate::CertError;
-use crate::numerals::{is_fraction_text, is_positive_text, is_whole_text};
+use crate::numerals::{is_fraction_text, is_negative, is_positive_text, is_whole_text};
 use kf_json::{has_keys, is_list, is_name, is_text, is_the_text, members, text};
 use serde_json::Value;
 
@@ -34,29 +34,79 @@ fn has_verdict(value: &Value) -> bool
     says_yes(value) || says_no(value)
 }
 
-/// Whether the keys are those of its verdict.
+/// Whether the keys are those of a matrix that stands row by row.
+fn has_matrix_keys(value: &Value) -> bool
+    ensures { result ≡ rule.has_matrix_keys (view value.now) }
+{
+    has_keys(value, &["format", "matrix", "verdict"])
+}
+
+/// Whether the keys are those of a matrix by named entries.
+pub(crate) fn has_entry_keys(value: &Value) -> bool
+    ensures { result ≡ rule.has_entry_keys (view value.now) }
+{
+    has_keys(value, &["columns", "entries", "format", "rows", "verdict"])
+}
+
+/// Whether the keys are those of a no.
+fn has_table_keys(value: &Value) -> bool
+    ensures { result ≡ rule.has_table_keys (view value.now) }
+{
+    has_keys(value, &["actions", "format", "over", "rest", "verdict"])
+}
+
+/// Whether the keys are those of its verdict, in one of its forms.
 fn has_its_keys(value: &Value) -> bool
     ensures { result ≡ rule.form_2 (view value.now) }
 {
     if says_yes(value) {
-        has_keys(value, &["format", "matrix", "verdict"])
+        has_matrix_keys(value) || has_entry_keys(value)
     } else {
-        has_keys(value, &["actions", "format", "over", "rest", "verdict"])
+        has_table_keys(value)
     }
 }
 
-/// Whether the format is this one.
-fn has_format(value: &Value) -> bool
-    ensures { result ≡ rule.form_3 (view value.now) }
+/// Whether the format is the first one.
+fn is_first_format(value: &Value) -> bool
+    ensures { result ≡ rule.is_first_format (view value.now) }
 {
     is_the_text(value.get("format"), "kuifje-cert-1")
 }
 
-/// Whether the value is a text that is a fraction.
-fn is_fraction(value: &Value) -> bool
-    ensures { result ≡ rule.is_fraction (view value.now) }
+/// Whether the format is the second one.
+fn is_second_format(value: &Value) -> bool
+    ensures { result ≡ rule.is_second_format (view value.now) }
 {
-    is_text(Some(value)) && is_fraction_text(text(Some(value)))
+    is_the_text(value.get("format"), "kuifje-cert-2")
+}
+
+/// Whether the format is that of a yes with these keys.
+fn has_yes_format(value: &Value) -> bool
+    ensures { result ≡ rule.has_yes_format (view value.now) }
+{
+    if has_entry_keys(value) {
+        is_second_format(value)
+    } else {
+        is_first_format(value)
+    }
+}
+
+/// Whether the format is one of its form.
+fn has_format(value: &Value) -> bool
+    ensures { result ≡ rule.form_3 (view value.now) }
+{
+    if says_yes(value) {
+        has_yes_format(value)
+    } else {
+        is_first_format(value) || is_second_format(value)
+    }
+}
+
+/// Whether a text was found that is a fraction.
+fn is_fraction(found: Option<&Value>) -> bool
+    ensures { result ≡ rule.is_fraction (seen found.entry) }
+{
+    is_text(found) && is_fraction_text(text(found))
 }
 
 /// Whether the value is a list of such.
@@ -66,23 +116,15 @@ fn is_row(value: &Value) -> bool
     is_list(Some(value))
         && members(Some(value))
             .iter()
-            .all(|fraction| is_fraction(fraction))
+            .all(|fraction| is_fraction(Some(fraction)))
 }
 
 /// Whether the matrix is a list of such lists.
 fn has_rows(value: &Value) -> bool
-    ensures { result ≡ (is_a_list (rule.matrix_at (view value.now))
-        && list_all rule.is_row (member_list (rule.matrix_at (view value.now)))) }
+    ensures { result ≡ rule.has_rows (view value.now) }
 {
     let found = value.get("matrix");
     is_list(found) && members(found).iter().all(|row| is_row(row))
-}
-
-/// Whether a yes has such a matrix.
-fn has_matrix(value: &Value) -> bool
-    ensures { result ≡ rule.form_4 (view value.now) }
-{
-    !says_yes(value) || has_rows(value)
 }
 
 /// Whether a text was found that is a whole number.
@@ -90,6 +132,58 @@ fn is_whole_number(found: Option<&Value>) -> bool
     ensures { result ≡ rule.is_whole_number (seen found.entry) }
 {
     is_text(found) && is_whole_text(text(found))
+}
+
+/// Whether a text was found that is a whole number without a `-`.
+fn is_size(found: Option<&Value>) -> bool
+    ensures { result ≡ rule.is_size (seen found.entry) }
+{
+    is_whole_number(found) && !is_negative(text(found))
+}
+
+/// Whether the value is a list of three: a row and a column, which are such, and a fraction.
+fn is_entry(value: &Value) -> bool
+    ensures { result ≡ rule.is_entry (view value.now) }
+{
+    is_list(Some(value))
+        && members(Some(value)).len() == 3
+        && is_size(value.get(0usize))
+        && is_size(value.get(1usize))
+        && is_fraction(value.get(2usize))
+}
+
+/// Whether the named entries are a list of such lists.
+fn are_entries(value: &Value) -> bool
+    ensures { result ≡ (is_a_list (rule.entries_at (view value.now))
+        && list_all rule.is_entry (member_list (rule.entries_at (view value.now)))) }
+{
+    let found = value.get("entries");
+    is_list(found) && members(found).iter().all(|entry| is_entry(entry))
+}
+
+/// Whether there are sizes and such entries.
+fn has_entries(value: &Value) -> bool
+    ensures { result ≡ rule.has_entries (view value.now) }
+{
+    is_size(value.get("rows")) && is_size(value.get("columns")) && are_entries(value)
+}
+
+/// Whether the matrix stands in the way of its keys.
+fn has_its_matrix(value: &Value) -> bool
+    ensures { result ≡ rule.has_its_matrix (view value.now) }
+{
+    if has_entry_keys(value) {
+        has_entries(value)
+    } else {
+        has_rows(value)
+    }
+}
+
+/// Whether a yes has such a matrix.
+fn has_matrix(value: &Value) -> bool
+    ensures { result ≡ rule.form_4 (view value.now) }
+{
+    !says_yes(value) || has_its_matrix(value)
 }
 
 /// Whether `over` and `rest` are whole numbers, and `over` is at least 1.

@@ -3,6 +3,7 @@
 ghost use Rattle.std.specs.Prelude.{◌≡◌, ◌≢◌, ◌↔◌, List, Ok, Err, IfOk, IfErr, IsErrOf, IsTrue, pos, ◌*ℤ◌, ◌<ℤ◌};
 ghost use Rattle.std.specs.List.{AllZip};
 ghost use Rattle.kf_cert.specs.declared.mark.CheckError.TheVariants as error;
+ghost use Rattle.kf_cert.specs.Certificates.{No};
 ghost use Rattle.kf_cert.specs.Marks.{IsMarked};
 ghost use Rattle.kf_cert.specs.Naming.{IsMade, AreNarrow};
 ghost use Rattle.kf_cert.specs.Views.{named_table, IsSoundTable};
@@ -10,7 +11,6 @@ ghost use Rattle.kf_frac.specs.Views.{num_of, den_of};
 ghost use Rattle.kf_gain.specs.Views.{table_tree};
 ghost use Rattle.kf_hyper.specs.Views.{target_of, scale_of};
 ghost use Rattle.kf_refine.specs.Refinements.{Separates};
-ghost use Rattle.kf_refine.specs.Verdicts.{No};
 ghost use Rattle.kf_refine.specs.Views.{hyper_tree};
 ghost use Rattle.kf_value.specs.Targets.{Item};
 

@@ -9,10 +9,14 @@ mod laws;
 mod mark;
 mod matrix_rules;
 mod numerals;
+mod places;
 mod reading;
 mod writing;
 
-pub use cert::{Cert, CertAction, CertActionList, CertEntry, CertEntryList, CertError, CertGain};
+pub use cert::{
+    Cert, CertAction, CertActionList, CertEntry, CertEntryList, CertError, CertGain, NamedEntry,
+    NamedEntryList, NamedMatrix,
+};
 pub use checking::check_cert;
 pub use laws::{cert_laws, mark_laws};
 pub use mark::{CheckError, Mark, Rule};

@@ -16,7 +16,7 @@ use kf_frac::{Frac, make};
 const LIMIT: u128 = i128::MAX as u128;
 
 /// Whether a `-` stands first.
-fn is_negative(text: &str) -> bool
+pub(crate) fn is_negative(text: &str) -> bool
     ensures { result ≡ number.is_negative text.now }
 {
     text.starts_with('-')

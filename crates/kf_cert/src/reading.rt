@@ -8,6 +8,7 @@ ghost use Rattle.kf_cert.specs.Views.{cert_tree, IsSound};
 mod making;
 
 use crate::forms::broken_form;
+use crate::places::names_in_order;
 use crate::{Cert, CertError};
 use kf_json::parse;
 use making::cert;
@@ -16,7 +17,7 @@ use std::alloc::Global;
 /// The certificate that the bytes are.
 ///
 /// Numbers are texts, of any length until they are found to be too wide. The error is that of the first broken rule, each rule being
-/// tested over the whole value before the next: `Json`, `Form` from 1 to 6, `Wide`; or `Mem`, want of memory.
+/// tested over the whole value before the next: `Json`, `Form` from 1 to 6, `Wide`, `Form` 7; or `Mem`, want of memory.
 pub fn read_cert(alloc: Global, bytes: &[u8]) -> Result<Cert, CertError>
     ensures is { IfOk result (λ c. cert_of bytes.now ≡ Ok (cert_tree c)) }
     ensures sound { IfOk result (λ c. IsSound (cert_tree c)) }
@@ -27,5 +28,8 @@ pub fn read_cert(alloc: Global, bytes: &[u8]) -> Result<Cert, CertError>
         return Err(fault);
     }
     let cert = cert(alloc, &value)?;
+    if !names_in_order(&cert) {
+        return Err(CertError::Form { rule: 7 });
+    }
     Ok(cert)
 }

@@ -1,17 +1,19 @@
 //! The writing of certificates.
 
-ghost use Rattle.std.specs.Prelude.{◌≡◌, ◌<◌, map, Ok, IfOk, string_bytes};
+ghost use Rattle.std.specs.Prelude.{◌≡◌, ◌<◌, ◌++◌, ◌==◌, map, unsigned_abs, Ok, IfOk, OnOk, string_bytes};
 ghost use Rattle.std.specs.List.{All};
 ghost use Rattle.serde_json.specs.View.{view};
 ghost use Rattle.kf_value.specs.Numbers.{target_size};
 ghost use Rattle.kf_value.specs.Targets.{target_value_text};
 ghost use Rattle.kf_value.specs.Views.{items_of};
+ghost use Rattle.kf_frac.specs.Views.{num_of};
 ghost use Rattle.kf_gain.specs.Views.{table_tree};
 ghost use Rattle.kf_refine.specs.Shapes.{IsWritable, IsWritableAction};
 ghost use Rattle.kf_refine.specs.Views.{fraction_of, matrix_tree, verdict_tree};
 ghost use Rattle.kf_cert.specs.Certificates.{cert_of};
-ghost use Rattle.kf_cert.specs.CertTexts.{action_data, cert_data, cert_text, gain_data, no_data, row_data, yes_data};
-ghost use Rattle.kf_cert.specs.Views.{read_back};
+ghost use Rattle.kf_cert.specs.CertTexts.{action_data, cert_data, cert_text, entry_data, gain_data, named_data, named_of, no_data, row_entries, rows_entries, widest as widest_of};
+ghost use Rattle.kf_cert.specs.Rows.{row_tree, rows_tree};
+ghost use Rattle.kf_cert.specs.Views.{read_back, IsSmall, HasSmall};
 
 use kf_frac::Frac;
 use kf_gain::{Action, GainEntry, GainTable};
@@ -34,7 +36,8 @@ pub fn write_cert(alloc: Global, v: &Verdict, t: &Target) -> Result<Vec<u8>, Mem
 
 fn verdict_value(alloc: Global, verdict: &Verdict, target: &Target) -> Result<Value, Mem>
     requires { IsWritable (items_of target.now) (verdict_tree verdict.now) }
-    ensures { IfOk result (λ value. view value ≡ cert_data (items_of target.now) (verdict_tree verdict.now)) }
+    ensures data { IfOk result (λ value. view value ≡ cert_data (items_of target.now) (verdict_tree verdict.now)) }
+    ensures small { IfOk result (λ _. HasSmall (verdict_tree verdict.now)) }
 {
     match verdict {
         Verdict::Yes(matrix) => yes_value(alloc, matrix),
@@ -42,32 +45,76 @@ fn verdict_value(alloc: Global, verdict: &Verdict, target: &Target) -> Result<Va
     }
 }
 
+/// A matrix by its entries that aren't 0.
 fn yes_value(alloc: Global, matrix: &Matrix) -> Result<Value, Mem>
-    ensures { IfOk result (λ value. view value ≡ yes_data (matrix_tree matrix.now)) }
+    ensures data { IfOk result (λ value. view value ≡ named_data (named_of (matrix_tree matrix.now))) }
+    ensures small { IfOk result (λ _. IsSmall (matrix_tree matrix.now)) }
 {
-    let rows = row_values(alloc, matrix.rows.as_slice())?;
-    let value = json!(in alloc; {"format": "kuifje-cert-1", "matrix": rows, "verdict": "yes"})?;
-    Ok(value)
+    let rows = matrix.rows.as_slice();
+    let entries = entry_values(alloc, rows)?;
+    let columns = widest(rows).to_string(alloc)?;
+    let count = rows.len().to_string(alloc)?;
+    let format = Value::try_from_str(alloc, "kuifje-cert-2")?;
+    let verdict = Value::try_from_str(alloc, "yes")?;
+    let mut members = Map::new(alloc);
+    put(&mut members, alloc, "columns", Value::String(columns))?;
+    put(&mut members, alloc, "entries", Value::Array(entries))?;
+    put(&mut members, alloc, "format", format)?;
+    put(&mut members, alloc, "rows", Value::String(count))?;
+    put(&mut members, alloc, "verdict", verdict)?;
+    Ok(Value::Object(members))
 }
 
-fn row_values(alloc: Global, rows: &[FracList]) -> Result<Vec<Value>, Mem>
-    ensures { IfOk result (λ values. map view values.items ≡ map row_data (map (λ row. map fraction_of row) rows.now)) }
+/// How long the longest row is.
+fn widest(rows: &[FracList]) -> usize
+    ensures { result ≡ widest_of (rows_tree rows.now) }
+{
+    let mut width = 0;
+    for row in rows {
+        width = width.max(row.as_slice().len());
+    }
+    width
+}
+
+/// The entries that aren't 0, row by row.
+fn entry_values(alloc: Global, rows: &[FracList]) -> Result<Vec<Value>, Mem>
+    ensures { IfOk result (λ values. map view values.items ≡ map entry_data (rows_entries 0 (rows_tree rows.now))) }
 {
     let mut values = Vec::new(alloc);
-    for row in rows {
-        values.push(row_value(alloc, row.as_slice())?)?;
+    for i in 0..rows.len() {
+        add_row(alloc, &mut values, i, rows[i].as_slice())?;
     }
     Ok(values)
 }
 
-fn row_value(alloc: Global, row: &[Frac]) -> Result<Value, Mem>
-    ensures { IfOk result (λ value. view value ≡ row_data (map fraction_of row.now)) }
+/// Whether a fraction is 0.
+fn is_zero(value: &Frac) -> bool
+    ensures { result ≡ (unsigned_abs (num_of value.now) == 0) }
 {
-    let mut entries = Vec::new(alloc);
-    for entry in row {
-        entries.push(Value::from(entry.to_string(alloc)?))?;
+    value.num().unsigned_abs() == 0
+}
+
+/// Adds those of row `i`, in the order of their columns.
+fn add_row(alloc: Global, values: &mut Vec<Value>, i: usize, row: &[Frac]) -> Result<(), Mem>
+    ensures { OnOk result (map view values.new.items ≡ map view values.old.items ++ map entry_data (row_entries i 0 (row_tree row.now))) }
+{
+    for j in 0..row.len() {
+        if !is_zero(&row[j]) {
+            values.push(entry_value(alloc, i, j, &row[j])?)?;
+        }
     }
-    Ok(Value::Array(entries))
+    Ok(())
+}
+
+/// The texts of a row, a column and a value.
+fn entry_value(alloc: Global, row: usize, column: usize, value: &Frac) -> Result<Value, Mem>
+    ensures { IfOk result (λ made. view made ≡ entry_data (record { row = row; column = column; value = fraction_of value.now })) }
+{
+    let row = row.to_string(alloc)?;
+    let column = column.to_string(alloc)?;
+    let value = value.to_string(alloc)?;
+    let entry = json!(in alloc; [row, column, value])?;
+    Ok(entry)
 }
 
 fn no_value(alloc: Global, table: &GainTable, target: &Target) -> Result<Value, Mem>
@@ -77,7 +124,7 @@ fn no_value(alloc: Global, table: &GainTable, target: &Target) -> Result<Value, 
     let actions = action_values(alloc, table.actions.as_slice(), target)?;
     let over = table.over.to_string(alloc)?;
     let rest = table.rest.to_string(alloc)?;
-    let format = Value::try_from_str(alloc, "kuifje-cert-1")?;
+    let format = Value::try_from_str(alloc, "kuifje-cert-2")?;
     let verdict = Value::try_from_str(alloc, "no")?;
     let mut members = Map::new(alloc);
     put(&mut members, alloc, "actions", Value::Array(actions))?;

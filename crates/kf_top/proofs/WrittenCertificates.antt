@@ -7,7 +7,7 @@ use Rattle.kf_value.specs.Targets.{Item}
 use Rattle.kf_core.specs.JointLaws.{HypersAreOne}
 use Rattle.kf_core.specs.Programs.{ProgramTree}
 use Rattle.kf_refine.specs.Laws.{VerdictsProve}
-use Rattle.kf_refine.specs.Refinements.{HyperTree, count}
+use Rattle.kf_refine.specs.Refinements.{HyperTree}
 use Rattle.kf_refine.specs.Verdicts.{VerdictTree, Yes, No, IsVerdict}
 use Rattle.kf_refine.specs.Views.{IsProper}
 use Rattle.kf_cert.specs.Certificates.{CertTree, cert_of}
@@ -18,7 +18,7 @@ use Rattle.kf_cert.specs.declared.mark.Mark.{Mark}
 use Rattle.kf_cert.specs.declared.mark.Mark.TheVariants.{Accepted}
 use Rattle.kf_cert.specs.declared.mark.CheckError.{CheckError}
 use Rattle.kf_cert.specs.declared.mark.CheckError.TheVariants as check
-use Rattle.kf_cert.proofs.Printable.{matrix_lowest, table_printable}
+use Rattle.kf_cert.proofs.Printable.{matrix_printable, table_printable}
 use Rattle.kf_top.specs.Answer.{Shown, Statement, MarkOf, States, Refused, Usage, TooLong, BadText, BadRun, WideScale, NotInitial, BadTable, WideGain, OtherTarget, ManyCells, WideTableau, ManyPivots, BadCert, WideCert, status_of}
 use Rattle.kf_top.specs.Ends.{Answer, Settled, showing, refusing}
 use Rattle.kf_top.specs.Laws.{CertificatesAccepted, asks_certificate, asks_check}
@@ -38,7 +38,7 @@ one_target a b (Yes rows) is = is.1.targets
 one_target a b (No t) is = is.1.targets
 
 printable : VerdictsProve → (a b : HyperTree) (v : VerdictTree) → IsProper a → IsProper b → IsVerdict a b most_pivots (Ok v) → IsPrintable a.target v
-printable verdicts_prove a b (Yes rows) proper proper' is = matrix_lowest (count a) (count b) is.0 rows is.2
+printable verdicts_prove a b (Yes rows) proper proper' is = matrix_printable a b is.0 rows proper proper' is.2
 printable verdicts_prove a b (No t) proper proper' is =
     table_printable a b most_pivots is.0 t proper proper' is.1 is.2 (verdicts_prove a b most_pivots (No t) proper proper' is).2
 

@@ -70,8 +70,35 @@ fn entry_at(cert: &Cert, row: usize, place: usize) -> Option<Frac> {
             let row = matrix.rows.as_slice().get(row)?;
             row.as_slice().get(place).copied()
         }
-        Cert::No(_) => None,
+        _ => None,
     }
+}
+
+// The error of a yes of two columns, with these rows and named entries.
+fn named_fault(alloc: Global, rows: &str, entries: &str) -> Result<Option<CertError>, Mem> {
+    let front = "{\"columns\":\"2\",\"entries\":[";
+    let middle = "],\"format\":\"kuifje-cert-2\",\"rows\":\"";
+    parts_fault(
+        alloc,
+        &[front, entries, middle, rows, "\",\"verdict\":\"yes\"}"],
+    )
+}
+
+// How many rows and columns are told, and the place and the value of the named entry at a place of their list.
+fn named_at(cert: &Cert, place: usize) -> Option<(u128, u128, u128, u128, i128, u128)> {
+    let Cert::Named(matrix) = cert else {
+        return None;
+    };
+    let entry = matrix.entries.as_slice().get(place)?;
+    let value = entry.value;
+    Some((
+        matrix.rows,
+        matrix.columns,
+        entry.row,
+        entry.column,
+        value.num(),
+        value.den(),
+    ))
 }
 
 // Whether a no has these numbers, and a first gain at this value.
@@ -100,6 +127,21 @@ fn reads_a_matrix(rt: HostRuntime) -> Result<(), Fail> {
     ] {
         let found = entry_at(&cert, row, place).map(|f| (f.num(), f.den()));
         assert_eq!(rt; found, want, "{row} {place}");
+    }
+    Ok(())
+}
+
+#[test]
+fn reads_named_entries(rt: HostRuntime) -> Result<(), Fail> {
+    let text =
+        "{\"columns\":\"3\",\"entries\":[[\"0\",\"2\",\"-6/4\"],[\"1\",\"0\",\"0\"]],\"format\":\"kuifje-cert-2\",\"rows\":\"2\",\"verdict\":\"yes\"}";
+    let cert = read_cert(rt.alloc(), text.as_bytes())?;
+    for (place, want) in [
+        (0, Some((2, 3, 0, 2, -3, 2))),
+        (1, Some((2, 3, 1, 0, 0, 1))),
+        (2, None),
+    ] {
+        assert_eq!(rt; named_at(&cert, place), want, "{place}");
     }
     Ok(())
 }
@@ -186,6 +228,60 @@ fn first_broken_rules_of_a_table(rt: HostRuntime) -> Result<(), Fail> {
     Ok(())
 }
 
+// Rows and named entries of a matrix of two columns, and the rule that they break.
+fn named_faults() -> [(&'static str, &'static str, Option<u8>); 24] {
+    [
+        ("2", "[\"0\",\"1\",\"1\"],[\"1\",\"0\",\"1\"]", None),
+        ("0", "", None),
+        ("1", "[\"0\",\"0\",\"0\"]", None),
+        ("1", "[\"0\",\"1\",\"-1/2\"]", None),
+        ("01", "", Some(4)),
+        ("-1", "", Some(4)),
+        ("-0", "", Some(4)),
+        ("1/1", "", Some(4)),
+        ("", "", Some(4)),
+        ("1", "[\"0\",\"0\"]", Some(4)),
+        ("1", "[\"0\",\"0\",\"1\",\"1\"]", Some(4)),
+        ("1", "[\"-0\",\"0\",\"1\"]", Some(4)),
+        ("1", "[\"0\",\"0/1\",\"1\"]", Some(4)),
+        ("1", "[\"0\",\"0\",\"1/0\"]", Some(4)),
+        ("1", "[0,\"0\",\"1\"]", Some(4)),
+        ("1", "\"0\"", Some(4)),
+        // The places don't ascend, or are none of the matrix.
+        ("2", "[\"1\",\"0\",\"1\"],[\"0\",\"1\",\"1\"]", Some(7)),
+        ("2", "[\"0\",\"1\",\"1\"],[\"0\",\"0\",\"1\"]", Some(7)),
+        ("2", "[\"0\",\"0\",\"1\"],[\"0\",\"0\",\"0\"]", Some(7)),
+        ("1", "[\"1\",\"0\",\"1\"]", Some(7)),
+        ("1", "[\"0\",\"2\",\"1\"]", Some(7)),
+        // A number that is too wide comes before that, and behind all else.
+        (NINES, "[\"0\",\"2\",\"1\"]", Some(0)),
+        (
+            "1",
+            "[\"9999999999999999999999999999999999999999\",\"0\",\"1\"]",
+            Some(0),
+        ),
+        (NINES, "[\"0\",\"2\",\"1/0\"]", Some(4)),
+    ]
+}
+
+// The error of a rule's number, where 0 stands for that on width.
+fn of_rule(rule: u8) -> CertError {
+    if rule == 0 {
+        CertError::Wide
+    } else {
+        CertError::Form { rule }
+    }
+}
+
+#[test]
+fn first_broken_rules_of_named_entries(rt: HostRuntime) -> Result<(), Fail> {
+    for (rows, entries, rule) in named_faults() {
+        let found = named_fault(rt.alloc(), rows, entries)?;
+        assert_eq!(rt; found, rule.map(of_rule), "{rows} {entries}");
+    }
+    Ok(())
+}
+
 #[test]
 fn first_broken_rules_of_the_whole(rt: HostRuntime) -> Result<(), Fail> {
     for (format, verdict, further, want) in [
@@ -225,6 +321,28 @@ fn other_texts(rt: HostRuntime) -> Result<(), Fail> {
         (HALF, CertError::Json),
         ("", CertError::Json),
         ("[]", CertError::Form { rule: 1 }),
+        // Both forms of a yes, a form without a key, and named entries of the first format.
+        (
+            "{\"columns\":\"0\",\"entries\":[],\"format\":\"kuifje-cert-2\",\"matrix\":[],\"rows\":\"0\",\"verdict\":\"yes\"}",
+            CertError::Form { rule: 2 },
+        ),
+        (
+            "{\"columns\":\"0\",\"entries\":[],\"format\":\"kuifje-cert-2\",\"verdict\":\"yes\"}",
+            CertError::Form { rule: 2 },
+        ),
+        (
+            "{\"columns\":\"0\",\"entries\":[],\"format\":\"kuifje-cert-1\",\"rows\":\"0\",\"verdict\":\"yes\"}",
+            CertError::Form { rule: 3 },
+        ),
+        // A no may be of either format, and of no third.
+        (
+            "{\"actions\":[],\"format\":\"kuifje-cert-2\",\"over\":\"1\",\"rest\":\"0\",\"verdict\":\"no\"}",
+            CertError::Form { rule: 5 },
+        ),
+        (
+            "{\"actions\":[],\"format\":\"kuifje-cert-3\",\"over\":\"1\",\"rest\":\"0\",\"verdict\":\"no\"}",
+            CertError::Form { rule: 3 },
+        ),
     ] {
         assert_eq!(rt; fault(rt.alloc(), text), Some(want), "{text}");
     }

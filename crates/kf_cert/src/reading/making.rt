@@ -6,15 +6,18 @@ ghost use Rattle.serde_json.specs.View.{view};
 ghost use Rattle.kf_json.specs.Json.{members as member_list, text_of};
 ghost use Rattle.kf_json.specs.Seen.{seen};
 ghost use Rattle.kf_refine.specs.Views.{fraction_of, matrix_tree};
-ghost use Rattle.kf_cert.specs.Certificates.{actions_at, gains_at, matrix_at, row_said, action_said, table_said, cert_said};
+ghost use Rattle.kf_cert.specs.Certificates.{actions_at, entries_at, gains_at, matrix_at, row_said, entry_said, named_said, action_said, table_said, yes_said, cert_said};
 ghost use Rattle.kf_cert.specs.Numbers as number;
-ghost use Rattle.kf_cert.specs.Reading.{gain_said, reads_fraction, reads_row, reads_matrix, reads_whole, reads_gain, reads_action, reads_table, reads_cert};
-ghost use Rattle.kf_cert.specs.Views.{cert_tree, named_table};
+ghost use Rattle.kf_cert.specs.Reading.{gain_said, reads_fraction, reads_row, reads_matrix, reads_whole, reads_entry, reads_named, reads_yes, reads_gain, reads_action, reads_table, reads_cert};
+ghost use Rattle.kf_cert.specs.Views.{cert_tree, entry_tree, named_table, named_tree};
 ghost use Rattle.kf_cert.specs.declared.cert.CertError.TheVariants as broken;
 
-use crate::forms::says_yes;
+use crate::forms::{has_entry_keys, says_yes};
 use crate::numerals::{fraction_said, whole_said};
-use crate::{Cert, CertAction, CertActionList, CertEntry, CertEntryList, CertError, CertGain};
+use crate::{
+    Cert, CertAction, CertActionList, CertEntry, CertEntryList, CertError, CertGain, NamedEntry,
+    NamedEntryList, NamedMatrix,
+};
 use kf_frac::Frac;
 use kf_json::{members, text};
 use kf_refine::{FracRowList, Matrix};
@@ -23,13 +26,13 @@ use kf_value::Name;
 use serde_json::Value;
 use std::alloc::Global;
 
-/// The fraction that a value says.
-fn fraction(value: &Value) -> Result<Frac, CertError>
-    ensures ok { IfOk result (λ f. fraction_of f ≡ number.fraction_said (text_of (view value.now))) }
-    ensures reads { IfOk result (λ _. reads_fraction (view value.now) ≡ true) }
-    ensures err { IfErr result (λ e. (e ≡ broken.Wide) × (reads_fraction (view value.now) ≡ false)) }
+/// The fraction that was found.
+fn fraction(found: Option<&Value>) -> Result<Frac, CertError>
+    ensures ok { IfOk result (λ f. fraction_of f ≡ number.fraction_said (text_of (seen found.entry))) }
+    ensures reads { IfOk result (λ _. reads_fraction (seen found.entry) ≡ true) }
+    ensures err { IfErr result (λ e. (e ≡ broken.Wide) × (reads_fraction (seen found.entry) ≡ false)) }
 {
-    fraction_said(text(Some(value))).ok_or(CertError::Wide)
+    fraction_said(text(found)).ok_or(CertError::Wide)
 }
 
 /// The fractions of a row.
@@ -40,7 +43,7 @@ fn row(alloc: Global, value: &Value) -> Result<FracList, CertError>
 {
     let mut made = Vec::new(alloc);
     for value in members(Some(value)) {
-        made.push(fraction(value)?)?;
+        made.push(fraction(Some(value))?)?;
     }
     Ok(FracList::new(made))
 }
@@ -67,6 +70,67 @@ fn whole(found: Option<&Value>) -> Result<i128, CertError>
     ensures err { IfErr result (λ e. (e ≡ broken.Wide) × (reads_whole (seen found.entry) ≡ false)) }
 {
     whole_said(text(found)).ok_or(CertError::Wide)
+}
+
+/// The row, the column and the value of a named entry.
+fn named_entry(entry: &Value) -> Result<NamedEntry, CertError>
+    ensures ok { IfOk result (λ e. entry_tree e ≡ entry_said (view entry.now)) }
+    ensures reads { IfOk result (λ _. reads_entry (view entry.now) ≡ true) }
+    ensures err { IfErr result (λ e. (e ≡ broken.Wide) × (reads_entry (view entry.now) ≡ false)) }
+{
+    let row = whole(entry.get(0usize))?;
+    let column = whole(entry.get(1usize))?;
+    let value = fraction(entry.get(2usize))?;
+    Ok(NamedEntry {
+        row: row.unsigned_abs(),
+        column: column.unsigned_abs(),
+        value,
+    })
+}
+
+/// The named entries of a yes, in the file's order.
+fn named_entries(alloc: Global, cert: &Value) -> Result<NamedEntryList, CertError>
+    ensures ok { IfOk result (λ made. map entry_tree made ≡ map entry_said (member_list (entries_at (view cert.now)))) }
+    ensures reads { IfOk result (λ _. list_all reads_entry (member_list (entries_at (view cert.now))) ≡ true) }
+    ensures err { IfErr result (λ e. e ≢ broken.Mem → (e ≡ broken.Wide)
+        × (list_all reads_entry (member_list (entries_at (view cert.now))) ≡ false)) }
+{
+    let mut made = Vec::new(alloc);
+    for value in members(cert.get("entries")) {
+        made.push(named_entry(value)?)?;
+    }
+    Ok(NamedEntryList::new(made))
+}
+
+/// The matrix of a yes by its named entries.
+fn named_matrix(alloc: Global, cert: &Value) -> Result<NamedMatrix, CertError>
+    ensures ok { IfOk result (λ m. named_tree m ≡ named_said (view cert.now)) }
+    ensures reads { IfOk result (λ _. reads_named (view cert.now) ≡ true) }
+    ensures err { IfErr result (λ e. e ≢ broken.Mem → (e ≡ broken.Wide) × (reads_named (view cert.now) ≡ false)) }
+{
+    let rows = whole(cert.get("rows"))?;
+    let columns = whole(cert.get("columns"))?;
+    let entries = named_entries(alloc, cert)?;
+    Ok(NamedMatrix {
+        rows: rows.unsigned_abs(),
+        columns: columns.unsigned_abs(),
+        entries,
+    })
+}
+
+/// The certificate of a yes, in the way of its keys.
+fn yes(alloc: Global, value: &Value) -> Result<Cert, CertError>
+    ensures ok { IfOk result (λ c. cert_tree c ≡ yes_said (view value.now)) }
+    ensures reads { IfOk result (λ _. reads_yes (view value.now) ≡ true) }
+    ensures err { IfErr result (λ e. e ≢ broken.Mem → (e ≡ broken.Wide) × (reads_yes (view value.now) ≡ false)) }
+{
+    if has_entry_keys(value) {
+        let matrix = named_matrix(alloc, value)?;
+        Ok(Cert::Named(matrix))
+    } else {
+        let matrix = matrix(alloc, value)?;
+        Ok(Cert::Yes(matrix))
+    }
 }
 
 /// The text and the number of a gain.
@@ -147,8 +211,8 @@ pub(crate) fn cert(alloc: Global, value: &Value) -> Result<Cert, CertError>
     ensures err { IfErr result (λ e. e ≢ broken.Mem → (e ≡ broken.Wide) × (reads_cert (view value.now) ≡ false)) }
 {
     if says_yes(value) {
-        let matrix = matrix(alloc, value)?;
-        Ok(Cert::Yes(matrix))
+        let cert = yes(alloc, value)?;
+        Ok(cert)
     } else {
         let table = table(alloc, value)?;
         Ok(Cert::No(table))

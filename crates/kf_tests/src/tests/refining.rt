@@ -28,12 +28,20 @@ observe (a, b, c) = (4, 7, 1);
 const COPIES: &str = "refines yes\nmatrix 4 2\n1 0\n0 1\n1 0\n0 1\n";
 
 const COPIES_CERT: &str =
+    "{\"columns\":\"2\",\"entries\":[[\"0\",\"0\",\"1\"],[\"1\",\"1\",\"1\"],[\"2\",\"0\",\"1\"],[\"3\",\"1\",\"1\"]],\"format\":\"kuifje-cert-2\",\"rows\":\"4\",\"verdict\":\"yes\"}\n";
+
+// The same matrix in the first format, which is read and no longer written.
+const COPIES_BY_ROWS: &str =
     "{\"format\":\"kuifje-cert-1\",\"matrix\":[[\"1\",\"0\"],[\"0\",\"1\"],[\"1\",\"0\"],[\"0\",\"1\"]],\"verdict\":\"yes\"}\n";
 
 const GUESSES: &str =
     "refines no\nover 1\nrest 2\nactions 4\naction b0\n  0 3\n  1 3\n  2 0\n  3 0\naction b1\n  0 3\n  1 3\n  2 0\n  3 0\naction b2\n  0 0\n  1 3\n  2 3\n  3 0\naction b3\n  0 3\n  1 0\n  2 0\n  3 3\n";
 
 const GUESSES_CERT: &str =
+    "{\"actions\":[{\"gains\":[[\"0\",\"3\"],[\"1\",\"3\"],[\"2\",\"0\"],[\"3\",\"0\"]],\"name\":\"b0\"},{\"gains\":[[\"0\",\"3\"],[\"1\",\"3\"],[\"2\",\"0\"],[\"3\",\"0\"]],\"name\":\"b1\"},{\"gains\":[[\"0\",\"0\"],[\"1\",\"3\"],[\"2\",\"3\"],[\"3\",\"0\"]],\"name\":\"b2\"},{\"gains\":[[\"0\",\"3\"],[\"1\",\"0\"],[\"2\",\"0\"],[\"3\",\"3\"]],\"name\":\"b3\"}],\"format\":\"kuifje-cert-2\",\"over\":\"1\",\"rest\":\"2\",\"verdict\":\"no\"}\n";
+
+// The same in the first format.
+const GUESSES_FIRST: &str =
     "{\"actions\":[{\"gains\":[[\"0\",\"3\"],[\"1\",\"3\"],[\"2\",\"0\"],[\"3\",\"0\"]],\"name\":\"b0\"},{\"gains\":[[\"0\",\"3\"],[\"1\",\"3\"],[\"2\",\"0\"],[\"3\",\"0\"]],\"name\":\"b1\"},{\"gains\":[[\"0\",\"0\"],[\"1\",\"3\"],[\"2\",\"3\"],[\"3\",\"0\"]],\"name\":\"b2\"},{\"gains\":[[\"0\",\"3\"],[\"1\",\"0\"],[\"2\",\"0\"],[\"3\",\"3\"]],\"name\":\"b3\"}],\"format\":\"kuifje-cert-1\",\"over\":\"1\",\"rest\":\"2\",\"verdict\":\"no\"}\n";
 
 // The answer no.
@@ -247,13 +255,13 @@ fn marks_of_changed_entries(rt: HostRuntime) -> Result<(), Fail> {
 // Certificates for and against the program that shows a value, beside the one that shows its parity, and what is said of them.
 fn certificates() -> [(&'static str, &'static str, End<'static>); 13] {
     [
-        (CHECK, COPIES_CERT, End::answer("accepted\n")),
+        (CHECK, COPIES_BY_ROWS, End::answer("accepted\n")),
         (
             CHECK,
             "{\"format\":\"kuifje-cert-1\",\"matrix\":[[\"0\",\"1\"],[\"0\",\"1\"],[\"1\",\"0\"],[\"0\",\"1\"]],\"verdict\":\"yes\"}",
             denies("rejected cell\n"),
         ),
-        (CHECK, GUESSES_CERT, denies("rejected order\n")),
+        (CHECK, GUESSES_FIRST, denies("rejected order\n")),
         (
             CHECK,
             "{\"format\":\"kuifje-cert-1\",\"matrix\":[[\"1\",\"0\"],[\"0",
@@ -266,12 +274,12 @@ fn certificates() -> [(&'static str, &'static str, End<'static>); 13] {
         ),
         (
             "kuifje check c.json q.kf p.kf",
-            COPIES_CERT,
+            COPIES_BY_ROWS,
             denies("rejected shape\n"),
         ),
         (
             "kuifje check c.json q.kf p.kf",
-            GUESSES_CERT,
+            GUESSES_FIRST,
             End::answer("accepted\n"),
         ),
         (
@@ -297,13 +305,54 @@ fn certificates() -> [(&'static str, &'static str, End<'static>); 13] {
         ),
         (
             "kuifje check p.kf p.kf q.kf",
-            COPIES_CERT,
+            COPIES_BY_ROWS,
             stops(9, "kuifje: p.kf: Json\n"),
         ),
         (
             "kuifje check d.json p.kf q.kf",
-            COPIES_CERT,
+            COPIES_BY_ROWS,
             stops(3, "kuifje: d.json: read failed\n"),
+        ),
+    ]
+}
+
+// Certificates of the second format, on the same two programs.
+fn named() -> [(&'static str, &'static str, End<'static>); 8] {
+    [
+        (CHECK, COPIES_CERT, End::answer("accepted\n")),
+        (
+            "kuifje check c.json q.kf p.kf",
+            COPIES_CERT,
+            denies("rejected shape\n"),
+        ),
+        (
+            CHECK,
+            "{\"columns\":\"2\",\"entries\":[[\"0\",\"0\",\"1\"],[\"1\",\"1\",\"1\"],[\"2\",\"0\",\"1\"],[\"3\",\"1\",\"1\"]],\"format\":\"kuifje-cert-2\",\"rows\":\"5\",\"verdict\":\"yes\"}",
+            denies("rejected shape\n"),
+        ),
+        // Its first two entries are changed over.
+        (
+            CHECK,
+            "{\"columns\":\"2\",\"entries\":[[\"1\",\"1\",\"1\"],[\"0\",\"0\",\"1\"],[\"2\",\"0\",\"1\"],[\"3\",\"1\",\"1\"]],\"format\":\"kuifje-cert-2\",\"rows\":\"4\",\"verdict\":\"yes\"}",
+            stops(9, "kuifje: c.json: Form 7\n"),
+        ),
+        // Its second entry is left out.
+        (
+            CHECK,
+            "{\"columns\":\"2\",\"entries\":[[\"0\",\"0\",\"1\"],[\"2\",\"0\",\"1\"],[\"3\",\"1\",\"1\"]],\"format\":\"kuifje-cert-2\",\"rows\":\"4\",\"verdict\":\"yes\"}",
+            denies("rejected sum\n"),
+        ),
+        // An entry of 0 may be named.
+        (
+            CHECK,
+            "{\"columns\":\"2\",\"entries\":[[\"0\",\"0\",\"1\"],[\"0\",\"1\",\"0\"],[\"1\",\"1\",\"1\"],[\"2\",\"0\",\"1\"],[\"3\",\"1\",\"1\"]],\"format\":\"kuifje-cert-2\",\"rows\":\"4\",\"verdict\":\"yes\"}",
+            End::answer("accepted\n"),
+        ),
+        (CHECK, GUESSES_CERT, denies("rejected order\n")),
+        (
+            "kuifje check c.json q.kf p.kf",
+            GUESSES_CERT,
+            End::answer("accepted\n"),
         ),
     ]
 }
@@ -311,6 +360,9 @@ fn certificates() -> [(&'static str, &'static str, End<'static>); 13] {
 #[test]
 fn marks_of_certificates(rt: HostRuntime) -> Result<(), Fail> {
     for (words, cert, want) in certificates() {
+        marks(&rt, words, VALUE_TEXT, PARITY_TEXT, cert, want)?;
+    }
+    for (words, cert, want) in named() {
         marks(&rt, words, VALUE_TEXT, PARITY_TEXT, cert, want)?;
     }
     Ok(())
@@ -329,14 +381,14 @@ fn orders() -> [(
             "kuifje check d.json p.kf q.kf",
             SYNTAX,
             PARITY_TEXT,
-            COPIES_CERT,
+            COPIES_BY_ROWS,
             stops(5, "kuifje: p.kf:1:18: Syntax\n"),
         ),
         (
             "kuifje check d.json p.kf q.kf",
             VALUE_TEXT,
             OTHER_NAME,
-            COPIES_CERT,
+            COPIES_BY_ROWS,
             stops(3, "kuifje: d.json: read failed\n"),
         ),
         (
@@ -364,7 +416,7 @@ fn orders() -> [(
             CHECK,
             VALUE_TEXT,
             OTHER_NAME,
-            COPIES_CERT,
+            COPIES_BY_ROWS,
             stops(10, "kuifje: targets differ\n"),
         ),
         (
@@ -394,7 +446,7 @@ fn checks_that_are_refused(rt: HostRuntime) -> Result<(), Fail> {
 
 // The certificate that copies, and blanks up to this length.
 fn padded(alloc: Global, size: usize) -> Result<Vec<u8>, AllocError> {
-    let mut cert = COPIES_CERT.as_bytes().to_vec(alloc)?;
+    let mut cert = COPIES_BY_ROWS.as_bytes().to_vec(alloc)?;
     cert.resize(size, b' ')?;
     Ok(cert)
 }

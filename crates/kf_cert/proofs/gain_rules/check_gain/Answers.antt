@@ -4,9 +4,9 @@ use Rattle.std.proofs.lemmas.Result.{err_from_is_err_and}
 use Rattle.kf_gain.specs.Gains.{TableTree}
 use Rattle.kf_gain.specs.Views.{table_tree}
 use Rattle.kf_refine.specs.Refinements.{Separates}
-use Rattle.kf_refine.specs.Verdicts.{No}
 use Rattle.kf_refine.specs.Views.{hyper_tree}
 use Rattle.kf_value.specs.Views.{items_of}
+use Rattle.kf_cert.specs.Certificates.{No}
 use Rattle.kf_cert.specs.Marks.{IsMarked}
 use Rattle.kf_cert.specs.Naming.{IsMade, AreNarrow}
 use Rattle.kf_cert.specs.Views.{named_table}

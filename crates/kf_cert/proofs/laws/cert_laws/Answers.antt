@@ -1,5 +1,6 @@
 use Rattle.kf_cert.proofs.Accepting.{accepted_shows, carrying_accepted}
 use Rattle.kf_cert.proofs.Formed.{read_sound}
+use Rattle.kf_cert.proofs.NamedRows.{names_all}
 use Rattle.kf_cert.proofs.Proclaiming.{written}
 use Rattle.kf_cert.proofs.ReadingBack.{reads_back}
 use Rattle.kf_cert.proofs.laws.cert_laws.Goals as goal
@@ -19,3 +20,6 @@ returns-clause-written c a b pivots v cert r is_a is_b sized =
 
 pub returns-clause-read_sound : goal.returns-clause-read_sound
 returns-clause-read_sound c = read_sound
+
+pub returns-clause-names_all : goal.returns-clause-names_all
+returns-clause-names_all c = names_all

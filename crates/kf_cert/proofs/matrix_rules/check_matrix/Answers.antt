@@ -1,64 +1,31 @@
-use Rattle.std.proofs.Common.{◌≡◌, ◌*◌, ◌≤◌, All, Ok, sym, ◌∙◌, ap, subst, true≢false}
-use Rattle.kf_frac.specs.Fractions.{limit}
-use Rattle.kf_hyper.specs.Views.{scale_of}
-use Rattle.kf_refine.specs.Refinements.{count, IsShaped, CarriesWeights}
-use Rattle.kf_refine.specs.Verdicts.{Yes}
+use Rattle.std.proofs.Common.{◌≢◌, Ok, Err, sym, ap, subst}
+use Rattle.std.proofs.lemmas.Result.{err_from_is_err_and}
+use Rattle.kf_refine.specs.Refinements.{count, IsShaped}
 use Rattle.kf_refine.specs.Views.{hyper_tree, matrix_tree}
-use Rattle.kf_cert.specs.Marks.{IsMarked, SumToOne, denominator}
-use Rattle.kf_cert.specs.Rows.{rows_tree, SumsToOne}
-use Rattle.kf_cert.specs.Cells.{at_over}
-use Rattle.kf_cert.specs.declared.mark.Mark.TheVariants.{Accepted, Rejected}
-use Rattle.kf_cert.specs.declared.mark.Rule.TheVariants as rule
-use Rattle.kf_cert.proofs.Entries.{sums_told, told_sums}
-use Rattle.kf_cert.proofs.Rejecting.{sum_broken, cell_broken, none_broken}
+use Rattle.kf_cert.specs.Marks.{MarkedByRules}
+use Rattle.kf_cert.specs.Rows.{rows_tree}
+use Rattle.kf_cert.specs.declared.mark.CheckError.TheVariants as error
+use Rattle.kf_cert.proofs.Rejecting.{rows_marked}
 use Rattle.kf_cert.proofs.matrix_rules.check_matrix.Goals as goal
-
-pub returns-then-not-sum_to_one-clause-is : goal.returns-then-not-sum_to_one-clause-is
-returns-then-not-sum_to_one-clause-is c =
-    let a = hyper_tree c.args.a.now in
-    let b = hyper_tree c.args.b.now in
-    let rows = rows_tree c.as_slice-rows.result.now in
-    let read : rows ≡ matrix_tree c.args.matrix.now = ap rows_tree c.as_slice-rows.ensures in
-    let shaped : IsShaped (count a) (count b) rows =
-    subst (λ m. IsShaped m (count b) rows) c.count.ensures (subst (λ n. IsShaped c.count.result n rows) c.count-2.ensures (c.is_shaped.ensures.0 c.if-not-is_shaped.false)) in
-    let range = c.is_in_range.ensures.0 c.if-not-is_in_range.false in
-    let narrow : scale_of c.args.a.now * denominator rows ≤ limit = subst (λ n. n * denominator rows ≤ limit) c.scale.ensures.kept c.in-Some.ensures.exact.0 in
-    let over : c.in-Some.over ≡ denominator rows = c.in-Some.ensures.exact.1 in
-    subst (λ r. IsMarked a b (Yes r) (Ok (Rejected rule.Sum))) read
-    (sum_broken a b rows shaped range narrow (λ sums.
-    let all = subst (λ d. All (SumsToOne d) rows) (sym over) (told_sums (count a) (count b) rows shaped sums) in
-    absurd (true≢false (sym (c.sum_to_one.ensures.1 all) ∙ c.if-not-sum_to_one.true))))
-
-pub returns-then-not-branch-clause-is : goal.returns-then-not-branch-clause-is
-returns-then-not-branch-clause-is c =
-    let a = hyper_tree c.args.a.now in
-    let b = hyper_tree c.args.b.now in
-    let rows = rows_tree c.as_slice-rows.result.now in
-    let read : rows ≡ matrix_tree c.args.matrix.now = ap rows_tree c.as_slice-rows.ensures in
-    let shaped : IsShaped (count a) (count b) rows =
-    subst (λ m. IsShaped m (count b) rows) c.count.ensures (subst (λ n. IsShaped c.count.result n rows) c.count-2.ensures (c.is_shaped.ensures.0 c.if-not-is_shaped.false)) in
-    let range = c.is_in_range.ensures.0 c.if-not-is_in_range.false in
-    let narrow : scale_of c.args.a.now * denominator rows ≤ limit = subst (λ n. n * denominator rows ≤ limit) c.scale.ensures.kept c.in-Some.ensures.exact.0 in
-    let over : c.in-Some.over ≡ denominator rows = c.in-Some.ensures.exact.1 in
-    let sums : SumToOne (count a) (count b) rows =
-    sums_told (count a) (count b) rows shaped (subst (λ d. All (SumsToOne d) rows) over (c.sum_to_one.ensures.0 c.if-not-sum_to_one.false)) in
-    subst (λ r. IsMarked a b (Yes r) (Ok (Rejected rule.Cell))) read
-    (cell_broken a b rows shaped range narrow sums (λ carried.
-    let there = subst (λ d. CarriesWeights a b d (at_over d rows)) (sym over) carried in
-    absurd (true≢false (sym (c.in_ok-carries.ensures.1 there) ∙ c.if-not-branch.true))))
 
 pub returns-clause-is : goal.returns-clause-is
 returns-clause-is c =
     let a = hyper_tree c.args.a.now in
     let b = hyper_tree c.args.b.now in
     let rows = rows_tree c.as_slice-rows.result.now in
-    let read : rows ≡ matrix_tree c.args.matrix.now = ap rows_tree c.as_slice-rows.ensures in
     let shaped : IsShaped (count a) (count b) rows =
     subst (λ m. IsShaped m (count b) rows) c.count.ensures (subst (λ n. IsShaped c.count.result n rows) c.count-2.ensures (c.is_shaped.ensures.0 c.if-not-is_shaped.false)) in
-    let range = c.is_in_range.ensures.0 c.if-not-is_in_range.false in
-    let narrow : scale_of c.args.a.now * denominator rows ≤ limit = subst (λ n. n * denominator rows ≤ limit) c.scale.ensures.kept c.in-Some.ensures.exact.0 in
-    let over : c.in-Some.over ≡ denominator rows = c.in-Some.ensures.exact.1 in
-    let sums : SumToOne (count a) (count b) rows =
-    sums_told (count a) (count b) rows shaped (subst (λ d. All (SumsToOne d) rows) over (c.sum_to_one.ensures.0 c.if-not-sum_to_one.false)) in
-    subst (λ r. IsMarked a b (Yes r) (Ok Accepted)) read
-    (none_broken a b rows shaped range narrow sums (subst (λ d. CarriesWeights a b d (at_over d rows)) over (c.in_ok-carries.ensures.0 c.if-not-branch.false)))
+    rows_marked a b rows (matrix_tree c.args.matrix.now) (ap rows_tree c.as_slice-rows.ensures) shaped (Ok c.in_ok-mark.mark) c.in_ok-mark.ensures.is
+
+pub returns-in_err-mark-clause-err : goal.returns-in_err-mark-clause-err
+returns-in_err-mark-clause-err c =
+    let a = hyper_tree c.args.a.now in
+    let b = hyper_tree c.args.b.now in
+    let rows = rows_tree c.as_slice-rows.result.now in
+    let p = err_from_is_err_and c.from_residual.result c.from_residual.ensures.1 in
+    let shaped : IsShaped (count a) (count b) rows =
+    subst (λ m. IsShaped m (count b) rows) c.count.ensures (subst (λ n. IsShaped c.count.result n rows) c.count-2.ensures (c.is_shaped.ensures.0 c.if-not-is_shaped.false)) in
+    rw p.1
+    (λ other.
+    rows_marked a b rows (matrix_tree c.args.matrix.now) (ap rows_tree c.as_slice-rows.ensures) shaped (Err p.0)
+    (subst (λ e. MarkedByRules a b rows (Err e)) (sym p.2) (c.in_err-mark.ensures.err (subst (λ e. e ≢ error.Mem) p.2 other))))

@@ -7,6 +7,7 @@ mod causes;
 mod commands;
 mod examples;
 mod faults;
+mod hostile;
 mod jobs;
 mod leaks;
 mod refining;

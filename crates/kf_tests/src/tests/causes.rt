@@ -48,7 +48,11 @@ fn a_sink_that_fails(rt: HostRuntime) -> Result<(), Fail> {
 }
 
 // A run over a text in pieces of this length ends so, where these reads fail.
-fn a_read_fails(rt: &(impl Abort + AllocGlobal), piece: usize, fail: &[u64]) -> Result<(), Fail>
+pub(super) fn a_read_fails(
+    rt: &(impl Abort + AllocGlobal),
+    piece: usize,
+    fail: &[u64],
+) -> Result<(), Fail>
     requires { 0 < piece }
 {
     let mut files = text_files(rt.alloc(), PARITY_TEXT, piece, fail)?;

@@ -3,7 +3,7 @@ use crate::tests::causes::{PARITY_TEXT, USAGE};
 use crate::tests::*;
 
 /// The words of a run with a gain table.
-const TABLE: &str = "kuifje leak p.kf --gain table:g.json";
+pub(super) const TABLE: &str = "kuifje leak p.kf --gain table:g.json";
 
 const TWO_LINES: &str = "var x : 0..1 := uniform 0..1;\nobserve choose { x : 3, 1 - x : 1 };\n";
 
@@ -25,7 +25,7 @@ observe choose { 0 : 1000000000 * 1000000000, 1 : 1 };
 observe choose { 0 : 1000000000 * 1000000000, 1 : 1 };
 ";
 
-const LOW_OR_HIGH: &str =
+pub(super) const LOW_OR_HIGH: &str =
     "{\"actions\":[{\"gains\":[[\"0\",1],[\"1\",1]],\"name\":\"low\"},{\"gains\":[[\"2\",1],[\"3\",1]],\"name\":\"high\"}],\"format\":\"kuifje-gain-1\",\"over\":1,\"rest\":0}";
 
 const LOSE: &str =
@@ -35,7 +35,7 @@ const THOUSANDTHS: &str =
     "{\"actions\":[{\"gains\":[[\"0\",1]],\"name\":\"a\"}],\"format\":\"kuifje-gain-1\",\"over\":1000,\"rest\":0}";
 
 // The report of a table that gains nothing by what is shown.
-const HALF: &str = "gain table\nprior 1/2\nposterior 1/2\nquotient 1\ndifference 0\n";
+pub(super) const HALF: &str = "gain table\nprior 1/2\nposterior 1/2\nquotient 1\ndifference 0\n";
 
 // An end without an answer.
 pub(super) fn stops(status: u8, err: &str) -> End<'_> {

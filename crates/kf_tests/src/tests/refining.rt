@@ -7,9 +7,9 @@ const REFINE: &str = "kuifje refine p.kf q.kf";
 
 const TWICE: &str = "kuifje refine p.kf p.kf";
 
-const CHECK: &str = "kuifje check c.json p.kf q.kf";
+pub(super) const CHECK: &str = "kuifje check c.json p.kf q.kf";
 
-const VALUE_TEXT: &str = "var x : 0..3 := uniform 0..3;\nobserve x;\n";
+pub(super) const VALUE_TEXT: &str = "var x : 0..3 := uniform 0..3;\nobserve x;\n";
 
 const SYNTAX: &str = "var x : 0..3 := 1";
 
@@ -31,7 +31,7 @@ const COPIES_CERT: &str =
     "{\"columns\":\"2\",\"entries\":[[\"0\",\"0\",\"1\"],[\"1\",\"1\",\"1\"],[\"2\",\"0\",\"1\"],[\"3\",\"1\",\"1\"]],\"format\":\"kuifje-cert-2\",\"rows\":\"4\",\"verdict\":\"yes\"}\n";
 
 // The same matrix in the first format, which is read and no longer written.
-const COPIES_BY_ROWS: &str =
+pub(super) const COPIES_BY_ROWS: &str =
     "{\"format\":\"kuifje-cert-1\",\"matrix\":[[\"1\",\"0\"],[\"0\",\"1\"],[\"1\",\"0\"],[\"0\",\"1\"]],\"verdict\":\"yes\"}\n";
 
 const GUESSES: &str =

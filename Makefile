@@ -1,6 +1,6 @@
 # `make` shows the first example's answer, proves and builds the program, and leaves it as bin/kuifje. README.md says what each
 # command does and how long it takes.
-.PHONY: first try install test audit
+.PHONY: first try install test audit hostile
 
 PREFIX ?= /usr/local
 FILE ?= examples/first.kf
@@ -24,6 +24,10 @@ bin/kuifje:
 # The gate: proves and tries what changed since it last passed on this machine, and runs every test and the program.
 test:
 	.ci/run
+
+# Throws bad texts, bad files and little memory at the built program, and says what it saw.
+hostile: bin/kuifje
+	python3 hostile/run.py
 
 # The same with nothing kept: all is proved anew, and each wrong body tried anew.
 audit:

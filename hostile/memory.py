@@ -1,0 +1,46 @@
+"""Memory: a limit on the address space, stepped up until the program has all that it wants."""
+import resource
+
+STEP = 16 * 1024
+WANT_OF_MEMORY = 12
+NOISY = b"var x : 0..1 := uniform 0..1;\nobserve choose { x : 3, 1 - x : 1 };\n"
+SHOWN = b"var x : 0..3 := uniform 0..3;\nobserve x;\n"
+PARITY = b"var x : 0..3 := uniform 0..3;\nobserve x mod 2;\n"
+
+
+def limited(size):
+    return lambda: resource.setrlimit(resource.RLIMIT_AS, (size, size))
+
+
+LOADER_FAILED = 127
+
+
+def is_started(outcome):
+    """Under a limit that is too small for the program's own code the system, or its loader, ends it before its first step."""
+    return outcome.status is None or 0 <= outcome.status != LOADER_FAILED
+
+
+def try_memory(program, report, folder):
+    folder.mkdir()
+    for name, text in (("first.kf", PARITY), ("noisy.kf", NOISY), ("p.kf", SHOWN), ("q.kf", PARITY)):
+        (folder / name).write_bytes(text)
+    told = []
+    for words in (["hyper", "first.kf"], ["leak", "noisy.kf", "--gain", "bayes"], ["refine", "p.kf", "q.kf"], ["make", "60"]):
+        whole = program.run(words, cwd=folder)
+        size, short, answered, started = STEP, 0, 0, False
+        while answered < 16:
+            size += STEP
+            try:
+                outcome = program.run(words, cwd=folder, preexec_fn=limited(size))
+            except OSError:
+                continue  # the limit leaves no room to begin at all
+            started = started or is_started(outcome)
+            if not started:
+                continue
+            answered = answered + 1 if outcome.status == whole.status else 0
+            short += outcome.status == WANT_OF_MEMORY
+            report.add(outcome, f"{words} within {size} bytes", None, {WANT_OF_MEMORY, whole.status})
+            if outcome.status == whole.status and outcome.out != whole.out:
+                report.refuse(f"{words} within {size} bytes: another answer")
+        told.append(f"{' '.join(words)}: {short} times short of memory, enough from {(size - 15 * STEP) // 1024} KiB on")
+    return "; ".join(told)

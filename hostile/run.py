@@ -62,8 +62,6 @@ def main():
             ("texts", lambda report, folder: try_texts(program, report, TOP / "examples", folder, asked.runs, asked.seed)),
         ):
             report, folder = Report(), Path(scratch) / name
-            if name == "texts":
-                folder.mkdir()
             report.tell(name, tries(report, folder))
             faults += report.faults
     print("nothing that isn't documented" if faults == 0 else f"{faults} faults")

@@ -85,6 +85,15 @@ def words_for(number):
     )[number % 8]
 
 
+def cuts(text):
+    """Lists of places that fall: every place of a short text in one, and a thousand of a long one in ten, which several workers share."""
+    if len(text) <= CUTS:
+        return [range(len(text), -1, -1)]
+    places = [len(text) * k // CUTS for k in range(CUTS, -1, -1)]
+    share = len(places) // 10 + 1
+    return [places[start:start + share] for start in range(0, len(places), share)]
+
+
 class Tries:
     """Runs over files that one worker has to itself."""
 
@@ -98,11 +107,10 @@ class Tries:
         outcome = self.program.run(words, cwd=self.folder)
         self.report.add(outcome, case, bytes_)
 
-    def cut(self, name, text):
-        """The text cut at every place, or at a thousand, the longest first, so that it is written once."""
+    def cut(self, name, text, places):
+        """The text cut at these places, which fall, so that it is written once."""
         self.file.write_bytes(text)
-        places = range(len(text) + 1) if len(text) <= CUTS else sorted({len(text) * k // CUTS for k in range(CUTS + 1)})
-        for number, place in enumerate(reversed(places)):
+        for number, place in enumerate(places):
             with self.file.open("r+b") as file:
                 file.truncate(place)
             self.run(words_for(number) if len(text) <= CUTS else ["hyper", "p.kf"], f"{name}, cut at {place}", text[:place])
@@ -119,11 +127,12 @@ class Tries:
 def try_texts(program, report, examples, folder, runs, seed):
     programs = [(path.name, path.read_bytes()) for path in sorted(examples.glob("*.kf"))]
     texts = programs + [(name, text.encode()) for name, text in long_texts().items()]
-    workers = cpu_count() or 1
-    with ThreadPoolExecutor(workers) as pool:
-        cuts = [pool.submit(Tries(program, report, folder / f"cut{number}").cut, name, text) for number, (name, text) in enumerate(texts)]
-        for cut in cuts:
-            cut.result()
+    folder.mkdir()
+    with ThreadPoolExecutor(cpu_count()) as pool:
+        shares = [(name, text, places) for name, text in texts for places in cuts(text)]
+        parts = [pool.submit(Tries(program, report, folder / f"cut{number}").cut, *share) for number, share in enumerate(shares)]
+        for part in parts:
+            part.result()
         left = max(0, runs - report.runs)
         parts = [pool.submit(Tries(program, report, folder / f"changed{part}").change, programs, f"{seed} {part}", left // 64 + 1)
                  for part in range(64)]

@@ -3,14 +3,14 @@ use Rattle.std.proofs.Common.{◌≡◌, ℕ, ◌*◌, ◌/◌, ◌<◌, List, [
 use Rattle.std.specs.Prelude.{flat_map}
 use Rattle.std.proofs.Math.IntN.{ℤ, pos, ◌*ℤ◌}
 use Rattle.std.proofs.Math.Nat.{mul-div_cancel'}
-use Rattle.std.proofs.lemmas.Nat.Gcd.{dvd_trans}
 use Rattle.std.proofs.lemmas.Int.{ints}
 use Rattle.std.proofs.lemmas.List.Elements.{All-head, All-tail, All-cons, All-nil, All-append, All-map, All-get_or, All-from_get_or}
 use Rattle.std.specs.Int.{◌∣◌}
-use Rattle.kf_frac.proofs.CommonMultiples.{lcm_is}
+use Rattle.kf_frac.specs.Divisors.{common_multiple}
+use Rattle.kf_frac.proofs.Multiples.{common_positive, common_divided}
 use Rattle.kf_frac.proofs.Ring.{ring}
 use Rattle.kf_refine.specs.Refinements.{Fraction, entry, IsShaped}
-use Rattle.kf_cert.specs.Marks.{common_multiple, denominator, over_one}
+use Rattle.kf_cert.specs.Marks.{denominator, over_one}
 
 -- ---- entries of a matrix
 
@@ -29,21 +29,6 @@ module _ (P : Fraction → Type 0) (m n : ℕ) (rows : List (List Fraction)) (sh
       All-from_get_or P (get_or rows i []) (record { num = pos 0; den = 1 })
       (λ (j : ℕ) (k : j < length (get_or rows i [])).
       each i j (subst (λ (v : ℕ). i < v) shape.many inside) (subst (λ (v : ℕ). j < v) long k)))
-
--- ---- the common multiple
-
-common_positive : (ds : List ℕ) → All (λ d. 0 < d) ds → 0 < common_multiple ds
-common_positive [] h = omega arith
-common_positive (d ∷ ds) h =
-    (lcm_is d (common_multiple ds) (All-head (λ d. 0 < d) d ds h) (common_positive ds (All-tail (λ d. 0 < d) d ds h))).positive
-
-common_divided : (ds : List ℕ) → All (λ d. 0 < d) ds → All (λ d. d ∣ common_multiple ds) ds
-common_divided [] h = All-nil (λ d. d ∣ 1)
-common_divided (d ∷ ds) h =
-    let rest = All-tail (λ d. 0 < d) d ds h in
-    let is = lcm_is d (common_multiple ds) (All-head (λ d. 0 < d) d ds h) (common_positive ds rest) in
-    All-cons (λ e. e ∣ common_multiple (d ∷ ds)) d ds is.left
-    (λ k e within. dvd_trans (get_or ds k e) (common_divided ds rest k e within) is.right)
 
 -- ---- the denominator
 

@@ -11,7 +11,7 @@ use Rattle.kf_frac.proofs.CommonMultiples.{product_positive}
 use Rattle.kf_frac.proofs.LowestTerms.{reduced_num_times, reduced_den_times}
 use Rattle.kf_frac.proofs.Ring.{ring}
 use Rattle.kf_gain.specs.Gains.{Table, TableTree}
-use Rattle.kf_gain.specs.Views.{IsFraction}
+use Rattle.kf_frac.specs.Parts.{IsFraction}
 use Rattle.kf_gain.specs.Vulnerabilities.{IsPosterior}
 use Rattle.kf_gain.proofs.Reports.{one_report}
 use Rattle.kf_refine.specs.Refinements.{HyperTree, Separates}

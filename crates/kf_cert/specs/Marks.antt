@@ -2,7 +2,7 @@
 use Rattle.std.specs.Prelude.{◌≡◌, ◌⊎◌, ◌↔◌, ℕ, ◌*◌, ◌/◌, ◌<◌, ◌≤◌, max, All, ℤ, pos, ◌*ℤ◌, ◌≤ℤ◌, List, [], ◌∷◌, map, flat_map, length, Contains, true, Result, Ok, Err}
 use Rattle.std.specs.List.{AllZip, list_all}
 use Rattle.std.specs.List.Sorted.{IsStrictlyIncreasing}
-use Rattle.kf_frac.specs.Divisors.{lcm_of}
+use Rattle.kf_frac.specs.Divisors.{common_multiple}
 use Rattle.kf_frac.specs.Fractions.{limit}
 use Rattle.kf_json.specs.Rules.{are_distinct}
 use Rattle.kf_value.specs.Targets.{Item, target_values, target_value_text}
@@ -31,11 +31,6 @@ Unless holds broken next r = ((holds → ⊥) × (r ≡ broken)) ⊎ (holds × n
 -- no entry is below 0 or above 1
 abbrev pub IsInRange : List (List Fraction) → Type 0
 IsInRange rows = All (λ row. All (λ f. (pos 0 ≤ℤ f.num) × (f.num ≤ℤ pos f.den)) row) rows
-
--- the least common multiple of all these
-abbrev pub common_multiple : List ℕ → ℕ
-common_multiple [] = 1
-common_multiple (d ∷ ds) = lcm_of d (common_multiple ds)
 
 -- the one denominator of all entries
 abbrev pub denominator : List (List Fraction) → ℕ

@@ -1,6 +1,5 @@
 -- For bodies: the rules on a matrix, row by row.
-use Rattle.std.specs.Prelude.{◌≡◌, ℕ, ◌/◌, ℤ, pos, ◌*ℤ◌, ◌≤ℤ◌, List, [], ◌∷◌, map, flat_map, length, slice_index_or}
-use Rattle.kf_frac.specs.Divisors.{lcm_of}
+use Rattle.std.specs.Prelude.{◌≡◌, ℕ, ◌/◌, ℤ, pos, ◌*ℤ◌, ◌≤ℤ◌, List, map, flat_map, length, slice_index_or}
 use Rattle.kf_frac.specs.declared.frac.Frac.{Frac}
 use Rattle.kf_simplex.specs.Base.{total}
 use Rattle.kf_refine.specs.Refinements.{Fraction}
@@ -23,11 +22,6 @@ row_dens row = map (λ f. f.den) row
 
 abbrev pub dens : List (List Fraction) → List ℕ
 dens rows = flat_map (λ row. map (λ f. f.den) row) rows
-
--- the least common multiple of `start` and all these
-abbrev pub multiple_from : ℕ → List ℕ → ℕ
-multiple_from start [] = start
-multiple_from start (d ∷ ds) = multiple_from (lcm_of d start) ds
 
 -- a fraction as a whole number over d
 abbrev pub over_whole : ℕ → Fraction → ℤ

@@ -1,6 +1,7 @@
 pub mod CommonDivisors
 pub mod CommonMultiples
 pub mod LowestTerms
+pub mod Multiples
 pub mod Products
 pub mod Ring
 pub mod Scaling

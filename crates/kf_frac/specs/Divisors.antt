@@ -1,5 +1,5 @@
 -- Believed: common divisors and common multiples of whole numbers.
-use Rattle.std.specs.Prelude.{ℕ, zero, suc, ◌*◌, ◌%◌, ◌==◌, ◌&&◌, max, Bool, if◌then◌else◌}
+use Rattle.std.specs.Prelude.{ℕ, zero, suc, ◌*◌, ◌%◌, ◌==◌, ◌&&◌, max, Bool, List, [], ◌∷◌, if◌then◌else◌}
 
 -- whether d divides both a and b
 abbrev pub divides_both : ℕ → ℕ → ℕ → Bool
@@ -22,3 +22,8 @@ first_multiple (suc k) m a b = if (m % a == 0) && (m % b == 0) then m else first
 -- the least common multiple of two positive numbers: the first number from 1 on that both divide
 unfoldable pub lcm_of : ℕ → ℕ → ℕ
 lcm_of a b = first_multiple (a * b) 1 a b
+
+-- the least common multiple of all these positive numbers; 1 of none
+abbrev pub common_multiple : List ℕ → ℕ
+common_multiple [] = 1
+common_multiple (d ∷ ds) = lcm_of d (common_multiple ds)

@@ -1,8 +1,4 @@
--- For bodies: what contracts see of gains, of tables and of fractions.
-use Rattle.std.specs.Prelude.{◌≡◌, ℕ, ℤ}
-use Rattle.kf_frac.specs.Fractions.{reduced_num, reduced_den}
-use Rattle.kf_frac.specs.Views.{num_of, den_of}
-use Rattle.kf_frac.specs.declared.frac.Frac.{Frac}
+-- For bodies: what contracts see of gains and of tables.
 use Rattle.kf_gain.specs.declared.gain.Gain.{Gain}
 use Rattle.kf_gain.specs.declared.gain.Gain.TheVariants as gain
 use Rattle.kf_gain.specs.declared.table.GainTable.{GainTable}
@@ -16,8 +12,3 @@ gain_tree gain.Bayes = Bayes
 gain_tree (gain.Tries k) = Tries k
 gain_tree gain.Guessing = Guessing
 gain_tree (gain.Table t) = Table (table_tree t)
-
--- the fraction is n / d in lowest terms
-pub record IsFraction (f : Frac) (n : ℤ) (d : ℕ) : Type 0 where
-  pub num : num_of f ≡ reduced_num n d
-  pub den : den_of f ≡ reduced_den n d

@@ -1,4 +1,4 @@
-ghost use Rattle.std.specs.Prelude.{◌≡◌, ◌≤◌, ◌*◌, ◌*ℤ◌, ◌∷◌, pos, map, unsigned_abs};
+ghost use Rattle.std.specs.Prelude.{◌≡◌, ◌≤◌, ◌<◌, ◌*◌, ◌*ℤ◌, [], ◌∷◌, pos, map, length, slice_index_or, unsigned_abs};
 ghost use Rattle.std.specs.List.Sorted.{IsStrictlyIncreasing};
 ghost use Rattle.kf_frac.specs.Fractions.{limit};
 ghost use Rattle.kf_hyper.specs.Columns.{total};
@@ -42,6 +42,17 @@ fn gained(rest: i128, gains: &[GainEntry], entries: &[Entry]) -> i128
         sum += times(entry.weight, gain_at(rest, gains, entry.value));
     }
     sum
+}
+
+/// What the action `k` of a table, from 0, gains from a column, over the column's total times the table's `over`.
+pub fn action_gain(table: &GainTable, k: usize, entries: &[Entry]) -> i128
+    requires action { k < length (table_tree table.now).actions }
+    requires narrow { total entries.now ≤ limit }
+    requires fits { total entries.now * greatest (gains_of (table_tree table.now)) ≤ limit }
+    ensures { result ≡ sum_gained table.now.rest (slice_index_or table.now.actions k (record { name = []; gains = [] })).gains entries.now }
+{
+    let action = &table.actions.as_slice()[k];
+    gained(table.rest, action.gains.as_slice(), entries)
 }
 
 // What the best action of a table gains from a column.

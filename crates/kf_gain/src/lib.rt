@@ -12,6 +12,7 @@ mod table_law;
 mod vulnerability;
 mod widths;
 
+pub use actions::action_gain;
 pub use error::TableError;
 pub use gain::{Gain, GainFault};
 pub use law::{average_laws, gain_laws, vulnerability_laws};

@@ -1,4 +1,3 @@
-mod Alike
 pub mod Built
 pub mod Certifying
 pub mod Coefficients

@@ -17,10 +17,10 @@ use crate::kept::kept;
 use crate::laws::{one_verdict, verdict_laws};
 use crate::matrix::matrix;
 use crate::multipliers::table;
-use crate::targets::same_target;
 use crate::{RefineError, Verdict};
 use kf_hyper::Hyper;
 use kf_simplex::{Outcome, SimplexError, System, solve};
+use kf_value::same_target;
 use std::alloc::Global;
 
 /// The most cells that a tableau may have.

@@ -9,10 +9,8 @@ mod laws;
 mod matrix;
 mod multipliers;
 mod scalings;
-mod targets;
 mod verdict;
 
 pub use deciding::refine;
 pub use laws::{one_verdict, refine_laws, verdict_laws};
-pub use targets::same_target;
 pub use verdict::{FracRowList, Matrix, RefineError, Verdict};

@@ -11,7 +11,7 @@ use Rattle.kf_frac.specs.Views.{num_of, den_of}
 use Rattle.kf_frac.proofs.CommonMultiples.{product_positive}
 use Rattle.kf_frac.proofs.LowestTerms.{reduced_num_times, reduced_den_times}
 use Rattle.kf_frac.proofs.Ring.{ring, neg_mul}
-use Rattle.kf_gain.specs.Views.{IsFraction}
+use Rattle.kf_frac.specs.Parts.{IsFraction}
 
 -- the fraction is z / n, and its denominator divides n
 pub record IsOver (f : Frac) (z : ℤ) (n : ℕ) : Type 0 where

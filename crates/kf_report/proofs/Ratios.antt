@@ -8,7 +8,7 @@ use Rattle.kf_frac.specs.Views.{num_of, den_of}
 use Rattle.kf_frac.proofs.CommonMultiples.{product_positive}
 use Rattle.kf_frac.proofs.Ring.{ring, mul_assoc}
 use Rattle.kf_frac.proofs.Scaling.{same_num, same_den, reduced_fit}
-use Rattle.kf_gain.specs.Views.{IsFraction}
+use Rattle.kf_frac.specs.Parts.{IsFraction}
 use Rattle.kf_report.proofs.Crossing.{IsOver, abs_is, positive}
 
 first_step : (q b y : ℤ) → q *ℤ b *ℤ y ≡ q *ℤ (y *ℤ b)

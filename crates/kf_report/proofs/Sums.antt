@@ -12,7 +12,7 @@ use Rattle.kf_frac.specs.Views.{num_of, den_of}
 use Rattle.kf_frac.proofs.CommonMultiples.{lcm_is, product_positive}
 use Rattle.kf_frac.proofs.Ring.{ring, add_mul, mul_assoc}
 use Rattle.kf_frac.proofs.Scaling.{same_num, same_den}
-use Rattle.kf_gain.specs.Views.{IsFraction}
+use Rattle.kf_frac.specs.Parts.{IsFraction}
 use Rattle.kf_report.proofs.Crossing.{IsOver}
 
 swapped : (q u n : ℤ) → q *ℤ u *ℤ n ≡ q *ℤ n *ℤ u

@@ -3,7 +3,7 @@ use Rattle.std.specs.Prelude.{ℕ, ◌<◌, ◌≤◌, ℤ, pos, ◌-ℤ◌, ◌
 use Rattle.std.specs.declared.option.Option.{Option}
 use Rattle.kf_frac.specs.Fractions.{limit}
 use Rattle.kf_frac.specs.declared.frac.Frac.{Frac}
-use Rattle.kf_gain.specs.Views.{IsFraction}
+use Rattle.kf_frac.specs.Parts.{IsFraction}
 use Rattle.kf_report.specs.Reports.{Leakage}
 use Rattle.kf_report.specs.declared.report.Report.{Report}
 

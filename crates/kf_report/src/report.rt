@@ -3,7 +3,8 @@ ghost use Rattle.kf_frac.specs.Fractions.{limit};
 ghost use Rattle.kf_frac.specs.Views.{num_of, den_of};
 ghost use Rattle.kf_hyper.specs.Views.{inners_of, scale_of};
 ghost use Rattle.kf_gain.specs.Vulnerabilities.{IsWidth};
-ghost use Rattle.kf_gain.specs.Views.{gain_tree, IsFraction};
+ghost use Rattle.kf_frac.specs.Parts.{IsFraction};
+ghost use Rattle.kf_gain.specs.Views.{gain_tree};
 ghost use Rattle.kf_report.specs.Reports.{Leakage, IsLeakage};
 ghost use Rattle.kf_report.specs.Views.{IsNarrow, IsPair, IsQuotient, IsReport};
 

@@ -1,3 +1,4 @@
+pub mod Alike
 mod Apart
 pub mod Ascending
 mod Comparing

@@ -1,6 +1,7 @@
 //! Types and values, their order and numbers, stores and targets, and what values print as.
 #![tactic(auto)]
 
+mod equality;
 mod kind;
 mod laws;
 mod mem;
@@ -19,6 +20,7 @@ mod truth;
 mod ty;
 mod value;
 
+pub use equality::same_target;
 pub use kind::{Kind, KindList};
 pub use laws::{order_laws, store_laws, text_laws};
 pub use mem::Mem;

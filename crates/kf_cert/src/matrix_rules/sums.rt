@@ -2,8 +2,9 @@
 
 ghost use Rattle.std.specs.Prelude.{◌≡◌, ◌↔◌, ◌*◌, ◌≤◌, ◌<◌, All, IsTrue, IfSome, SomeIff, pos};
 ghost use Rattle.kf_cert.specs.Marks.{IsInRange, denominator};
-ghost use Rattle.kf_cert.specs.Rows.{rows_tree, row_tree, IsWithin, dens, row_dens, multiple_from, over_whole, SumsToOne};
+ghost use Rattle.kf_cert.specs.Rows.{rows_tree, row_tree, IsWithin, dens, row_dens, over_whole, SumsToOne};
 ghost use Rattle.kf_frac.specs.Fractions.{limit};
+ghost use Rattle.kf_frac.specs.Laws.{multiple_from};
 ghost use Rattle.kf_refine.specs.Views.{fraction_of};
 
 use kf_frac::{Frac, lcm};

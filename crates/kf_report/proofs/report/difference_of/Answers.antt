@@ -1,7 +1,7 @@
 use Rattle.std.proofs.Common.{◌≡◌, ℤ, pos, ◌+ℤ◌, ◌-ℤ◌, neg_ℤ, unsigned_abs, subst}
 use Rattle.kf_frac.specs.Fractions.{limit}
 use Rattle.kf_frac.specs.declared.frac.Frac.{Frac}
-use Rattle.kf_gain.specs.Views.{IsFraction}
+use Rattle.kf_frac.specs.Parts.{IsFraction}
 use Rattle.kf_report.specs.Reports.{Leakage}
 use Rattle.kf_report.specs.Views.{IsNarrow, IsPair}
 use Rattle.kf_report.proofs.Crossing.{is_over, minus_over}

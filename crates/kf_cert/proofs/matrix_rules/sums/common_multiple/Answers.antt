@@ -1,6 +1,7 @@
 use Rattle.std.proofs.Common.{◌≤◌, ◌+◌, drop, sym, ap, ◌∙◌, subst}
 use Rattle.kf_frac.specs.Fractions.{limit}
-use Rattle.kf_cert.specs.Rows.{row_tree, rows_tree, row_dens, dens, multiple_from}
+use Rattle.kf_frac.specs.Laws.{multiple_from}
+use Rattle.kf_cert.specs.Rows.{row_tree, rows_tree, row_dens, dens}
 use Rattle.kf_cert.proofs.Multiples.{rows_wide, rows_more}
 use Rattle.kf_cert.proofs.matrix_rules.sums.common_multiple.Goals as goal
 

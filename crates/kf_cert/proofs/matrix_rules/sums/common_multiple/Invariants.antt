@@ -1,6 +1,7 @@
 use Rattle.std.proofs.Common.{◌≡◌, ◌<◌, ◌≤◌, drop}
 use Rattle.kf_frac.specs.Fractions.{limit}
-use Rattle.kf_cert.specs.Rows.{rows_tree, dens, multiple_from}
+use Rattle.kf_frac.specs.Laws.{multiple_from}
+use Rattle.kf_cert.specs.Rows.{rows_tree, dens}
 use Rattle.kf_cert.proofs.matrix_rules.sums.common_multiple.Given as goal
 
 abbrev pub invariant-loop-row : goal.invariant-loop-row

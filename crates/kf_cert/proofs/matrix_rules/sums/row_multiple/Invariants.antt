@@ -1,6 +1,7 @@
 use Rattle.std.proofs.Common.{◌≡◌, ◌<◌, ◌≤◌, drop}
 use Rattle.kf_frac.specs.Fractions.{limit}
-use Rattle.kf_cert.specs.Rows.{row_tree, row_dens, multiple_from}
+use Rattle.kf_frac.specs.Laws.{multiple_from}
+use Rattle.kf_cert.specs.Rows.{row_tree, row_dens}
 use Rattle.kf_cert.proofs.matrix_rules.sums.row_multiple.Given as goal
 
 abbrev pub invariant-loop-f : goal.invariant-loop-f

@@ -4,7 +4,7 @@ ghost use Rattle.std.specs.Prelude.{◌≡◌, ◌↔◌, map, IsTrue};
 ghost use Rattle.kf_value.specs.TypeViews.{item_of, type_tree};
 ghost use Rattle.kf_value.specs.Views.{items_of};
 
-use kf_value::{Target, TargetItem, Ty};
+use crate::{Target, TargetItem, Ty};
 
 /// Whether two targets have the same items in the same order: each alike in `old`, name and type.
 pub fn same_target(a: &Target, b: &Target) -> bool

@@ -1,7 +1,7 @@
 use Rattle.std.proofs.Common.{sym, ◌∙◌, true≢false, arith}
 use Rattle.kf_value.specs.TypeViews.{item_of}
-use Rattle.kf_refine.proofs.Alike.{apart}
-use Rattle.kf_refine.proofs.targets.same_items.Goals as goal
+use Rattle.kf_value.proofs.Alike.{apart}
+use Rattle.kf_value.proofs.equality.same_items.Goals as goal
 
 pub returns-then-not-same_item : goal.returns-then-not-same_item
 returns-then-not-same_item c = (

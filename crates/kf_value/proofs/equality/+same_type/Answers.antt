@@ -1,7 +1,7 @@
 use Rattle.std.proofs.Common.{map, sym, ◌∙◌, true≢false, arith}
 use Rattle.kf_value.specs.TypeViews.{type_tree}
-use Rattle.kf_refine.proofs.Alike.{apart, tuple_tree, tuples_same}
-use Rattle.kf_refine.proofs.targets.+same_type.Goals as goal
+use Rattle.kf_value.proofs.Alike.{apart, tuple_tree, tuples_same}
+use Rattle.kf_value.proofs.equality.+same_type.Goals as goal
 
 pub same_type-returns-in-Tuple-b : goal.same_type-returns-in-Tuple-b
 same_type-returns-in-Tuple-b t c =

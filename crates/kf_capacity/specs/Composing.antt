@@ -1,0 +1,34 @@
+-- For bodies: what composed columns are made of.
+use Rattle.std.specs.Prelude.{◌≡◌, ℕ, ◌*◌, ◌≤◌, List, All}
+use Rattle.kf_frac.specs.Fractions.{limit}
+use Rattle.kf_capacity.specs.declared.error.GridFault.{GridFault}
+use Rattle.kf_capacity.specs.declared.error.GridFault.TheVariants as fault
+use Rattle.kf_capacity.specs.declared.error.CascadeFault.{CascadeFault}
+use Rattle.kf_capacity.specs.declared.error.CascadeFault.TheVariants as cascade
+use Rattle.kf_capacity.specs.declared.error.ChoiceFault.{ChoiceFault}
+use Rattle.kf_capacity.specs.declared.error.ChoiceFault.TheVariants as choice
+use Rattle.kf_capacity.specs.declared.error.ParallelFault.{ParallelFault}
+use Rattle.kf_capacity.specs.declared.error.ParallelFault.TheVariants as parallel
+
+-- each number of the first, times each of the second, is within the limit
+abbrev pub ProductsFit : List ℕ → List ℕ → Type 0
+ProductsFit ms ns = All (λ m. All (λ n. m * n ≤ limit) ns) ms
+
+-- each number, times the factor, is within the limit
+abbrev pub TimesFit : ℕ → List ℕ → Type 0
+TimesFit factor ns = All (λ n. n * factor ≤ limit) ns
+
+-- what a fault of a grid is side by side with another
+abbrev pub BecomesParallel : GridFault → ParallelFault → Type 0
+BecomesParallel fault.Wide e = e ≡ parallel.Wide
+BecomesParallel fault.Mem e = e ≡ parallel.Mem
+
+-- what it is in front of another, or behind it
+abbrev pub BecomesCascade : GridFault → CascadeFault → Type 0
+BecomesCascade fault.Wide e = e ≡ cascade.Wide
+BecomesCascade fault.Mem e = e ≡ cascade.Mem
+
+-- what it is in a choice
+abbrev pub BecomesChoice : GridFault → ChoiceFault → Type 0
+BecomesChoice fault.Wide e = e ≡ choice.Wide
+BecomesChoice fault.Mem e = e ≡ choice.Mem

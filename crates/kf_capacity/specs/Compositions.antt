@@ -1,0 +1,129 @@
+-- Believed: channels one behind the other, side by side, and one or the other (Alvim et al. 2020: cascade, parallel composition, visible choice).
+use Rattle.std.specs.Prelude.{◌≡◌, ◌≢◌, ℕ, suc, ◌+◌, ◌*◌, ◌-◌, ◌/◌, ◌<◌, ◌≤◌, min, Bool, true, false, List, [], ◌∷◌, ◌++◌, map, flat_map, length}
+use Rattle.std.specs.Prelude.{slice_index, slice_index_or, is_some, unwrap_or, option_map, None, Some, if◌then◌else◌, Result, Ok, Err}
+use Rattle.std.specs.List.{list_all, range_with_len}
+use Rattle.std.specs.Ordering.{is_eq}
+use Rattle.std.specs.declared.option.Option.{Option}
+use Rattle.kf_frac.specs.Divisors.{lcm_of}
+use Rattle.kf_frac.specs.Fractions.{limit}
+use Rattle.kf_value.specs.Values.{ValueTree}
+use Rattle.kf_value.specs.Targets.{target_values}
+use Rattle.kf_hyper.specs.Traces.{trace_order}
+use Rattle.kf_capacity.specs.Grids.{ChannelTree, GridTree, channel_grid}
+use Rattle.kf_capacity.specs.declared.error.CascadeFault.{CascadeFault}
+use Rattle.kf_capacity.specs.declared.error.CascadeFault.TheVariants as cascade
+use Rattle.kf_capacity.specs.declared.error.ParallelFault.{ParallelFault}
+use Rattle.kf_capacity.specs.declared.error.ParallelFault.TheVariants as parallel
+use Rattle.kf_capacity.specs.declared.error.ChoiceFault.{ChoiceFault}
+use Rattle.kf_capacity.specs.declared.error.ChoiceFault.TheVariants as choice
+
+-- ---- one behind the other: what the first shows is the secret of the second
+
+-- the values of each secret, one for each item of the target
+abbrev pub secret_values : ChannelTree → List (List ValueTree)
+secret_values c = map (λ x. slice_index_or (target_values c.target) x []) c.secrets
+
+-- the place of the first list that is equal to these values
+abbrev pub place_of : List (List ValueTree) → List ValueTree → Option ℕ
+place_of [] vs = None
+place_of (ws ∷ lists) vs = if is_eq (trace_order ws vs) then Some 0 else option_map (λ n. suc n) (place_of lists vs)
+
+-- which secret of the second channel each trace of the first one is, by its values
+abbrev pub named : ChannelTree → ChannelTree → List (Option ℕ)
+named c d = map (λ row. place_of (secret_values d) row.trace) c.rows
+
+-- each trace is one
+abbrev pub fits : ChannelTree → ChannelTree → Bool
+fits c d = list_all is_some (named c d)
+
+abbrev pub places : ChannelTree → ChannelTree → List ℕ
+places c d = map (λ place. unwrap_or place 0) (named c d)
+
+-- the secret i to a column of the second grid: the sum over the first grid's columns of its cell there, times the cell in the row of
+-- that column's place
+abbrev pub through : List (List ℕ) → List ℕ → List ℕ → ℕ → ℕ
+through [] places column i = 0
+through (first ∷ others) [] column i = 0
+through (first ∷ others) (place ∷ places) column i = slice_index first i * slice_index column place + through others places column i
+
+abbrev pub cascade_grid : GridTree → List ℕ → GridTree → GridTree
+cascade_grid g places h = record {
+  over = g.over * h.over;
+  rows = g.rows;
+  columns = map (λ column. map (through g.columns places column) (range_with_len 0 g.rows)) h.columns;
+}
+
+-- want of memory is no cause
+abbrev pub IsCascade : ChannelTree → ChannelTree → Result GridTree CascadeFault → Type 0
+IsCascade c d (Ok g) =
+    (fits c d ≡ true) × (g.over ≤ limit) × (g ≡ cascade_grid (channel_grid c) (places c d) (channel_grid d))
+IsCascade c d (Err cascade.Fit) = fits c d ≡ false
+IsCascade c d (Err cascade.Wide) = (fits c d ≡ true) × (limit < (channel_grid c).over * (channel_grid d).over)
+IsCascade c d (Err cascade.Mem) = ⊥
+
+-- ---- side by side: both are seen
+
+-- the products of two columns, row by row
+abbrev pub products : List ℕ → List ℕ → List ℕ
+products [] ns = []
+products (m ∷ ms) [] = []
+products (m ∷ ms) (n ∷ ns) = m * n ∷ products ms ns
+
+-- each column of the first with each of the second
+abbrev pub parallel_grid : GridTree → GridTree → GridTree
+parallel_grid g h = record {
+  over = g.over * h.over;
+  rows = g.rows;
+  columns = flat_map (λ column. map (products column) h.columns) g.columns;
+}
+
+-- how many cells that has
+abbrev pub cells_of : ChannelTree → ChannelTree → ℕ
+cells_of c d = length c.secrets * length c.rows * length d.rows
+
+-- the two have the same secrets
+pub record HaveSameRows (c d : ChannelTree) : Type 0 where
+  pub targets : c.target ≡ d.target
+  pub secrets : c.secrets ≡ d.secrets
+
+-- their secrets are of one target, and not the same
+pub record HaveOtherRows (c d : ChannelTree) : Type 0 where
+  pub targets : c.target ≡ d.target
+  pub secrets : c.secrets ≢ d.secrets
+
+-- want of memory is no cause
+abbrev pub IsParallel : ChannelTree → ChannelTree → Result GridTree ParallelFault → Type 0
+IsParallel c d (Ok g) =
+    HaveSameRows c d × (cells_of c d ≤ 4000000) × (g.over ≤ limit) × (g ≡ parallel_grid (channel_grid c) (channel_grid d))
+IsParallel c d (Err parallel.Targets) = c.target ≢ d.target
+IsParallel c d (Err parallel.Rows) = HaveOtherRows c d
+IsParallel c d (Err (parallel.Cells count)) = HaveSameRows c d × (4000000 < cells_of c d) × (count ≡ min limit (cells_of c d))
+IsParallel c d (Err parallel.Wide) =
+    HaveSameRows c d × (cells_of c d ≤ 4000000) × (limit < (channel_grid c).over * (channel_grid d).over)
+IsParallel c d (Err parallel.Mem) = ⊥
+
+-- ---- one or the other, and it is seen which
+
+-- a column times a number
+abbrev pub times : ℕ → List ℕ → List ℕ
+times factor column = map (λ n. n * factor) column
+
+-- the first with probability num / den, and its columns first
+abbrev pub choice_grid : ℕ → ℕ → GridTree → GridTree → GridTree
+choice_grid num den g h =
+    let common = lcm_of g.over h.over in
+    record {
+      over = common * den;
+      rows = g.rows;
+      columns = map (times (common / g.over * num)) g.columns ++ map (times (common / h.over * (den - num))) h.columns;
+    }
+
+-- want of memory is no cause
+abbrev pub IsChoice : ℕ → ℕ → ChannelTree → ChannelTree → Result GridTree ChoiceFault → Type 0
+IsChoice num den c d (Ok g) =
+    HaveSameRows c d × (g.over ≤ limit) × (g ≡ choice_grid num den (channel_grid c) (channel_grid d))
+IsChoice num den c d (Err choice.Targets) = c.target ≢ d.target
+IsChoice num den c d (Err choice.Rows) = HaveOtherRows c d
+IsChoice num den c d (Err choice.Wide) =
+    HaveSameRows c d × (limit < (choice_grid num den (channel_grid c) (channel_grid d)).over)
+IsChoice num den c d (Err choice.Mem) = ⊥

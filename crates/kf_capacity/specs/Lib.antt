@@ -1,0 +1,10 @@
+-- Believed
+pub mod Compositions
+pub mod Grids
+-- For bodies
+pub mod Dens
+pub mod Composing
+pub mod Laws
+pub mod Shapes
+pub mod Views
+pub mod Vulnerabilities

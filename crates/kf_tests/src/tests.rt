@@ -2,7 +2,9 @@
 ghost use Rattle.std.specs.Prelude.{◌<◌};
 
 mod answers;
+mod attacks;
 mod beliefs;
+mod capacities;
 mod causes;
 mod commands;
 mod examples;

@@ -1,4 +1,5 @@
 pub mod Printing
+mod Attacking
 mod Reporting
 mod Rows
 mod Summaries

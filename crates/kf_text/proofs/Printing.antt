@@ -5,10 +5,12 @@ use Rattle.std.specs.List.{flat_map}
 use Rattle.std.specs.Fmt.{signed_decimal}
 use Rattle.kf_frac.specs.declared.frac.Frac.{Frac}
 use Rattle.kf_frac.specs.Fractions.{fraction_text, reduced_num, reduced_den, denominator_text}
+use Rattle.kf_frac.specs.Parts.{IsFraction}
 use Rattle.kf_frac.proofs.LowestTerms.{text_of_reduced}
 use Rattle.kf_value.specs.declared.target_item.TargetItem.{TargetItem}
 use Rattle.kf_value.specs.Targets.{item_text, target_text}
 use Rattle.kf_value.specs.TypeViews.{item_of}
+use Rattle.kf_text.specs.Views.{own_text}
 
 -- a fraction in lowest terms is written as the one that it was made of
 pub share_text : (f : Frac) (n : ℤ) (d : ℕ) → f.num ≡ reduced_num n d → f.den ≡ reduced_den n d → fraction_text f.num f.den ≡ fraction_text n d
@@ -16,6 +18,10 @@ unfolding fraction_text
 share_text f n d num den =
     let same : signed_decimal f.num ++ denominator_text f.den ≡ fraction_text n d = rw (num, den) refl in
     text_of_reduced f.num f.den f.reduced ∙ same
+
+-- and so is one that is n / d
+pub same_text : (f : Frac) (n : ℤ) (d : ℕ) → IsFraction f n d → own_text f ≡ fraction_text n d
+same_text f n d is = share_text f n d is.num is.den
 
 -- an item after the first, with what stands before it
 abbrev pub further_text : TargetItem → List ℕ

@@ -8,16 +8,13 @@ use Rattle.std.specs.declared.option.Option.{Option}
 use Rattle.kf_frac.specs.declared.frac.Frac.{Frac}
 use Rattle.kf_frac.specs.Fractions.{fraction_text}
 use Rattle.kf_gain.specs.Gains.{GainOf}
-use Rattle.kf_gain.specs.Views.{IsFraction}
+use Rattle.kf_frac.specs.Parts.{IsFraction}
 use Rattle.kf_report.specs.Reports.{Leakage}
 use Rattle.kf_report.specs.Views.{IsQuotient, IsReport}
 use Rattle.kf_report.specs.declared.report.Report.{Report}
 use Rattle.kf_text.specs.ReportTexts.{gain_text, quotient_text, report_lines, report_text}
 use Rattle.kf_text.specs.Views.{own_text, own_quotient_text, own_lines}
-use Rattle.kf_text.proofs.Printing.{share_text}
-
-same_text : (f : Frac) (n : ℤ) (d : ℕ) → IsFraction f n d → own_text f ≡ fraction_text n d
-same_text f n d is = share_text f n d is.num is.den
+use Rattle.kf_text.proofs.Printing.{same_text}
 
 up : (y : ℤ) → pos 0 <ℤ y → is_positive y ≡ true
 up (pos zero) above = absurd (omega (arith, ints))

@@ -1,6 +1,9 @@
 -- Believed
 pub mod Texts
 pub mod ReportTexts
+pub mod AttackTexts
+pub mod CapacityTexts
 pub mod VerdictTexts
 -- For bodies
 pub mod Views
+pub mod AttackViews

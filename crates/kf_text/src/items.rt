@@ -1,11 +1,13 @@
-// What the texts share: lines about targets, and traces.
+// What the texts share: lines about targets, traces, and fractions with their names.
 ghost use Rattle.std.specs.Prelude.{◌≡◌, ◌++◌, ◌∷◌, [], OnOk, map};
 ghost use Rattle.kf_value.specs.Targets.{target_text};
 ghost use Rattle.kf_value.specs.TypeViews.{item_of};
 ghost use Rattle.kf_value.specs.Texts.{text, separated};
 ghost use Rattle.kf_value.specs.Views.{items_of, value_tree};
-ghost use Rattle.kf_text.specs.Texts.{target_line, bracketed};
+ghost use Rattle.kf_text.specs.Texts.{line, target_line, bracketed};
+ghost use Rattle.kf_text.specs.Views.{own_text};
 
+use kf_frac::Frac;
 use kf_value::{Mem, Target, TargetItem, Value, print_value};
 use std::alloc::Global;
 
@@ -67,5 +69,20 @@ pub fn print_trace(alloc: Global, trace: &[Value], out: &mut Vec<u8>) -> Result<
     out.extend_from_slice(b"[")?;
     print_values(alloc, trace, out)?;
     out.extend_from_slice(b"]")?;
+    Ok(())
+}
+
+// Appends the line of a fraction behind its name and a space.
+pub fn print_fraction(
+    alloc: Global,
+    name: &[u8],
+    fraction: Frac,
+    out: &mut Vec<u8>,
+) -> Result<(), Mem>
+    ensures { OnOk result (out.new.items ≡ out.old.items ++ line (name.now ++ own_text fraction)) }
+{
+    out.extend_from_slice(name)?;
+    let text = format!(in alloc; "{fraction}\n")?;
+    out.extend_from_slice(text.as_bytes())?;
     Ok(())
 }

@@ -1,6 +1,8 @@
-//! Printed texts: hypers, tables of traces, channels, leakage reports, trails, verdicts and marks.
+//! Printed texts: attacks, hypers, tables of traces, channels, capacities, leakage reports, trails, verdicts and marks.
 #![tactic(auto)]
 
+mod attack;
+mod capacity;
 mod channel;
 mod hyper;
 mod items;
@@ -11,6 +13,8 @@ mod traces;
 mod trail;
 mod verdict;
 
+pub use attack::{attack_text, reach_text};
+pub use capacity::{algebra_text, capacity_text};
 pub use channel::channel_text;
 pub use hyper::hyper_text;
 pub use made::make_text;

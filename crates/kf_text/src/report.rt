@@ -4,8 +4,9 @@ ghost use Rattle.kf_report.specs.Reports.{Leakage};
 ghost use Rattle.kf_report.specs.Views.{IsReport};
 ghost use Rattle.kf_text.specs.ReportTexts.{gain_text, report_text as text_of_report};
 ghost use Rattle.kf_text.specs.Texts.{line};
-ghost use Rattle.kf_text.specs.Views.{own_text, own_quotient_text, own_lines};
+ghost use Rattle.kf_text.specs.Views.{own_quotient_text, own_lines};
 
+use crate::items::print_fraction;
 use kf_frac::Frac;
 use kf_gain::Gain;
 use kf_report::Report;
@@ -13,7 +14,7 @@ use kf_value::Mem;
 use std::alloc::Global;
 
 // Appends the line of the gain.
-fn print_gain(alloc: Global, gain: &Gain, out: &mut Vec<u8>) -> Result<(), Mem>
+pub fn print_gain(alloc: Global, gain: &Gain, out: &mut Vec<u8>) -> Result<(), Mem>
     ensures { OnOk result (out.new.items ≡ out.old.items ++ line (codes "gain " ++ gain_text (gain_tree gain.now))) }
 {
     match gain {
@@ -25,16 +26,6 @@ fn print_gain(alloc: Global, gain: &Gain, out: &mut Vec<u8>) -> Result<(), Mem>
         Gain::Guessing => out.extend_from_slice(b"gain guessing\n")?,
         Gain::Table(_) => out.extend_from_slice(b"gain table\n")?,
     }
-    Ok(())
-}
-
-// Appends the line of a fraction behind its name and a space.
-fn print_fraction(alloc: Global, name: &[u8], fraction: Frac, out: &mut Vec<u8>) -> Result<(), Mem>
-    ensures { OnOk result (out.new.items ≡ out.old.items ++ line (name.now ++ own_text fraction)) }
-{
-    out.extend_from_slice(name)?;
-    let text = format!(in alloc; "{fraction}\n")?;
-    out.extend_from_slice(text.as_bytes())?;
     Ok(())
 }
 

@@ -41,6 +41,10 @@ refused_high (refusal.WideTableau pivots) = omega arith
 refused_high refusal.ManyPivots = omega arith
 refused_high (refusal.BadCert name error) = omega arith
 refused_high refusal.WideCert = omega arith
+refused_high refusal.OtherRows = omega arith
+refused_high refusal.NoFit = omega arith
+refused_high (refusal.ManyChannelCells cells) = omega arith
+refused_high refusal.WideChannel = omega arith
 
 pub refused_other : (r : Refusal) → status_of (refused r) ≢ 12
 refused_other (refusal.TooLong name) = λ e. omega arith
@@ -56,6 +60,10 @@ refused_other (refusal.WideTableau pivots) = λ e. omega arith
 refused_other refusal.ManyPivots = λ e. omega arith
 refused_other (refusal.BadCert name error) = λ e. omega arith
 refused_other refusal.WideCert = λ e. omega arith
+refused_other refusal.OtherRows = λ e. omega arith
+refused_other refusal.NoFit = λ e. omega arith
+refused_other (refusal.ManyChannelCells cells) = λ e. omega arith
+refused_other refusal.WideChannel = λ e. omega arith
 
 answered_refused : (words : List (List ℕ)) (contents : List ℕ → List ℕ) (r : Refused) (out err : Sunk) (status : ℕ) → Outcome words contents (Err r) → status ≡ status_of r → TookNothing out → TookLine err (line_of r)
     → Answered words contents out err status

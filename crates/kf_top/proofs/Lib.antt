@@ -15,3 +15,7 @@ mod ProperHypers
 mod ClearedPrograms
 mod WrittenCertificates
 mod Comparing
+mod Measuring
+mod OneComposed
+mod Reaching
+mod Wanting

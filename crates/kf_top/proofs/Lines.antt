@@ -2,7 +2,7 @@
 use Rattle.std.proofs.Common.{◌≡◌, ℕ, List, [], ◌++◌, codes, arith}
 use Rattle.std.specs.Fmt.{decimal}
 use Rattle.std.proofs.lemmas.Grind.{common_steps}
-use Rattle.kf_top.specs.Answer.{line_of, BadText, ManyCells, WideTableau}
+use Rattle.kf_top.specs.Answer.{line_of, BadText, ManyCells, ManyChannelCells, WideTableau}
 
 pub bad_line : (name word l c : List ℕ) (line column : ℕ) → l ≡ decimal line → c ≡ decimal column
     → codes "kuifje: " ++ (name ++ (codes ":" ++ (l ++ (codes ":" ++ (c ++ (codes ": " ++ (word ++ (codes "\n" ++ [])))))))) ≡ line_of (BadText name line column word)
@@ -10,6 +10,9 @@ bad_line name word l c line column p q = rw (p, q) (grind (arith, common_steps))
 
 pub cells_line : (digits : List ℕ) (cells : ℕ) → digits ≡ decimal cells → codes "kuifje: tableau has " ++ (digits ++ (codes " cells\n" ++ [])) ≡ line_of (ManyCells cells)
 cells_line digits cells p = rw p (grind (arith, common_steps))
+
+pub channel_cells_line : (digits : List ℕ) (cells : ℕ) → digits ≡ decimal cells → codes "kuifje: channel has " ++ (digits ++ (codes " cells\n" ++ [])) ≡ line_of (ManyChannelCells cells)
+channel_cells_line digits cells p = rw p (grind (arith, common_steps))
 
 pub pivots_line : (digits : List ℕ) (pivots : ℕ) → digits ≡ decimal pivots
     → codes "kuifje: tableau passes 2^62 after " ++ (digits ++ (codes " pivots\n" ++ [])) ≡ line_of (WideTableau pivots)

@@ -1,5 +1,5 @@
 -- Words and files have at most one defined answer.
-use Rattle.std.proofs.Common.{◌≡◌, ◌≢◌, ℕ, Bool, ◌*◌, nat_le, if◌then◌else◌, List, [], ◌∷◌, length, None, Some, Option, Result, Ok, Err, sym, ◌∙◌, ap, subst, ⊎_elim}
+use Rattle.std.proofs.Common.{◌≡◌, ◌≢◌, ℕ, ◌<◌, ◌≤◌, Bool, ◌*◌, refl, arith, nat_le, if◌then◌else◌, List, [], ◌∷◌, length, None, Some, Option, Result, Ok, Err, sym, ◌∙◌, ap, subst, ⊎_elim}
 use Rattle.std.specs.declared.cmp.Ordering.TheVariants.{Less}
 use Rattle.std.specs.List.{AllByRecursion as Every}
 use Rattle.std.specs.Ordering.{nat_cmp, ordering_reverse}
@@ -19,8 +19,10 @@ use Rattle.kf_core.specs.Programs.{ProgramTree}
 use Rattle.kf_core.proofs.OneTable.{one_list}
 use Rattle.kf_hyper.specs.Traces.{Row}
 use Rattle.kf_channel.specs.Channels.{AreSecrets}
+use Rattle.kf_capacity.specs.Grids.{ChannelTree, GridTree, channel_grid}
 use Rattle.kf_text.specs.Texts.{hyper_text, trace_text, channel_text, trail_text, make_text}
 use Rattle.kf_text.specs.ReportTexts.{report_text}
+use Rattle.kf_text.specs.AttackTexts.{attack_text, reach_text}
 use Rattle.kf_frac.specs.Fractions.{limit}
 use Rattle.kf_value.specs.Targets.{Item}
 use Rattle.kf_hyper.specs.declared.entry.Entry.{Entry}
@@ -33,6 +35,8 @@ use Rattle.kf_gain.specs.Laws.{OneAverage, OneReport}
 use Rattle.kf_gain.specs.TableLaws.{OneTable}
 use Rattle.kf_gain.specs.Vulnerabilities.{IsWidth, width}
 use Rattle.kf_report.specs.Reports.{Leakage, IsLeakage}
+use Rattle.kf_attack.specs.Attacks.{AreAttacks, IsReach}
+use Rattle.kf_attack.specs.Laws.{OneAttacks, OneReach}
 use Rattle.kf_make.specs.Making.{make_source}
 use Rattle.kf_refine.specs.Refinements.{HyperTree}
 use Rattle.kf_refine.specs.Verdicts.{IsVerdict}
@@ -40,13 +44,15 @@ use Rattle.kf_refine.specs.Laws.{OneVerdict}
 use Rattle.kf_cert.specs.Certificates.{CertTree, cert_of}
 use Rattle.kf_cert.specs.Laws.{OneMark}
 use Rattle.kf_run.specs.Laws.{OnlyOneTrail}
-use Rattle.kf_top.specs.Task.{Command, Hyper, Traces, Channel, Trail, Leak, Make, Refine, Check, Task, task_of}
-use Rattle.kf_top.specs.Answer.{Shown, Statement, HyperOf, TracesOf, ChannelOf, ReportOf, TrailOf, MadeOf, VerdictOn, MarkOf, IsText, States, Refused, Usage, BadTable, WideGain, OtherTarget}
-use Rattle.kf_top.specs.Outcome.{Step, After, Gives, Each, Fault, Text, bad_text, token_fault, syntax_fault, type_fault, IsBad, TokensOf, SourceOf, ProgramOf, TypedOf, TextOf, cleared, ClearedOf, table_word, TableOf, TableIn, GainIn, HasWidth, ReportIn, channel_statement, IsHyperTree, AreHypers, most_pivots, verdict_stated, RefineOutcome, cert_read, CertIn, mark_stated, MarkIn, CheckOutcome, MadeOutcome, CommandOutcome, TaskOutcome, SomeOutcome, source_of}
+use Rattle.kf_top.specs.Task.{Command, Composition, Hyper, Traces, Channel, Trail, Capacity, Compose, Leak, Attack, Reach, Make, Refine, Check, Task, task_of}
+use Rattle.kf_top.specs.Answer.{Shown, Statement, HyperOf, TracesOf, ChannelOf, ReportOf, AttackOf, ReachOf, TrailOf, MadeOf, VerdictOn, MarkOf, CapacityOf, AlgebraOf, IsText, States, Refused, Usage, BadTable, WideGain, OtherTarget, WideChannel}
+use Rattle.kf_top.specs.Outcome.{Step, After, Gives, Each, Fault, Text, bad_text, token_fault, syntax_fault, type_fault, IsBad, TokensOf, SourceOf, ProgramOf, TypedOf, TextOf, cleared, ClearedOf, table_word, TableOf, TableIn, GainIn, HasWidth, ReportIn, AttackIn, channel_statement, IsChannelTree, initial, is_narrow, CapacityIn, Composed, algebra_stated, ComposedIn, IsHyperTree, AreHypers, most_pivots, verdict_stated, RefineOutcome, cert_read, CertIn, mark_stated, MarkIn, CheckOutcome, MadeOutcome, CommandOutcome, TaskOutcome, SomeOutcome, Outcome, source_of}
 use Rattle.kf_top.specs.Ends.{Answer, Settled, IsAnswer, showing}
 use Rattle.kf_top.proofs.ClearedPrograms.{AreClear}
 use Rattle.kf_top.proofs.ProperHypers.{AreProper, IsClear}
+use Rattle.kf_top.proofs.SomeAnswer.{HasText}
 use Rattle.kf_top.proofs.Steps.{some_syntax}
+use Rattle.kf_top.proofs.OneComposed.{one_composed}
 
 -- ---- secrets
 
@@ -71,29 +77,44 @@ one_leakage one g scale inners l m p q =
     let whole : l.whole ≡ m.whole = p.whole ∙ sym q.whole in
     λ i. record { prior = prior i; posterior = posterior i; whole = whole i }
 
-module _ (rows_are_one : RowsAreOne) (hypers_are_one : HypersAreOne) (reports_are_one : OneReport) (trails_are_one : OnlyOneTrail) where
-  one_text : (statement : Statement) (xs ys : List ℕ) → IsText statement xs → IsText statement ys → xs ≡ ys
-  one_text (HyperOf target scale joint) xs ys p q = p.2 ∙ ap (hyper_text target scale) (hypers_are_one joint p.0 q.0 p.1 q.1) ∙ sym q.2
-  one_text (TracesOf target scale joint) xs ys p q = p.2 ∙ ap (trace_text target scale) (rows_are_one joint p.0 q.0 p.1 q.1) ∙ sym q.2
-  one_text (ChannelOf target joint) xs ys p q =
+module _ (rows_are_one : RowsAreOne) (hypers_are_one : HypersAreOne) (reports_are_one : OneReport) (trails_are_one : OnlyOneTrail)
+    (attacks_are_one : OneAttacks) (reaches_are_one : OneReach) where
+  one_text : (statement : Statement) → HasText statement → (xs ys : List ℕ) → IsText statement xs → IsText statement ys → xs ≡ ys
+  one_text (HyperOf target scale joint) has xs ys p q = p.2 ∙ ap (hyper_text target scale) (hypers_are_one joint p.0 q.0 p.1 q.1) ∙ sym q.2
+  one_text (TracesOf target scale joint) has xs ys p q = p.2 ∙ ap (trace_text target scale) (rows_are_one joint p.0 q.0 p.1 q.1) ∙ sym q.2
+  one_text (ChannelOf target joint) has xs ys p q =
       let rows : p.0 ≡ q.0 = rows_are_one joint p.0 q.0 p.1 q.1 in
       let secrets : p.2.0 ≡ q.2.0 = one_secrets q.0 p.2.0 q.2.0 (subst (λ (rs : List Row). AreSecrets rs p.2.0) rows p.2.1) q.2.1 in
       p.2.2 ∙ (λ i. channel_text target (rows i) (secrets i)) ∙ sym q.2.2
-  one_text (ReportOf g scale joint) xs ys p q =
+  one_text (ReportOf g scale joint) has xs ys p q =
       let inners : p.0 ≡ q.0 = hypers_are_one joint p.0 q.0 p.1 q.1 in
       let leakage : p.2.0 ≡ q.2.0 = one_leakage reports_are_one g scale q.0 p.2.0 q.2.0 (subst (λ (is : List Inner). IsLeakage g scale is p.2.0) inners p.2.1) q.2.1 in
       p.2.2 ∙ ap (report_text g) leakage ∙ sym q.2.2
-  one_text (MadeOf count scale joint) xs ys p q = p.2 ∙ ap (make_text count scale) (hypers_are_one joint p.0 q.0 p.1 q.1) ∙ sym q.2
-  one_text (TrailOf turns p) xs ys a b = a.2 ∙ ap trail_text (trails_are_one turns p a.0 b.0 a.1 b.1) ∙ sym b.2
-  one_text (VerdictOn json a b v) xs ys p q = p.1 ∙ sym q.1
-  one_text (MarkOf mark) xs ys p q = p ∙ sym q
+  one_text (AttackOf g target scale joint) has xs ys p q =
+      let inners : p.0 ≡ q.0 = hypers_are_one joint p.0 q.0 p.1 q.1 in
+      let are : AreAttacks g q.0 p.2.0 = subst (λ (is : List Inner). AreAttacks g is p.2.0) inners p.2.1 in
+      let attacks : p.2.0 ≡ q.2.0 = attacks_are_one has.1.0 scale g q.0 p.2.0 q.2.0 (has.1.1 q.0 q.1) are q.2.1 in
+      p.2.2 ∙ (λ i. attack_text g target scale (inners i) (attacks i)) ∙ sym q.2.2
+  one_text (ReachOf num den scale joint) has xs ys p q =
+      let inners : p.0 ≡ q.0 = hypers_are_one joint p.0 q.0 p.1 q.1 in
+      let is : IsReach scale q.0 num den p.2.0 = subst (λ (is : List Inner). IsReach scale is num den p.2.0) inners p.2.1 in
+      let some : 0 < den = omega (arith, has.0, has.1) in
+      let reach : p.2.0 ≡ q.2.0 = reaches_are_one scale num den q.0 p.2.0 q.2.0 some is q.2.1 in
+      p.2.2 ∙ ap (reach_text scale) reach ∙ sym q.2.2
+  one_text (MadeOf count scale joint) has xs ys p q = p.2 ∙ ap (make_text count scale) (hypers_are_one joint p.0 q.0 p.1 q.1) ∙ sym q.2
+  one_text (TrailOf turns p) has xs ys a b = a.2 ∙ ap trail_text (trails_are_one turns p a.0 b.0 a.1 b.1) ∙ sym b.2
+  one_text (VerdictOn json a b v) has xs ys p q = p.1 ∙ sym q.1
+  one_text (MarkOf mark) has xs ys p q = p ∙ sym q
+  one_text (CapacityOf g) has xs ys p q = p ∙ sym q
+  one_text (AlgebraOf first second both) has xs ys p q = p ∙ sym q
 
-  one_shown : (statement : Statement) (a b : Shown) → States a statement → States b statement → a ≡ b
-  one_shown statement a b p q = same_shown a b (one_text statement a.bytes b.bytes p.text q.text) (p.yes ∙ sym q.yes)
+  one_shown : (statement : Statement) → HasText statement → (a b : Shown) → States a statement → States b statement → a ≡ b
+  one_shown statement has a b p q = same_shown a b (one_text statement has a.bytes b.bytes p.text q.text) (p.yes ∙ sym q.yes)
 
-  one_settled : (r : Result Statement Refused) (a b : Answer) → Settled r a → Settled r b → a ≡ b
-  one_settled (Ok statement) a b p q = p.2 ∙ ap showing (one_shown statement p.0 q.0 p.1 q.1) ∙ sym q.2
-  one_settled (Err r) a b p q = p ∙ sym q
+  one_settled : (r : Result Statement Refused) → ((statement : Statement) → r ≡ Ok statement → HasText statement) → (a b : Answer) → Settled r a
+      → Settled r b → a ≡ b
+  one_settled (Ok statement) has a b p q = p.2 ∙ ap showing (one_shown statement (has statement refl) p.0 q.0 p.1 q.1) ∙ sym q.2
+  one_settled (Err r) has a b p q = p ∙ sym q
 
 -- ---- outcomes
 
@@ -186,10 +207,12 @@ module _ (hypers_are_one : HypersAreOne) (averages_are_one : OneAverage) where
       let average : same.average ≡ q.is_width.average = averages_are_one q.inners same.average q.is_width.average same.is_average q.is_width.is_average in
       same.is ∙ ap (λ (column : List Entry). width g (length column)) average ∙ sym q.is_width.is
 
-  one_report : (scale : ℕ) (joint : List Cell) (g : GainOf TableTree) → HasOne (ReportIn scale joint g)
-  one_report scale joint g r s p q =
+  -- what is stated where the width of a gain fits
+  one_narrow : (scale : ℕ) (joint : List Cell) (g : GainOf TableTree) (statement : Statement)
+      → HasOne (λ result. (m : ℕ) × HasWidth joint g m × (result ≡ (if nat_le (scale * m) limit then Ok statement else Err WideGain)))
+  one_narrow scale joint g statement r s p q =
       let m : p.0 ≡ q.0 = one_width joint g p.0 q.0 p.1 q.1 in
-      p.2 ∙ ap (λ (n : ℕ). if nat_le (scale * n) limit then Ok (ReportOf g scale joint) else Err WideGain) m ∙ sym q.2
+      p.2 ∙ ap (λ (n : ℕ). if nat_le (scale * n) limit then Ok statement else Err WideGain) m ∙ sym q.2
 
 -- ---- verdicts and certificates
 
@@ -237,19 +260,59 @@ one_check hypers_are_one marks_are_one contents name turns p q =
     one_after (CertIn contents name) (λ c result. (a b : HyperTree) × AreHypers turns p q a b × MarkIn a b c result) (one_cert contents name)
     (λ c _. one_marked hypers_are_one marks_are_one turns p q c)
 
+-- ---- capacities
+
+same_channel : (c d : ChannelTree) → c.target ≡ d.target → c.rows ≡ d.rows → c.secrets ≡ d.secrets → c ≡ d
+same_channel c d targets rows secrets = λ i. record { target = targets i; rows = rows i; secrets = secrets i }
+
+module _ (rows_are_one : RowsAreOne) where
+  -- a program has one channel
+  one_channel : (turns : ℕ) (p : ProgramTree) (c d : ChannelTree) → IsChannelTree turns p c → IsChannelTree turns p d → c ≡ d
+  one_channel turns p c d x y =
+      let rows : c.rows ≡ d.rows = rows_are_one (joint_of turns p) c.rows d.rows x.rows y.rows in
+      let secrets : c.secrets ≡ d.secrets = one_secrets d.rows c.secrets d.secrets (subst (λ (rs : List Row). AreSecrets rs c.secrets) rows x.secrets) y.secrets in
+      same_channel c d (x.target ∙ sym y.target) rows secrets
+
+  one_capacity : (turns : ℕ) (p : ProgramTree) → HasOne (CapacityIn turns p)
+  one_capacity turns p r s h k =
+      let c : h.0 ≡ k.0 = one_channel turns p h.0 k.0 h.1 k.1 in
+      h.2 ∙ ap (λ (t : ChannelTree). if is_narrow (channel_grid t) then Ok (CapacityOf (channel_grid t)) else Err WideChannel) c ∙ sym k.2
+
+  one_algebra : (way : Composition) (c d : ChannelTree) → HasOne (After (Composed way c d) (λ g. Gives (algebra_stated (channel_grid c) (channel_grid d) g)))
+  one_algebra way c d =
+      one_after (Composed way c d) (λ g. Gives (algebra_stated (channel_grid c) (channel_grid d) g)) (one_composed way c d)
+      (λ g _. one_given (algebra_stated (channel_grid c) (channel_grid d) g))
+
+  one_composition : (way : Composition) (turns : ℕ) (p q : ProgramTree) → HasOne (ComposedIn way turns p q)
+  one_composition way turns p q r s h k =
+      let c : h.0 ≡ k.0 = one_channel turns p h.0 k.0 h.2 k.2 in
+      let d : h.1 ≡ k.1 = one_channel turns q h.1 k.1 h.3 k.3 in
+      let on_c = subst (λ (t : ChannelTree). After (Composed way t h.1) (λ g. Gives (algebra_stated (channel_grid t) (channel_grid h.1) g)) r) c h.4 in
+      let on_both = subst (λ (t : ChannelTree). After (Composed way k.0 t) (λ g. Gives (algebra_stated (channel_grid k.0) (channel_grid t) g)) r) d on_c in
+      one_algebra way k.0 k.1 r s on_both k.4
+
 -- ---- commands
 
-module _ (made_are_one : (count turns : ℕ) → HasOne (MadeOutcome count turns)) (tables_are_one : OneTable) (hypers_are_one : HypersAreOne) (averages_are_one : OneAverage)
-    (verdicts_are_one : OneVerdict) (marks_are_one : OneMark) (are_proper : AreProper) (contents : List ℕ → List ℕ) (turns : ℕ) where
+module _ (made_are_one : (count turns : ℕ) → HasOne (MadeOutcome count turns)) (tables_are_one : OneTable) (rows_are_one : RowsAreOne) (hypers_are_one : HypersAreOne)
+    (averages_are_one : OneAverage) (verdicts_are_one : OneVerdict) (marks_are_one : OneMark) (are_proper : AreProper) (contents : List ℕ → List ℕ) (turns : ℕ) where
   one_command : (command : Command) (ps : List ProgramTree) → Every (IsClear turns) ps → HasOne (CommandOutcome contents command turns ps)
   one_command Hyper (p ∷ []) clear = one_given (Ok (HyperOf p.target (run_scale turns p) (joint_of turns p)))
   one_command Traces (p ∷ []) clear = one_given (Ok (TracesOf p.target (run_scale turns p) (joint_of turns p)))
   one_command Channel (p ∷ []) clear = one_given (channel_statement turns p)
   one_command (Make count) [] clear = made_are_one count turns
   one_command Trail (p ∷ []) clear = one_given (Ok (TrailOf turns p))
+  one_command Capacity (p ∷ []) clear =
+      one_after (Gives (initial p)) (CapacityIn turns) (one_given (initial p)) (λ read _. one_capacity rows_are_one turns read)
+  one_command (Compose way) (p ∷ q ∷ []) clear =
+      one_after (Gives (initial p)) (λ p. After (Gives (initial q)) (λ q. ComposedIn way turns p q)) (one_given (initial p))
+      (λ first _. one_after (Gives (initial q)) (λ q. ComposedIn way turns first q) (one_given (initial q)) (λ second _. one_composition rows_are_one way turns first second))
   one_command (Leak g) (p ∷ []) clear =
       one_after (GainIn contents p.target g) (ReportIn (run_scale turns p) (joint_of turns p)) (one_gain tables_are_one contents p.target g)
-      (λ g _. one_report hypers_are_one averages_are_one (run_scale turns p) (joint_of turns p) g)
+      (λ g _. one_narrow hypers_are_one averages_are_one (run_scale turns p) (joint_of turns p) g (ReportOf g (run_scale turns p) (joint_of turns p)))
+  one_command (Attack g) (p ∷ []) clear =
+      one_after (GainIn contents p.target g) (AttackIn p.target (run_scale turns p) (joint_of turns p)) (one_gain tables_are_one contents p.target g)
+      (λ g _. one_narrow hypers_are_one averages_are_one (run_scale turns p) (joint_of turns p) g (AttackOf g p.target (run_scale turns p) (joint_of turns p)))
+  one_command (Reach num den) (p ∷ []) clear = one_given (Ok (ReachOf num den (run_scale turns p) (joint_of turns p)))
   one_command (Refine json) (p ∷ q ∷ []) clear = one_refine hypers_are_one verdicts_are_one are_proper json turns p q clear.0 clear.1.0
   one_command (Check name) (p ∷ q ∷ []) clear = one_check hypers_are_one marks_are_one contents name turns p q
   one_command command ps clear = one_given (Err Usage)
@@ -310,13 +373,18 @@ module _ (reading : IsOneReading) (one : OneProgram) (both : NotBoth) (refusal :
     one_task : (contents : List ℕ → List ℕ) (task : Task) → HasOne (TaskOutcome contents task)
     one_task contents task =
         one_after (ClearedOf contents task) (CommandOutcome contents task.command task.turns) (one_cleared contents task)
-        (λ ps is. one_command one_made tables_are_one hypers_are_one averages_are_one verdicts_are_one marks_are_one are_proper contents task.turns task.command ps (are_clear contents task ps is))
+        (λ ps is. one_command one_made tables_are_one rows_are_one hypers_are_one averages_are_one verdicts_are_one marks_are_one are_proper contents task.turns task.command ps (are_clear contents task ps is))
 
     one_outcome : (contents : List ℕ → List ℕ) (task : Option Task) → HasOne (SomeOutcome contents task)
     one_outcome contents None = one_given (Err Usage)
     one_outcome contents (Some task) = one_task contents task
 
-    pub one_answer : OneReport → OnlyOneTrail → (words : List (List ℕ)) (contents : List ℕ → List ℕ) (a b : Answer) → IsAnswer words contents a → IsAnswer words contents b → a ≡ b
-    one_answer reports_are_one trails_are_one words contents a b p q =
+    pub one_answer : OneReport → OnlyOneTrail → OneAttacks → OneReach → (words : List (List ℕ)) (contents : List ℕ → List ℕ)
+        → ((statement : Statement) → Outcome words contents (Ok statement) → HasText statement)
+        → (a b : Answer) → IsAnswer words contents a → IsAnswer words contents b → a ≡ b
+    one_answer reports_are_one trails_are_one attacks_are_one reaches_are_one words contents texts a b p q =
         let results : p.result ≡ q.result = one_outcome contents (task_of words) p.result q.result p.outcome q.outcome in
-        one_settled rows_are_one hypers_are_one reports_are_one trails_are_one q.result a b (subst (λ (r : Result Statement Refused). Settled r a) results p.settled) q.settled
+        let has : (statement : Statement) → q.result ≡ Ok statement → HasText statement =
+        λ statement is. texts statement (subst (λ (r : Result Statement Refused). Outcome words contents r) is q.outcome) in
+        one_settled rows_are_one hypers_are_one reports_are_one trails_are_one attacks_are_one reaches_are_one q.result has a b
+        (subst (λ (r : Result Statement Refused). Settled r a) results p.settled) q.settled

@@ -1,5 +1,5 @@
 -- Words and files have some defined answer.
-use Rattle.std.proofs.Common.{◌≡◌, ◌≢◌, ◌⊎◌, ℕ, ◌*◌, nat_le, if◌then◌else◌, List, [], ◌∷◌, length, Bool, true, false, sym, ap, subst, None, Some, Option, Result, Ok, Err, codes, refl, ⊎_elim, inl, inr}
+use Rattle.std.proofs.Common.{◌≡◌, ◌≢◌, ◌⊎◌, ℕ, ◌≤◌, ◌*◌, ◌&&◌, nat_le, if◌then◌else◌, List, [], ◌∷◌, length, Bool, true, false, sym, ap, subst, None, Some, Option, Result, Ok, Err, codes, refl, ⊎_elim, inl, inr}
 use Rattle.std.specs.List.{AllByRecursion as Every}
 use Rattle.kf_lex.specs.declared.token.Token.{Token}
 use Rattle.kf_lex.specs.declared.token.LexError.{LexError}
@@ -18,10 +18,15 @@ use Rattle.kf_core.specs.JointLaws.{RowsExist, HypersExist}
 use Rattle.kf_channel.specs.Laws.{SomeSecrets}
 use Rattle.kf_core.specs.Programs.{ProgramTree}
 use Rattle.kf_core.specs.Joint.{Cell, joint_of}
+use Rattle.kf_core.specs.Rows.{IsHyperOf}
 use Rattle.kf_core.specs.Scale.{scale_of as run_scale}
 use Rattle.kf_channel.specs.Channels.{all_initial}
+use Rattle.kf_capacity.specs.Grids.{ChannelTree, GridTree, channel_grid}
 use Rattle.kf_frac.specs.Fractions.{limit}
+use Rattle.kf_value.specs.Numbers.{target_size}
 use Rattle.kf_value.specs.Targets.{Item}
+use Rattle.kf_hyper.specs.Hypers.{Inner}
+use Rattle.kf_hyper.specs.Shapes.{IsShape}
 use Rattle.kf_gain.specs.declared.error.TableError.{TableError}
 use Rattle.kf_gain.specs.Gains.{GainOf, Bayes, Tries, Guessing, Table, TableTree, over_of}
 use Rattle.kf_gain.specs.Laws.{HasActions, SomeAverage, SomeReport}
@@ -29,6 +34,7 @@ use Rattle.kf_gain.specs.TableLaws.{SomeTable, TablesHaveActions}
 use Rattle.kf_gain.specs.Tables.{IsTable}
 use Rattle.kf_gain.specs.Vulnerabilities.{width}
 use Rattle.kf_report.specs.Reports.{Leakage}
+use Rattle.kf_attack.specs.Laws.{SomeAttacks, SomeReach}
 use Rattle.kf_make.specs.Making.{make_source}
 use Rattle.kf_run.specs.Laws.{SomeTrail}
 use Rattle.kf_refine.specs.Refinements.{HyperTree}
@@ -46,14 +52,18 @@ use Rattle.kf_cert.specs.declared.cert.CertError.{CertError}
 use Rattle.kf_cert.specs.declared.mark.Mark.{Mark}
 use Rattle.kf_cert.specs.declared.mark.CheckError.{CheckError}
 use Rattle.kf_cert.specs.declared.mark.CheckError.TheVariants as check
-use Rattle.kf_top.specs.Answer.{Statement, HyperOf, TracesOf, ChannelOf, ReportOf, TrailOf, MadeOf, VerdictOn, MarkOf, IsText, says_yes, Shown, Refused, Usage, NotInitial, BadTable, WideGain, OtherTarget}
+use Rattle.kf_top.specs.Answer.{Statement, HyperOf, TracesOf, ChannelOf, ReportOf, AttackOf, ReachOf, TrailOf, MadeOf, VerdictOn, MarkOf, CapacityOf, AlgebraOf, IsText, says_yes, Shown, Refused, Usage, NotInitial, BadTable, WideGain, OtherTarget, WideChannel}
 use Rattle.kf_top.specs.Ends.{Answer, Settled, IsAnswer, showing, refusing}
-use Rattle.kf_top.specs.Outcome.{Step, After, Gives, Each, Text, Fault, fault, bad_text, token_fault, syntax_fault, type_fault, IsBad, TokensOf, SourceOf, ProgramOf, TypedOf, TextOf, cleared, ClearedOf, table_word, TableOf, TableIn, GainIn, ReportIn, channel_statement, IsHyperTree, AreHypers, most_pivots, verdict_stated, RefineOutcome, cert_read, CertIn, mark_stated, MarkIn, CheckOutcome, MadeOutcome, CommandOutcome, TaskOutcome, SomeOutcome, Outcome, source_of}
-use Rattle.kf_top.specs.Task.{Command, Hyper, Traces, Channel, Trail, Leak, Make, Refine, Check, Task, task_of}
+use Rattle.kf_top.specs.Outcome.{Step, After, Gives, Each, Text, Fault, fault, bad_text, token_fault, syntax_fault, type_fault, IsBad, TokensOf, SourceOf, ProgramOf, TypedOf, TextOf, cleared, ClearedOf, table_word, TableOf, TableIn, GainIn, HasWidth, ReportIn, AttackIn, channel_statement, IsChannelTree, initial, is_narrow, CapacityIn, Composed, algebra_stated, ComposedIn, IsHyperTree, AreHypers, most_pivots, verdict_stated, RefineOutcome, cert_read, CertIn, mark_stated, MarkIn, CheckOutcome, MadeOutcome, CommandOutcome, TaskOutcome, SomeOutcome, Outcome, source_of}
+use Rattle.kf_top.specs.Task.{Command, Composition, Hyper, Traces, Channel, Trail, Capacity, Compose, Leak, Attack, Reach, Make, Refine, Check, Task, task_of}
 use Rattle.kf_top.proofs.ClearedPrograms.{AreClear}
+use Rattle.kf_top.proofs.OneComposed.{some_composed}
 use Rattle.kf_top.proofs.ProperHypers.{AreProper, IsClear}
+use Rattle.kf_top.proofs.Wanting.{IsWanted, wanted_task}
 use Rattle.kf_text.specs.Texts.{line, hyper_text, trace_text, channel_text, trail_text, make_text}
+use Rattle.kf_text.specs.CapacityTexts.{capacity_text, algebra_text}
 use Rattle.kf_text.specs.ReportTexts.{report_text}
+use Rattle.kf_text.specs.AttackTexts.{attack_text, reach_text}
 use Rattle.kf_text.specs.VerdictTexts.{verdict_text, mark_text}
 
 -- ---- steps
@@ -124,13 +134,21 @@ text name bytes p = record { name = name; bytes = bytes; program = p }
 
 -- ---- what is stated
 
--- where it is a report, its gain has an action; where it is a verdict, it proves itself
-abbrev HasText : Statement → Type 0
+-- the hyper of a joint has a shape
+abbrev IsShaped : ℕ → List Cell → Type 0
+IsShaped scale joint = (size : ℕ) × ((inners : List Inner) → IsHyperOf joint inners → IsShape size scale inners)
+
+-- where it is a report or an attack, its gain has an action; where it is of what is wanted, that is above 0 and at most 1; where it is a
+-- verdict, it proves itself
+abbrev pub HasText : Statement → Type 0
 HasText (ReportOf g scale joint) = HasActions g
+HasText (AttackOf g target scale joint) = HasActions g × IsShaped scale joint
+HasText (ReachOf num den scale joint) = (1 ≤ num) × (num ≤ den) × IsShaped scale joint
 HasText (VerdictOn json a b v) = Proves a b v
 HasText statement = Unit {0}
 
-module _ (rows_exist : RowsExist) (hypers_exist : HypersExist) (secrets_exist : SomeSecrets) (reports_exist : SomeReport) (trails_exist : SomeTrail) where
+module _ (rows_exist : RowsExist) (hypers_exist : HypersExist) (secrets_exist : SomeSecrets) (reports_exist : SomeReport) (trails_exist : SomeTrail)
+    (attacks_exist : SomeAttacks) (reaches_exist : SomeReach) where
   some_text : (statement : Statement) → HasText statement → (bytes : List ℕ) × IsText statement bytes
   some_text (HyperOf target scale joint) has = let h = hypers_exist joint in (hyper_text target scale h.0, (h.0, h.1, refl))
   some_text (TracesOf target scale joint) has = let rows = rows_exist joint in (trace_text target scale rows.0, (rows.0, rows.1, refl))
@@ -143,10 +161,20 @@ module _ (rows_exist : RowsExist) (hypers_exist : HypersExist) (secrets_exist : 
       let r = reports_exist g h.0 has in
       let l : Leakage = record { prior = r.0.0; posterior = r.1.0; whole = scale * over_of g } in
       (report_text g l, (h.0, h.1, (l, record { prior = r.0.1; posterior = r.1.1; whole = refl }, refl)))
+  some_text (AttackOf g target scale joint) has =
+      let h = hypers_exist joint in
+      let attacks = attacks_exist has.1.0 scale g h.0 (has.1.1 h.0 h.1) has.0 in
+      (attack_text g target scale h.0 attacks.0, (h.0, h.1, (attacks.0, attacks.1, refl)))
+  some_text (ReachOf num den scale joint) has =
+      let h = hypers_exist joint in
+      let r = reaches_exist has.2.0 scale num den h.0 (has.2.1 h.0 h.1) has.0 has.1 in
+      (reach_text scale r.0, (h.0, h.1, (r.0, r.1, refl)))
   some_text (MadeOf count scale joint) has = let h = hypers_exist joint in (make_text count scale h.0, (h.0, h.1, refl))
   some_text (TrailOf turns p) has = let counts = trails_exist turns p in (trail_text counts.0, (counts.0, counts.1, refl))
   some_text (VerdictOn json a b v) has = ((if json then cert_text a.target v else verdict_text a.target v), (has, refl))
   some_text (MarkOf mark) has = (line (mark_text mark), refl)
+  some_text (CapacityOf g) has = (capacity_text g, refl)
+  some_text (AlgebraOf first second both) has = (algebra_text first second both, refl)
 
   -- each result whose statement has a text is that of some answer
   settled : (r : Result Statement Refused) → ((statement : Statement) → r ≡ Ok statement → HasText statement) → (answer : Answer) × Settled r answer
@@ -176,13 +204,14 @@ module _ (tables_exist : SomeTable) where
   some_gain contents target (Table name) =
       some_after (TableIn contents target name) (λ t. Gives (Ok (Table t))) (λ t _. some_given (Ok (Table t))) (some_table contents target name)
 
--- the laws of hypers and of their sums
-some_report : HypersExist → SomeAverage → (scale : ℕ) (joint : List Cell) (g : GainOf TableTree) → HasSome (ReportIn scale joint g)
-some_report hypers_exist averages_exist scale joint g =
+-- the laws of hypers and of their sums: what is stated where the width of a gain fits
+some_narrow : HypersExist → SomeAverage → (scale : ℕ) (joint : List Cell) (g : GainOf TableTree) (statement : Statement)
+    → HasSome (λ result. (m : ℕ) × HasWidth joint g m × (result ≡ (if nat_le (scale * m) limit then Ok statement else Err WideGain)))
+some_narrow hypers_exist averages_exist scale joint g statement =
     let h = hypers_exist joint in
     let a = averages_exist h.0 in
     let m = width g (length a.0) in (
-      (if nat_le (scale * m) limit then Ok (ReportOf g scale joint) else Err WideGain),
+      (if nat_le (scale * m) limit then Ok statement else Err WideGain),
       (m, record { inners = h.0; is_hyper = h.1; is_width = record { average = a.0; is_average = a.1; is = refl } }, refl),
     )
 
@@ -234,19 +263,57 @@ module _ (hypers_exist : HypersExist) (read_sound : ReadSound) (marks_exist : So
       some_after (CertIn contents name) (λ c result. (a b : HyperTree) × AreHypers turns p q a b × MarkIn a b c result)
       (λ c is. some_marked turns p q clear clear' c (read_sound is.0 c (reads name (cert_of is.0) c is.2))) (some_cert contents name)
 
+-- ---- capacities
+
+-- the laws of rows and of secrets
+module _ (rows_exist : RowsExist) (secrets_exist : SomeSecrets) where
+  -- a program has a channel
+  some_channel : (turns : ℕ) (p : ProgramTree) → (c : ChannelTree) × IsChannelTree turns p c
+  some_channel turns p =
+      let rows = rows_exist (joint_of turns p) in
+      let secrets = secrets_exist rows.0 in
+      let channel : ChannelTree = record { target = p.target; rows = rows.0; secrets = secrets.0 } in
+      (channel, record { target = refl; rows = rows.1; secrets = secrets.1 })
+
+  some_capacity : (turns : ℕ) (p : ProgramTree) → HasSome (CapacityIn turns p)
+  some_capacity turns p =
+      let c = some_channel turns p in
+      ((if is_narrow (channel_grid c.0) then Ok (CapacityOf (channel_grid c.0)) else Err WideChannel), (c.0, c.1, refl))
+
+  some_composition : (way : Composition) (turns : ℕ) (p q : ProgramTree) → HasSome (ComposedIn way turns p q)
+  some_composition way turns p q =
+      let c = some_channel turns p in
+      let d = some_channel turns q in
+      let algebra =
+      some_after (Composed way c.0 d.0) (λ g. Gives (algebra_stated (channel_grid c.0) (channel_grid d.0) g))
+      (λ g _. some_given (algebra_stated (channel_grid c.0) (channel_grid d.0) g)) (some_composed way c.0 d.0) in
+      (algebra.0, (c.0, d.0, c.1, d.1, algebra.1))
+
 -- ---- commands
 
-module _ (made_exist : (count turns : ℕ) → HasSome (MadeOutcome count turns)) (tables_exist : SomeTable) (hypers_exist : HypersExist) (averages_exist : SomeAverage)
-    (verdicts_exist : SomeVerdict) (read_sound : ReadSound) (marks_exist : SomeMark) (are_proper : AreProper) (contents : List ℕ → List ℕ) (turns : ℕ) where
+module _ (made_exist : (count turns : ℕ) → HasSome (MadeOutcome count turns)) (tables_exist : SomeTable) (rows_exist : RowsExist) (secrets_exist : SomeSecrets) (hypers_exist : HypersExist)
+    (averages_exist : SomeAverage) (verdicts_exist : SomeVerdict) (read_sound : ReadSound) (marks_exist : SomeMark) (are_proper : AreProper) (contents : List ℕ → List ℕ) (turns : ℕ) where
   some_command : (command : Command) (ps : List ProgramTree) → Every (IsClear turns) ps → HasSome (CommandOutcome contents command turns ps)
   some_command Hyper (p ∷ []) clear = some_given (Ok (HyperOf p.target (run_scale turns p) (joint_of turns p)))
   some_command Traces (p ∷ []) clear = some_given (Ok (TracesOf p.target (run_scale turns p) (joint_of turns p)))
   some_command Channel (p ∷ []) clear = some_given (channel_statement turns p)
   some_command (Make count) [] clear = made_exist count turns
   some_command Trail (p ∷ []) clear = some_given (Ok (TrailOf turns p))
+  some_command Capacity (p ∷ []) clear =
+      some_after (Gives (initial p)) (CapacityIn turns) (λ read _. some_capacity rows_exist secrets_exist turns read) (some_given (initial p))
+  some_command (Compose way) (p ∷ q ∷ []) clear =
+      some_after (Gives (initial p)) (λ p. After (Gives (initial q)) (λ q. ComposedIn way turns p q))
+      (λ first _. some_after (Gives (initial q)) (λ q. ComposedIn way turns first q)
+      (λ second _. some_composition rows_exist secrets_exist way turns first second) (some_given (initial q)))
+      (some_given (initial p))
   some_command (Leak g) (p ∷ []) clear =
       some_after (GainIn contents p.target g) (ReportIn (run_scale turns p) (joint_of turns p))
-      (λ read _. some_report hypers_exist averages_exist (run_scale turns p) (joint_of turns p) read) (some_gain tables_exist contents p.target g)
+      (λ read _. some_narrow hypers_exist averages_exist (run_scale turns p) (joint_of turns p) read (ReportOf read (run_scale turns p) (joint_of turns p))) (some_gain tables_exist contents p.target g)
+  some_command (Attack g) (p ∷ []) clear =
+      some_after (GainIn contents p.target g) (AttackIn p.target (run_scale turns p) (joint_of turns p))
+      (λ read _. some_narrow hypers_exist averages_exist (run_scale turns p) (joint_of turns p) read (AttackOf read p.target (run_scale turns p) (joint_of turns p)))
+      (some_gain tables_exist contents p.target g)
+  some_command (Reach num den) (p ∷ []) clear = some_given (Ok (ReachOf num den (run_scale turns p) (joint_of turns p)))
   some_command (Refine json) (p ∷ q ∷ []) clear = some_refine hypers_exist verdicts_exist are_proper json turns p q clear.0 clear.1.0
   some_command (Check name) (p ∷ q ∷ []) clear = some_check hypers_exist read_sound marks_exist are_proper contents name turns p q clear.0 clear.1.0
   some_command command ps clear = some_given (Err Usage)
@@ -279,6 +346,10 @@ marked_text a b c statement is =
     ⊎_elim (λ (other : (a.target ≢ b.target) × (Ok statement ≡ Err OtherTarget)). let never : Ok statement ≡ Err OtherTarget = other.1 in absurd (cc))
     (λ marked. mark_text_has marked.1.0 statement marked.1.2) is
 
+algebra_text_has : (c d : ChannelTree) (g : GridTree) (statement : Statement) → Ok statement ≡ algebra_stated (channel_grid c) (channel_grid d) g → HasText statement
+algebra_text_has c d g statement is =
+    stated (is_narrow (channel_grid c) && (is_narrow (channel_grid d) && is_narrow g)) (AlgebraOf (channel_grid c) (channel_grid d) g) statement WideChannel tt is
+
 -- the laws of gain tables and of verdicts
 module _ (tables_have_actions : TablesHaveActions) (verdicts_prove : VerdictsProve) (are_proper : AreProper) (contents : List ℕ → List ℕ) where
   -- a gain that was read has an action
@@ -294,23 +365,45 @@ module _ (tables_have_actions : TablesHaveActions) (verdicts_prove : VerdictsPro
       let verdict = subst (λ (r : Result VerdictTree RefineError). IsVerdict is.0 is.1 most_pivots r) v.1 is.3.1 in
       subst HasText (sym v.2) (verdicts_prove is.0 is.1 most_pivots v.0 (are_proper turns p is.0 clear is.2.first) (are_proper turns q is.1 clear' is.2.second) verdict)
 
+  -- the hyper of a clear program has a shape
+  shaped : (turns : ℕ) (p : ProgramTree) → IsClear turns p → IsShaped (run_scale turns p) (joint_of turns p)
+  shaped turns p clear = (
+    target_size p.target,
+    λ inners is. are_proper turns p (record { target = p.target; scale = run_scale turns p; inners = inners }) clear
+        (record { target = refl; scale = refl; is_hyper = is }),
+  )
+
   -- what a command states has a text
-  command_text : (command : Command) (turns : ℕ) (ps : List ProgramTree) → Every (IsClear turns) ps → (statement : Statement) → CommandOutcome contents command turns ps (Ok statement) → HasText statement
-  command_text Hyper turns (p ∷ []) clear statement is = stated true (HyperOf p.target (run_scale turns p) (joint_of turns p)) statement Usage tt is
-  command_text Traces turns (p ∷ []) clear statement is = stated true (TracesOf p.target (run_scale turns p) (joint_of turns p)) statement Usage tt is
-  command_text Channel turns (p ∷ []) clear statement is = stated (all_initial p.target) (ChannelOf p.target (joint_of turns p)) statement NotInitial tt is
-  command_text (Make count) turns [] clear statement is = stated true (MadeOf count (run_scale turns is.2.0) (joint_of turns is.2.0)) statement Usage tt is.2.2
-  command_text Trail turns (p ∷ []) clear statement is = stated true (TrailOf turns p) statement Usage tt is
-  command_text (Leak word) turns (p ∷ []) clear statement is =
+  command_text : (command : Command) → IsWanted command → (turns : ℕ) (ps : List ProgramTree) → Every (IsClear turns) ps → (statement : Statement) → CommandOutcome contents command turns ps (Ok statement) → HasText statement
+  command_text Hyper wanted turns (p ∷ []) clear statement is = stated true (HyperOf p.target (run_scale turns p) (joint_of turns p)) statement Usage tt is
+  command_text Traces wanted turns (p ∷ []) clear statement is = stated true (TracesOf p.target (run_scale turns p) (joint_of turns p)) statement Usage tt is
+  command_text Channel wanted turns (p ∷ []) clear statement is = stated (all_initial p.target) (ChannelOf p.target (joint_of turns p)) statement NotInitial tt is
+  command_text (Make count) wanted turns [] clear statement is = stated true (MadeOf count (run_scale turns is.2.0) (joint_of turns is.2.0)) statement Usage tt is.2.2
+  command_text Trail wanted turns (p ∷ []) clear statement is = stated true (TrailOf turns p) statement Usage tt is
+  command_text Capacity wanted turns (p ∷ []) clear statement is =
+      stated (is_narrow (channel_grid is.2.0)) (CapacityOf (channel_grid is.2.0)) statement WideChannel tt is.2.2
+  command_text (Compose way) wanted turns (p ∷ q ∷ []) clear statement is = algebra_text_has is.2.2.0 is.2.2.1 is.2.2.4.0 statement is.2.2.4.2
+  command_text (Leak word) wanted turns (p ∷ []) clear statement is =
       stated (nat_le (run_scale turns p * is.2.0) limit) (ReportOf is.0 (run_scale turns p) (joint_of turns p)) statement WideGain
       (read_gain p.target word is.0 is.1) is.2.2
-  command_text (Refine json) turns (p ∷ q ∷ []) clear statement is = refine_text json turns p q clear.0 clear.1.0 statement is
-  command_text (Check name) turns (p ∷ q ∷ []) clear statement is = marked_text is.2.0 is.2.1 is.0 statement is.2.3
-  command_text command turns ps clear statement is = absurd (cc)
+  command_text (Attack word) wanted turns (p ∷ []) clear statement is =
+      stated (nat_le (run_scale turns p * is.2.0) limit) (AttackOf is.0 p.target (run_scale turns p) (joint_of turns p)) statement WideGain
+      (read_gain p.target word is.0 is.1, shaped turns p clear.0) is.2.2
+  command_text (Reach num den) wanted turns (p ∷ []) clear statement is =
+      stated true (ReachOf num den (run_scale turns p) (joint_of turns p)) statement Usage (wanted.0, wanted.1, shaped turns p clear.0) is
+  command_text (Refine json) wanted turns (p ∷ q ∷ []) clear statement is = refine_text json turns p q clear.0 clear.1.0 statement is
+  command_text (Check name) wanted turns (p ∷ q ∷ []) clear statement is = marked_text is.2.0 is.2.1 is.0 statement is.2.3
+  command_text command wanted turns ps clear statement is = absurd (cc)
 
-  task_text : AreClear → (task : Option Task) (statement : Statement) → SomeOutcome contents task (Ok statement) → HasText statement
-  task_text are_clear None statement is = absurd (cc)
-  task_text are_clear (Some task) statement is = command_text task.command task.turns is.0 (are_clear contents task is.0 is.1) statement is.2
+  task_text : AreClear → (task : Option Task) → ((t : Task) → task ≡ Some t → IsWanted t.command) → (statement : Statement)
+      → SomeOutcome contents task (Ok statement) → HasText statement
+  task_text are_clear None wanted statement is = absurd (cc)
+  task_text are_clear (Some task) wanted statement is =
+      command_text task.command (wanted task refl) task.turns is.0 (are_clear contents task is.0 is.1) statement is.2
+
+  -- what words state has one
+  pub stated_text : AreClear → (words : List (List ℕ)) (statement : Statement) → Outcome words contents (Ok statement) → HasText statement
+  stated_text are_clear words statement is = task_text are_clear (task_of words) (wanted_task words) statement is
 
 -- ---- outcomes
 
@@ -346,12 +439,12 @@ module _ (read : (src : List ℕ) → ((ts : List Token) × IsTokens src ts) ⊎
       (λ bytes _. some_after (TypedOf name bytes) (λ p. Gives (Ok (text name bytes p))) (λ p _. some_given (Ok (text name bytes p))) (some_typed name bytes))
       (some_given (source_of contents name))
 
-  module _ (tables_exist : SomeTable) (hypers_exist : HypersExist) (averages_exist : SomeAverage) (verdicts_exist : SomeVerdict) (read_sound : ReadSound) (marks_exist : SomeMark) (are_clear : AreClear)
-      (are_proper : AreProper) where
+  module _ (tables_exist : SomeTable) (rows_exist : RowsExist) (secrets_exist : SomeSecrets) (hypers_exist : HypersExist) (averages_exist : SomeAverage) (verdicts_exist : SomeVerdict) (read_sound : ReadSound)
+      (marks_exist : SomeMark) (are_clear : AreClear) (are_proper : AreProper) where
     some_task : (contents : List ℕ → List ℕ) (task : Task) → HasSome (TaskOutcome contents task)
     some_task contents task =
         some_after (ClearedOf contents task) (CommandOutcome contents task.command task.turns)
-        (λ ps is. some_command some_made tables_exist hypers_exist averages_exist verdicts_exist read_sound marks_exist are_proper contents task.turns task.command ps (are_clear contents task ps is))
+        (λ ps is. some_command some_made tables_exist rows_exist secrets_exist hypers_exist averages_exist verdicts_exist read_sound marks_exist are_proper contents task.turns task.command ps (are_clear contents task ps is))
         (some_after (Each (TextOf contents) task.files) (Each (λ t. Gives (cleared task.turns t)))
         (λ ts _. some_each (λ t. Gives (cleared task.turns t)) (λ t. some_given (cleared task.turns t)) ts)
         (some_each (TextOf contents) (some_read contents) task.files))
@@ -360,9 +453,10 @@ module _ (read : (src : List ℕ) → ((ts : List Token) × IsTokens src ts) ⊎
     some_outcome contents None = some_given (Err Usage)
     some_outcome contents (Some task) = some_task contents task
 
-    pub some_answer : TablesHaveActions → VerdictsProve → RowsExist → SomeSecrets → SomeReport → SomeTrail → (words : List (List ℕ)) (contents : List ℕ → List ℕ) → (answer : Answer) × IsAnswer words contents answer
-    some_answer tables_have_actions verdicts_prove rows_exist secrets_exist reports_exist trails_exist words contents =
+    pub some_answer : TablesHaveActions → VerdictsProve → SomeReport → SomeTrail → SomeAttacks → SomeReach
+        → (words : List (List ℕ)) (contents : List ℕ → List ℕ) → (answer : Answer) × IsAnswer words contents answer
+    some_answer tables_have_actions verdicts_prove reports_exist trails_exist attacks_exist reaches_exist words contents =
         let r = some_outcome contents (task_of words) in
-        let s = settled rows_exist hypers_exist secrets_exist reports_exist trails_exist r.0
-        (λ statement is. task_text tables_have_actions verdicts_prove are_proper contents are_clear (task_of words) statement (subst (λ (o : Result Statement Refused). Outcome words contents o) is r.1)) in
+        let s = settled rows_exist hypers_exist secrets_exist reports_exist trails_exist attacks_exist reaches_exist r.0
+        (λ statement is. stated_text tables_have_actions verdicts_prove are_proper contents are_clear words statement (subst (λ (o : Result Statement Refused). Outcome words contents o) is r.1)) in
         (s.0, record { result = r.0; outcome = r.1; settled = s.1 })

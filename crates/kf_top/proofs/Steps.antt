@@ -21,11 +21,12 @@ use Rattle.kf_core.specs.Support.{StoreSet, program_pass}
 use Rattle.kf_core.specs.Scale.{scale_of as run_scale}
 use Rattle.kf_core.specs.Joint.{joint_of}
 use Rattle.kf_channel.specs.Channels.{all_initial}
-use Rattle.kf_gain.specs.Gains.{Table}
+use Rattle.kf_gain.specs.Gains.{GainOf, Table}
 use Rattle.kf_top.specs.Answer.{Statement, Refused, ChannelOf, NotInitial, WideScale}
+use Rattle.kf_top.specs.Ends.{IsUnder}
 use Rattle.kf_top.specs.Outcome.{Step, After, Each, Fault, Text, token_fault, syntax_fault, type_fault, bad_text, TokensOf, SourceOf, ProgramOf, TextOf, bad_run, narrow, cleared, ClearedOf, Gives, channel_statement, source_of, MadeOutcome, CommandOutcome, TaskOutcome}
 use Rattle.kf_top.specs.Stops.{Answers, is_bytes, is_text, is_cleared, is_alone, are_cleared}
-use Rattle.kf_top.specs.Task.{Command, Task, Leak, Make, Check, on_file, on_files, named, tables_of}
+use Rattle.kf_top.specs.Task.{Command, Task, Make, Check, on_file, on_files, named, tables_of}
 use Rattle.kf_support.specs.declared.cleared.Cleared.{Cleared}
 use Rattle.kf_top.specs.Views.{ShowsStatement, gain_of}
 use Rattle.kf_top.specs.declared.gain_words.GainWord.{GainWord}
@@ -190,11 +191,12 @@ named_second a b said same = (1, omega arith, sym same)
 pub names_file : (task : Task) (name : List ℕ) → Contains task.files name → Contains (named task) name
 names_file task name in' = Contains-append_left task.files (tables_of task.command) name in'
 
-has_table : (task : Task) (name : List ℕ) → task.command ≡ Leak (Table name) → Contains (tables_of task.command) name
-has_table task name is = subst (λ (c : Command). Contains (tables_of c) name) (sym is) (0, omega arith, refl)
+has_table : (command : Command) (name : List ℕ) → IsUnder (Table name) command → Contains (tables_of command) name
+has_table command name (inl is) = subst (λ (c : Command). Contains (tables_of c) name) (sym is) (0, omega arith, refl)
+has_table command name (inr is) = subst (λ (c : Command). Contains (tables_of c) name) (sym is) (0, omega arith, refl)
 
-pub names_table : (task : Task) (name : List ℕ) → task.command ≡ Leak (Table name) → Contains (named task) name
-names_table task name is = Contains-append_right task.files (tables_of task.command) name (has_table task name is)
+pub names_table : (task : Task) (name : List ℕ) → IsUnder (Table name) task.command → Contains (named task) name
+names_table task name is = Contains-append_right task.files (tables_of task.command) name (has_table task.command name is)
 
 -- and a certificate
 pub names_cert : (task : Task) (name : List ℕ) → task.command ≡ Check name → Contains (named task) name
@@ -202,8 +204,10 @@ names_cert task name is =
     Contains-append_right task.files (tables_of task.command) name (subst (λ (c : Command). Contains (tables_of c) name) (sym is) (0, omega arith, refl))
 
 -- the table that a gain's word names
-pub reads_table : (task : Task) (w : GainWord) (name said : List ℕ) → w ≡ word.Table name → said ≡ name → task.command ≡ Leak (gain_of w) → task.command ≡ Leak (Table said)
-reads_table task w name said named same is = is ∙ ap (λ v. Leak (gain_of v)) named ∙ ap (λ (n : List ℕ). Leak (Table n)) (sym same)
+pub reads_table : (task : Task) (w : GainWord) (name said : List ℕ) → w ≡ word.Table name → said ≡ name → IsUnder (gain_of w) task.command
+    → IsUnder (Table said) task.command
+reads_table task w name said named same is =
+    subst (λ (g : GainOf (List ℕ)). IsUnder g task.command) (ap gain_of named ∙ ap (λ (n : List ℕ). Table n) (sym same)) is
 
 -- an error with a fault isn't want of memory
 pub some_syntax : (e : ParseError) (f : Fault) → syntax_fault e ≡ Some f → e ≢ parsing.Mem
@@ -239,7 +243,7 @@ fits turns t ok few = ap (λ b. if b then Ok t.program else Err (WideScale t.nam
 pub too_wide : (turns : ℕ) (t : Text) → IsOk (program_pass turns t.program) → limit < run_scale turns t.program → Err (WideScale t.name) ≡ cleared turns t
 too_wide turns t ok wide = ap (λ b. if b then Ok t.program else Err (WideScale t.name)) (sym (lt-leb (run_scale turns t.program) limit wide)) ∙ passed turns t (program_pass turns t.program) refl ok
 
-either_way : (b : Bool) → (b ≡ true) ⊎ (b ≡ false)
+pub either_way : (b : Bool) → (b ≡ true) ⊎ (b ≡ false)
 either_way true = inl refl
 either_way false = inr refl
 

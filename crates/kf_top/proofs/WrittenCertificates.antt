@@ -19,7 +19,7 @@ use Rattle.kf_cert.specs.declared.mark.Mark.TheVariants.{Accepted}
 use Rattle.kf_cert.specs.declared.mark.CheckError.{CheckError}
 use Rattle.kf_cert.specs.declared.mark.CheckError.TheVariants as check
 use Rattle.kf_cert.proofs.Printable.{matrix_printable, table_printable}
-use Rattle.kf_top.specs.Answer.{Shown, Statement, MarkOf, States, Refused, Usage, TooLong, BadText, BadRun, WideScale, NotInitial, BadTable, WideGain, OtherTarget, ManyCells, WideTableau, ManyPivots, BadCert, WideCert, status_of}
+use Rattle.kf_top.specs.Answer.{Shown, Statement, MarkOf, States, Refused, Usage, TooLong, BadText, BadRun, WideScale, NotInitial, BadTable, WideGain, OtherTarget, ManyCells, WideTableau, ManyPivots, BadCert, WideCert, OtherRows, NoFit, ManyChannelCells, WideChannel, status_of}
 use Rattle.kf_top.specs.Ends.{Answer, Settled, showing, refusing}
 use Rattle.kf_top.specs.Laws.{CertificatesAccepted, asks_certificate, asks_check}
 use Rattle.kf_top.specs.Outcome.{Text, TextOf, ClearedOf, source_of, cert_read, CertIn, AreHypers, most_pivots, mark_stated, MarkIn, RefineOutcome, CheckOutcome, CommandOutcome, SomeOutcome, Outcome}
@@ -127,6 +127,10 @@ refused_above (WideTableau pivots) = omega arith
 refused_above ManyPivots = omega arith
 refused_above (BadCert name word) = omega arith
 refused_above WideCert = omega arith
+refused_above OtherRows = omega arith
+refused_above NoFit = omega arith
+refused_above (ManyChannelCells cells) = omega arith
+refused_above WideChannel = omega arith
 
 -- an answer with a status of at most 1 states something
 stated : (r : Result Statement Refused) (written : Answer) → Settled r written → written.status ≤ 1 → (statement : Statement) × (r ≡ Ok statement)

@@ -9,14 +9,18 @@ use Rattle.kf_core.specs.Rows.{AreRowsOf, IsHyperOf}
 use Rattle.kf_hyper.specs.Hypers.{Inner}
 use Rattle.kf_hyper.specs.Traces.{Row}
 use Rattle.kf_channel.specs.Channels.{AreSecrets}
+use Rattle.kf_capacity.specs.Grids.{GridTree}
 use Rattle.kf_gain.specs.Gains.{GainOf, TableTree}
 use Rattle.kf_report.specs.Reports.{Leakage, IsLeakage}
+use Rattle.kf_attack.specs.Attacks.{AttackTree, AreAttacks, ReachTree, IsReach}
 use Rattle.kf_refine.specs.Refinements.{HyperTree}
 use Rattle.kf_refine.specs.Verdicts.{VerdictTree, No, Proves}
 use Rattle.kf_cert.specs.CertTexts.{cert_text}
 use Rattle.kf_cert.specs.declared.mark.Mark.{Mark}
 use Rattle.kf_cert.specs.declared.mark.Mark.TheVariants.{Rejected}
 use Rattle.kf_text.specs.Texts.{line, hyper_text, trace_text, channel_text, trail_text, make_text}
+use Rattle.kf_text.specs.AttackTexts.{attack_text, reach_text}
+use Rattle.kf_text.specs.CapacityTexts.{capacity_text, algebra_text}
 use Rattle.kf_text.specs.ReportTexts.{report_text}
 use Rattle.kf_text.specs.VerdictTexts.{verdict_text, mark_text}
 
@@ -30,6 +34,10 @@ pub data Statement : Type 0 where
   ChannelOf : List Item → List Cell → Statement
   -- how much a gain's best action gains by what is shown
   ReportOf : GainOf TableTree → ℕ → List Cell → Statement
+  -- what is best done at each of its inners, under a gain
+  AttackOf : GainOf TableTree → List Item → ℕ → List Cell → Statement
+  -- the least number of tries with which its posterior is at least num / den
+  ReachOf : ℕ → ℕ → ℕ → List Cell → Statement
   -- how many beliefs stand behind each statement of a program, whose loops turn at most so often
   TrailOf : ℕ → ProgramTree → Statement
   -- the hyper of so many noisy observations, by its scale and joint
@@ -38,6 +46,10 @@ pub data Statement : Type 0 where
   VerdictOn : Bool → HyperTree → HyperTree → VerdictTree → Statement
   -- what a check says of a certificate
   MarkOf : Mark → Statement
+  -- the Bayes capacity of a channel, by its grid
+  CapacityOf : GridTree → Statement
+  -- the capacities of two channels, and of what was put together of them
+  AlgebraOf : GridTree → GridTree → GridTree → Statement
 
 -- the bytes are the statement's text
 abbrev pub IsText : Statement → List ℕ → Type 0
@@ -53,6 +65,13 @@ IsText (ReportOf g scale joint) bytes =
 IsText (MadeOf count scale joint) bytes = (inners : List Inner) × IsHyperOf joint inners × (bytes ≡ make_text count scale inners)
 IsText (VerdictOn json a b v) bytes = Proves a b v × (bytes ≡ (if json then cert_text a.target v else verdict_text a.target v))
 IsText (MarkOf mark) bytes = bytes ≡ line (mark_text mark)
+IsText (AttackOf g target scale joint) bytes =
+    (inners : List Inner) × IsHyperOf joint inners
+    × ((attacks : List AttackTree) × AreAttacks g inners attacks × (bytes ≡ attack_text g target scale inners attacks))
+IsText (ReachOf num den scale joint) bytes =
+    (inners : List Inner) × IsHyperOf joint inners × ((r : ReachTree) × IsReach scale inners num den r × (bytes ≡ reach_text scale r))
+IsText (CapacityOf g) bytes = bytes ≡ capacity_text g
+IsText (AlgebraOf first second both) bytes = bytes ≡ algebra_text first second both
 IsText (TrailOf turns p) bytes = (counts : List ℕ) × IsTrail turns p counts × (bytes ≡ trail_text counts)
 
 -- whether it is a yes: only a verdict may be a no, and a certificate rejected
@@ -98,6 +117,14 @@ pub data Refused : Type 0 where
   BadCert : List ℕ → List ℕ → Refused
   -- a scale times the certificate's denominator, or its width, passes 2^127 - 1
   WideCert : Refused
+  -- two channels have different secrets
+  OtherRows : Refused
+  -- what one channel shows is no secret of the next
+  NoFit : Refused
+  -- two channels side by side have so many cells
+  ManyChannelCells : ℕ → Refused
+  -- a channel's denominator or its capacity passes 2^127 - 1
+  WideChannel : Refused
 
 -- a line on standard error; `name` is the file's, or empty
 abbrev pub said : List ℕ → List ℕ → List ℕ
@@ -122,6 +149,10 @@ status_of (WideTableau pivots) = 7
 status_of ManyPivots = 8
 status_of (BadCert name word) = 9
 status_of WideCert = 7
+status_of OtherRows = 10
+status_of NoFit = 10
+status_of (ManyChannelCells cells) = 8
+status_of WideChannel = 7
 
 abbrev pub line_of : Refused → List ℕ
 line_of Usage = said [] (codes "usage: kuifje COMMAND [FILES] [--gain G] [--turns N] [--json]")
@@ -138,3 +169,7 @@ line_of (WideTableau pivots) = said [] (codes "tableau passes 2^62 after " ++ (d
 line_of ManyPivots = said [] (codes "more than 20000 pivots")
 line_of (BadCert name word) = said name (codes ": " ++ word)
 line_of WideCert = said [] (codes "certificate passes 2^127 - 1")
+line_of OtherRows = said [] (codes "rows differ")
+line_of NoFit = said [] (codes "channels do not fit")
+line_of (ManyChannelCells cells) = said [] (codes "channel has " ++ (decimal cells ++ codes " cells"))
+line_of WideChannel = said [] (codes "channel passes 2^127 - 1")

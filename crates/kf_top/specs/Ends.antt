@@ -7,10 +7,10 @@ use Rattle.std.specs.Io.KnownBytes.{Appends, Keeps}
 use Rattle.kf_io.specs.Faults.{Rose}
 use Rattle.kf_io.specs.Writes.{AppendsSome}
 use Rattle.kf_gain.specs.Gains.{GainOf, Table}
-use Rattle.kf_top.specs.Task.{Command, Task, Channel, Leak, Refine, Check, task_of, files_of, named}
+use Rattle.kf_top.specs.Task.{Command, Composition, Task, Channel, Capacity, Compose, Leak, Attack, Refine, Check, task_of, files_of, named}
 use Rattle.kf_top.specs.Answer.{Statement, Shown, States, Refused, said, line_of, status_of}
 use Rattle.kf_top.specs.Answer.{Usage, TooLong, BadText, BadRun, WideScale, NotInitial, BadTable, WideGain}
-use Rattle.kf_top.specs.Answer.{OtherTarget, ManyCells, WideTableau, ManyPivots, BadCert, WideCert}
+use Rattle.kf_top.specs.Answer.{OtherTarget, ManyCells, WideTableau, ManyPivots, BadCert, WideCert, OtherRows, NoFit, ManyChannelCells, WideChannel}
 use Rattle.kf_top.specs.Outcome.{Outcome}
 
 -- ---- answers
@@ -103,6 +103,17 @@ IsRefining command = (json : Bool) × (command ≡ Refine json)
 abbrev pub IsChecking : Command → Type 0
 IsChecking command = (name : List ℕ) × (command ≡ Check name)
 
+abbrev pub IsComposing : Command → Type 0
+IsComposing command = (way : Composition) × (command ≡ Compose way)
+
+-- it asks for a capacity
+abbrev pub IsOnCapacities : Command → Type 0
+IsOnCapacities command = (command ≡ Capacity) ⊎ IsComposing command
+
+-- it asks for this gain
+abbrev pub IsUnder : GainOf (List ℕ) → Command → Type 0
+IsUnder g command = (command ≡ Leak g) ⊎ (command ≡ Attack g)
+
 -- the refusal is one that the task can have: of a file that it names, or of its command
 abbrev pub CanRefuse : Task → Refused → Type 0
 CanRefuse task Usage = ⊥
@@ -110,15 +121,19 @@ CanRefuse task (TooLong name) = Contains (named task) name
 CanRefuse task (BadText name line column word) = Contains task.files name
 CanRefuse task (BadRun name line column word) = Contains task.files name
 CanRefuse task (WideScale name) = Contains task.files name
-CanRefuse task NotInitial = task.command ≡ Channel
-CanRefuse task (BadTable name word) = task.command ≡ Leak (Table name)
-CanRefuse task WideGain = (g : GainOf (List ℕ)) × (task.command ≡ Leak g)
-CanRefuse task OtherTarget = IsRefining task.command ⊎ IsChecking task.command
+CanRefuse task NotInitial = (task.command ≡ Channel) ⊎ IsOnCapacities task.command
+CanRefuse task (BadTable name word) = IsUnder (Table name) task.command
+CanRefuse task WideGain = (g : GainOf (List ℕ)) × IsUnder g task.command
+CanRefuse task OtherTarget = IsRefining task.command ⊎ (IsChecking task.command ⊎ IsComposing task.command)
 CanRefuse task (ManyCells cells) = IsRefining task.command
 CanRefuse task (WideTableau pivots) = IsRefining task.command
 CanRefuse task ManyPivots = IsRefining task.command
 CanRefuse task (BadCert name word) = task.command ≡ Check name
 CanRefuse task WideCert = IsChecking task.command
+CanRefuse task OtherRows = IsComposing task.command
+CanRefuse task NoFit = IsComposing task.command
+CanRefuse task (ManyChannelCells cells) = IsComposing task.command
+CanRefuse task WideChannel = IsOnCapacities task.command
 
 -- the status and the line are those of a refusal that these words can have
 pub record RefusedAs (words : List (List ℕ)) (err : Sunk) (status : ℕ) : Type 0 where

@@ -10,5 +10,6 @@ pub mod Place
 -- For bodies
 pub mod Laws
 pub mod Stops
+pub mod CapacityViews
 pub mod Views
 pub mod WordViews

@@ -1,12 +1,12 @@
 -- Believed: numbers as words say them.
-use Rattle.std.specs.Prelude.{ℕ, List, Bool, ◌&&◌, Option, None, Some, length, nat_le, if◌then◌else◌}
+use Rattle.std.specs.Prelude.{ℕ, ◌+◌, List, [], ◌∷◌, Bool, ◌&&◌, ◌==◌, Option, None, Some, length, nat_le, if◌then◌else◌, option_map, option_and_then}
 use Rattle.std.specs.Char.{is_ascii_digit}
 use Rattle.std.specs.List.{list_all}
 use Rattle.std.specs.Str.Parse.{digits_value}
 
--- a word of one to five decimal digits
-abbrev pub is_numeral : List ℕ → Bool
-is_numeral word = nat_le 1 (length word) && (nat_le (length word) 5 && list_all is_ascii_digit word)
+-- a word of decimal digits, at least one and at most so many
+abbrev pub is_numeral : ℕ → List ℕ → Bool
+is_numeral most word = nat_le 1 (length word) && (nat_le (length word) most && list_all is_ascii_digit word)
 
 -- a number from 1 to 65,535
 abbrev pub some_number : ℕ → Option ℕ
@@ -14,4 +14,26 @@ some_number n = if nat_le 1 n && nat_le n 65535 then Some n else None
 
 -- the number that a word says
 abbrev pub number_said : List ℕ → Option ℕ
-number_said word = if is_numeral word then some_number (digits_value 10 word) else None
+number_said word = if is_numeral 5 word then some_number (digits_value 10 word) else None
+
+-- a number of one to nine digits
+abbrev pub long_number_said : List ℕ → Option ℕ
+long_number_said word = if is_numeral 9 word then Some (digits_value 10 word) else None
+
+-- what stands before the first slash and behind it
+abbrev pub around_slash : List ℕ → Option (List ℕ × List ℕ)
+around_slash [] = None
+around_slash (b ∷ bs) = if b == 47 then Some ([], bs) else option_map (λ p. (b ∷ p.0, p.1)) (around_slash bs)
+
+-- two such numbers with a slash between
+abbrev pub ratio_said : List ℕ → Option (ℕ × ℕ)
+ratio_said word =
+    option_and_then (λ p. option_and_then (λ n. option_map (λ d. (n, d)) (long_number_said p.1)) (long_number_said p.0)) (around_slash word)
+
+-- a probability between 0 and 1
+abbrev pub chance_said : List ℕ → Option (ℕ × ℕ)
+chance_said word = option_and_then (λ p. if nat_le 1 p.0 && nat_le (p.0 + 1) p.1 then Some p else None) (ratio_said word)
+
+-- a probability above 0
+abbrev pub wanted_said : List ℕ → Option (ℕ × ℕ)
+wanted_said word = option_and_then (λ p. if nat_le 1 p.0 && nat_le p.0 p.1 then Some p else None) (ratio_said word)

@@ -1,5 +1,5 @@
 -- Believed: the defined answer to words over files: the first refusal, or what is to be stated.
-use Rattle.std.specs.Prelude.{◌≡◌, ◌≢◌, ◌⊎◌, ℕ, Bool, ◌*◌, List, [], ◌∷◌, ◌++◌, length, nat_le, codes, if◌then◌else◌, Ok, Err, None, Some}
+use Rattle.std.specs.Prelude.{◌≡◌, ◌≢◌, ◌⊎◌, ℕ, Bool, ◌&&◌, ◌*◌, List, [], ◌∷◌, ◌++◌, length, nat_le, codes, if◌then◌else◌, Ok, Err, None, Some}
 use Rattle.std.specs.Fmt.{decimal}
 use Rattle.std.specs.declared.option.Option.{Option}
 use Rattle.std.specs.declared.result.Result.{Result}
@@ -24,9 +24,17 @@ use Rattle.kf_core.specs.Scale.{scale_of as run_scale}
 use Rattle.kf_core.specs.Programs.{ProgramTree}
 use Rattle.kf_value.specs.Targets.{Item}
 use Rattle.kf_core.specs.Joint.{Cell, joint_of}
-use Rattle.kf_core.specs.Rows.{IsHyperOf}
+use Rattle.kf_core.specs.Rows.{AreRowsOf, IsHyperOf}
 use Rattle.kf_hyper.specs.Hypers.{Inner}
-use Rattle.kf_channel.specs.Channels.{all_initial}
+use Rattle.kf_channel.specs.Channels.{AreSecrets, all_initial}
+use Rattle.kf_capacity.specs.Grids.{ChannelTree, GridTree, channel_grid, capacity_of}
+use Rattle.kf_capacity.specs.Compositions.{IsCascade, IsParallel, IsChoice}
+use Rattle.kf_capacity.specs.declared.error.CascadeFault.{CascadeFault}
+use Rattle.kf_capacity.specs.declared.error.CascadeFault.TheVariants as cascade
+use Rattle.kf_capacity.specs.declared.error.ParallelFault.{ParallelFault}
+use Rattle.kf_capacity.specs.declared.error.ParallelFault.TheVariants as parallel
+use Rattle.kf_capacity.specs.declared.error.ChoiceFault.{ChoiceFault}
+use Rattle.kf_capacity.specs.declared.error.ChoiceFault.TheVariants as choice
 use Rattle.kf_gain.specs.declared.error.TableError.{TableError}
 use Rattle.kf_gain.specs.declared.error.TableError.TheVariants as table
 use Rattle.kf_gain.specs.Gains.{GainOf, Bayes, Tries, Guessing, Table, TableTree}
@@ -44,11 +52,12 @@ use Rattle.kf_cert.specs.declared.cert.CertError.TheVariants as cert
 use Rattle.kf_cert.specs.declared.mark.Mark.{Mark}
 use Rattle.kf_cert.specs.declared.mark.CheckError.{CheckError}
 use Rattle.kf_cert.specs.declared.mark.CheckError.TheVariants as check
-use Rattle.kf_top.specs.Answer.{Statement, HyperOf, TracesOf, ChannelOf, ReportOf, TrailOf, MadeOf, VerdictOn, MarkOf}
+use Rattle.kf_top.specs.Answer.{Statement, HyperOf, TracesOf, ChannelOf, ReportOf, TrailOf, MadeOf, VerdictOn, MarkOf, CapacityOf, AlgebraOf, AttackOf, ReachOf}
 use Rattle.kf_top.specs.Answer.{Refused, Usage, TooLong, BadText, BadRun, WideScale, NotInitial, BadTable, WideGain}
-use Rattle.kf_top.specs.Answer.{OtherTarget, ManyCells, WideTableau, ManyPivots, BadCert, WideCert}
+use Rattle.kf_top.specs.Answer.{OtherTarget, ManyCells, WideTableau, ManyPivots, BadCert, WideCert, OtherRows, NoFit, ManyChannelCells, WideChannel}
 use Rattle.kf_top.specs.Place.{line_at, column_at}
-use Rattle.kf_top.specs.Task.{Command, Task, Hyper, Traces, Channel, Trail, Leak, Make, task_of, Refine, Check}
+use Rattle.kf_top.specs.Task.{Command, Task, Hyper, Traces, Channel, Trail, Capacity, Compose, Leak, Attack, Reach, Make, task_of, Refine, Check}
+use Rattle.kf_top.specs.Task.{Composition, Cascade, Parallel, Choice}
 
 -- a step towards an answer: which results it may have
 abbrev pub Step : Type 0 → Type 1
@@ -182,6 +191,64 @@ ClearedOf contents task = After (Each (TextOf contents) task.files) (Each (λ t.
 abbrev pub channel_statement : ℕ → ProgramTree → Result Statement Refused
 channel_statement turns p = if all_initial p.target then Ok (ChannelOf p.target (joint_of turns p)) else Err NotInitial
 
+-- the channel of a program
+pub record IsChannelTree (turns : ℕ) (p : ProgramTree) (c : ChannelTree) : Type 0 where
+  pub target : c.target ≡ p.target
+  pub rows : AreRowsOf (joint_of turns p) c.rows
+  pub secrets : AreSecrets c.rows c.secrets
+
+-- the program, where it has one
+abbrev pub initial : ProgramTree → Result ProgramTree Refused
+initial p = if all_initial p.target then Ok p else Err NotInitial
+
+-- whether a grid's denominator and its capacity are at most 2^127 - 1
+abbrev pub is_narrow : GridTree → Bool
+is_narrow g = nat_le g.over limit && nat_le (capacity_of g) limit
+
+-- the capacity of a program's channel
+abbrev pub CapacityIn : ℕ → ProgramTree → Step Statement
+CapacityIn turns p result =
+    (c : ChannelTree) × IsChannelTree turns p c
+    × (result ≡ (if is_narrow (channel_grid c) then Ok (CapacityOf (channel_grid c)) else Err WideChannel))
+
+-- what is put together of two channels, or why there is nothing; want of memory is none of the causes
+abbrev pub cascade_told : Result GridTree CascadeFault → Result GridTree Refused
+cascade_told (Ok g) = Ok g
+cascade_told (Err cascade.Fit) = Err NoFit
+cascade_told (Err cascade.Wide) = Err WideChannel
+cascade_told (Err cascade.Mem) = Err Usage
+
+abbrev pub parallel_told : Result GridTree ParallelFault → Result GridTree Refused
+parallel_told (Ok g) = Ok g
+parallel_told (Err parallel.Targets) = Err OtherTarget
+parallel_told (Err parallel.Rows) = Err OtherRows
+parallel_told (Err (parallel.Cells count)) = Err (ManyChannelCells count)
+parallel_told (Err parallel.Wide) = Err WideChannel
+parallel_told (Err parallel.Mem) = Err Usage
+
+abbrev pub choice_told : Result GridTree ChoiceFault → Result GridTree Refused
+choice_told (Ok g) = Ok g
+choice_told (Err choice.Targets) = Err OtherTarget
+choice_told (Err choice.Rows) = Err OtherRows
+choice_told (Err choice.Wide) = Err WideChannel
+choice_told (Err choice.Mem) = Err Usage
+
+abbrev pub Composed : Composition → ChannelTree → ChannelTree → Step GridTree
+Composed Cascade c d result = (r : Result GridTree CascadeFault) × IsCascade c d r × (result ≡ cascade_told r)
+Composed Parallel c d result = (r : Result GridTree ParallelFault) × IsParallel c d r × (result ≡ parallel_told r)
+Composed (Choice num den) c d result = (r : Result GridTree ChoiceFault) × IsChoice num den c d r × (result ≡ choice_told r)
+
+-- three capacities, where none is too wide
+abbrev pub algebra_stated : GridTree → GridTree → GridTree → Result Statement Refused
+algebra_stated first second both =
+    if is_narrow first && (is_narrow second && is_narrow both) then Ok (AlgebraOf first second both) else Err WideChannel
+
+-- what is put together of the channels of two programs
+abbrev pub ComposedIn : Composition → ℕ → ProgramTree → ProgramTree → Step Statement
+ComposedIn way turns p q result =
+    (c d : ChannelTree) × IsChannelTree turns p c × IsChannelTree turns q d
+    × After (Composed way c d) (λ g. Gives (algebra_stated (channel_grid c) (channel_grid d) g)) result
+
 -- the word of the first rule that a gain table breaks; want of memory is none
 abbrev pub table_word : TableError → List ℕ
 table_word table.Json = codes "Json"
@@ -218,6 +285,11 @@ pub record HasWidth (joint : List Cell) (g : GainOf TableTree) (m : ℕ) : Type 
 abbrev pub ReportIn : ℕ → List Cell → GainOf TableTree → Step Statement
 ReportIn scale joint g result =
     (m : ℕ) × HasWidth joint g m × (result ≡ (if nat_le (scale * m) limit then Ok (ReportOf g scale joint) else Err WideGain))
+
+-- an attack; no number of one that is given passes 2^127 - 1
+abbrev pub AttackIn : List Item → ℕ → List Cell → GainOf TableTree → Step Statement
+AttackIn target scale joint g result =
+    (m : ℕ) × HasWidth joint g m × (result ≡ (if nat_le (scale * m) limit then Ok (AttackOf g target scale joint) else Err WideGain))
 
 -- the hyper of a program
 pub record IsHyperTree (turns : ℕ) (p : ProgramTree) (h : HyperTree) : Type 0 where
@@ -295,8 +367,14 @@ CommandOutcome contents Hyper turns (p ∷ []) = Gives (Ok (HyperOf p.target (ru
 CommandOutcome contents Traces turns (p ∷ []) = Gives (Ok (TracesOf p.target (run_scale turns p) (joint_of turns p)))
 CommandOutcome contents Channel turns (p ∷ []) = Gives (channel_statement turns p)
 CommandOutcome contents Trail turns (p ∷ []) = Gives (Ok (TrailOf turns p))
+CommandOutcome contents Capacity turns (p ∷ []) = After (Gives (initial p)) (CapacityIn turns)
+CommandOutcome contents (Compose way) turns (p ∷ q ∷ []) =
+    After (Gives (initial p)) (λ p. After (Gives (initial q)) (λ q. ComposedIn way turns p q))
 CommandOutcome contents (Make count) turns [] = MadeOutcome count turns
 CommandOutcome contents (Leak g) turns (p ∷ []) = After (GainIn contents p.target g) (ReportIn (run_scale turns p) (joint_of turns p))
+CommandOutcome contents (Attack g) turns (p ∷ []) =
+    After (GainIn contents p.target g) (AttackIn p.target (run_scale turns p) (joint_of turns p))
+CommandOutcome contents (Reach num den) turns (p ∷ []) = Gives (Ok (ReachOf num den (run_scale turns p) (joint_of turns p)))
 CommandOutcome contents (Refine json) turns (p ∷ q ∷ []) = RefineOutcome json turns p q
 CommandOutcome contents (Check name) turns (p ∷ q ∷ []) = CheckOutcome contents name turns p q
 CommandOutcome contents command turns ps = Gives (Err Usage)

@@ -47,6 +47,10 @@ refused (refusal.WideTableau pivots) = answer.WideTableau pivots
 refused refusal.ManyPivots = answer.ManyPivots
 refused (refusal.BadCert name error) = answer.BadCert name.now (cert_word error)
 refused refusal.WideCert = answer.WideCert
+refused refusal.OtherRows = answer.OtherRows
+refused refusal.NoFit = answer.NoFit
+refused (refusal.ManyChannelCells cells) = answer.ManyChannelCells cells
+refused refusal.WideChannel = answer.WideChannel
 
 -- the result is one that the step may have, or its cause isn't in the words and the files' bytes
 abbrev pub Answers : {A B : Type 0} → (A → B → Type 0) → Result A Stop → Step B → Type 0

@@ -4,16 +4,33 @@ use Rattle.std.specs.Prelude.{if◌then◌else◌, option_map, option_and_then, 
 use Rattle.std.specs.Str.{bytes_eq}
 use Rattle.kf_gain.specs.Gains.{GainOf, Table}
 use Rattle.kf_top.specs.GainWords.{gain_said}
-use Rattle.kf_top.specs.Numerals.{number_said}
+use Rattle.kf_top.specs.Numerals.{number_said, chance_said, wanted_said}
 use Rattle.kf_top.specs.Said.{Said, said_by}
+
+-- how two channels are put together
+pub data Composition : Type 0 where
+  -- the second behind the first
+  Cascade : Composition
+  -- side by side
+  Parallel : Composition
+  -- the first with probability num / den, else the second
+  Choice : ℕ → ℕ → Composition
 
 pub data Command : Type 0 where
   Hyper : Command
   Traces : Command
   Channel : Command
   Trail : Command
+  -- the Bayes capacity of a channel
+  Capacity : Command
+  -- those of two channels, and of what is put together of them
+  Compose : Composition → Command
   -- under a gain, whose table stands in the file of this name
   Leak : GainOf (List ℕ) → Command
+  -- what is best done under one
+  Attack : GainOf (List ℕ) → Command
+  -- with how many tries the posterior is at least num / den
+  Reach : ℕ → ℕ → Command
   -- the text of so many noisy observations
   Make : ℕ → Command
   -- whether the second program leaks no more than the first, maybe as a certificate
@@ -101,12 +118,47 @@ checking = record {
   task = λ names said. option_map (λ cert. on_files (Check cert) (others_of names)) (first_of names);
 }
 
+-- the last word, and all words but that
+abbrev pub last_of : List (List ℕ) → Option (List ℕ)
+last_of [] = None
+last_of (word ∷ []) = Some word
+last_of (word ∷ next ∷ words) = last_of (next ∷ words)
+
+abbrev pub but_last : List (List ℕ) → List (List ℕ)
+but_last [] = []
+but_last (word ∷ []) = []
+but_last (word ∷ next ∷ words) = word ∷ but_last (next ∷ words)
+
+-- the row of `choice`, whose last value is a probability between 0 and 1
+abbrev pub choosing : Row
+choosing = record {
+  values = 3;
+  needs_gain = false;
+  takes_json = false;
+  task = λ words said.
+      option_map (λ chance. on_files (Compose (Choice chance.0 chance.1)) (but_last words))
+      (option_and_then chance_said (last_of words));
+}
+
+-- the row of `reach`, whose last value is a probability above 0
+abbrev pub reaching : Row
+reaching = record {
+  values = 2;
+  needs_gain = false;
+  takes_json = false;
+  task = λ words said.
+      option_map (λ wanted. on_files (Reach wanted.0 wanted.1) (but_last words))
+      (option_and_then wanted_said (last_of words));
+}
+
 -- the table of commands, by their words
 abbrev pub commands : List (List ℕ × Row)
 commands =
     (codes "hyper", plain Hyper 1) ∷ (codes "traces", plain Traces 1) ∷ (codes "channel", plain Channel 1)
     ∷ (codes "leak", with_gain Leak 1) ∷ (codes "trail", plain Trail 1) ∷ (codes "make", making)
-    ∷ (codes "refine", refining) ∷ (codes "check", checking) ∷ []
+    ∷ (codes "refine", refining) ∷ (codes "check", checking) ∷ (codes "capacity", plain Capacity 1)
+    ∷ (codes "cascade", plain (Compose Cascade) 2) ∷ (codes "parallel", plain (Compose Parallel) 2) ∷ (codes "choice", choosing)
+    ∷ (codes "attack", with_gain Attack 1) ∷ (codes "reach", reaching) ∷ []
 
 -- the row of a command's word
 abbrev pub row_of : List ℕ → Option Row
@@ -148,6 +200,7 @@ task_of words = option_and_then task_said (said_by words)
 -- the files that a command reads beside its programs
 abbrev pub tables_of : Command → List (List ℕ)
 tables_of (Leak (Table name)) = name ∷ []
+tables_of (Attack (Table name)) = name ∷ []
 tables_of (Check name) = name ∷ []
 tables_of command = []
 

@@ -1,5 +1,5 @@
 -- For bodies: what the code's values show.
-use Rattle.std.specs.Prelude.{ℕ, List, [], ◌∷◌, ◌≤◌}
+use Rattle.std.specs.Prelude.{ℕ, List, [], ◌∷◌, ◌≤◌, ◌<◌}
 use Rattle.kf_core.specs.Views.{program_tree}
 use Rattle.kf_top.specs.Answer.{Shown, Statement, States}
 use Rattle.kf_gain.specs.Gains.{GainOf, Bayes, Tries, Guessing, Table}
@@ -28,8 +28,14 @@ task_of_job (job.Channel file turns) = task.on_file task.Channel file turns
 task_of_job (job.Trail file turns) = task.on_file task.Trail file turns
 task_of_job (job.Make count turns) = task.on_files (task.Make count) [] turns
 task_of_job (job.Leak file gain turns) = task.on_file (task.Leak (gain_of gain)) file turns
+task_of_job (job.Attack file gain turns) = task.on_file (task.Attack (gain_of gain)) file turns
+task_of_job (job.Reach file num den turns) = task.on_file (task.Reach num den) file turns
 task_of_job (job.Refine a b json turns) = task.on_files (task.Refine json) (a ∷ b ∷ []) turns
 task_of_job (job.Check cert a b turns) = task.on_files (task.Check cert) (a ∷ b ∷ []) turns
+task_of_job (job.Capacity file turns) = task.on_file task.Capacity file turns
+task_of_job (job.Cascade a b turns) = task.on_files (task.Compose task.Cascade) (a ∷ b ∷ []) turns
+task_of_job (job.Parallel a b turns) = task.on_files (task.Compose task.Parallel) (a ∷ b ∷ []) turns
+task_of_job (job.Choice a b num den turns) = task.on_files (task.Compose (task.Choice num den)) (a ∷ b ∷ []) turns
 
 -- a file's text, by its name
 abbrev pub text_of : List ℕ → Text → outcome.Text
@@ -39,9 +45,11 @@ text_of name t = record { name = name; bytes = t.bytes.items; program = program_
 abbrev pub HasTurns : task.Task → Type 0
 HasTurns t = (1 ≤ t.turns) × (t.turns ≤ 65535)
 
--- no more observations than the scale of a made text can bear
+-- no more observations than the scale of a made text can bear, a choice that leaves both, and a probability above 0
 abbrev pub IsFew : task.Command → Type 0
 IsFew (task.Make count) = count ≤ 60
+IsFew (task.Compose (task.Choice num den)) = (1 ≤ num) × (num < den)
+IsFew (task.Reach num den) = (1 ≤ num) × (num ≤ den)
 IsFew command = Unit {0}
 
 abbrev pub ShowsStatement : Done → Statement → Type 0

@@ -1,6 +1,7 @@
 -- For bodies: what the code's values show of the words.
 use Rattle.std.specs.Prelude.{ℕ, List, [], map, Option, Some, option_map, option_and_then}
 use Rattle.kf_top.specs.GainWords.{gain_said}
+use Rattle.kf_top.specs.Numerals.{chance_said, wanted_said}
 use Rattle.kf_top.specs.Said as spec
 use Rattle.kf_top.specs.Task as task
 use Rattle.kf_top.specs.declared.commands.Kind.{Kind}
@@ -20,6 +21,10 @@ said_shown s = record {
 abbrev pub values_of : Kind → ℕ
 values_of kind.Refine = 2
 values_of kind.Check = 3
+values_of kind.Cascade = 2
+values_of kind.Parallel = 2
+values_of kind.Choice = 3
+values_of kind.Reach = 2
 values_of command = 1
 
 -- which task a kind is, by the values behind its word and what else was read
@@ -32,7 +37,16 @@ task_shown kind.Leak names said = option_map (λ g. task.on_files (task.Leak g) 
 task_shown kind.Make words said =
     option_map (λ n. task.on_files (task.Make n) []) (option_and_then task.observations_said (task.first_of words))
 task_shown kind.Refine names said = Some (task.on_files (task.Refine said.json) names)
+task_shown kind.Attack names said = option_map (λ g. task.on_files (task.Attack g) names) (option_and_then gain_said said.gain)
+task_shown kind.Reach words said =
+    option_map (λ wanted. task.on_files (task.Reach wanted.0 wanted.1) (task.but_last words)) (option_and_then wanted_said (task.last_of words))
 task_shown kind.Check names said = option_map (λ cert. task.on_files (task.Check cert) (task.others_of names)) (task.first_of names)
+task_shown kind.Capacity names said = Some (task.on_files task.Capacity names)
+task_shown kind.Cascade names said = Some (task.on_files (task.Compose task.Cascade) names)
+task_shown kind.Parallel names said = Some (task.on_files (task.Compose task.Parallel) names)
+task_shown kind.Choice words said =
+    option_map (λ chance. task.on_files (task.Compose (task.Choice chance.0 chance.1)) (task.but_last words))
+    (option_and_then chance_said (task.last_of words))
 
 abbrev pub row_shown : Row → task.Row
 row_shown row = record {

@@ -15,13 +15,19 @@ pub(crate) enum Kind {
     Make,
     Refine,
     Check,
+    Capacity,
+    Cascade,
+    Parallel,
+    Choice,
+    Attack,
+    Reach,
 }
 
 /// What stands behind a command's word.
 #[derive(Clone, Copy)]
 pub(crate) struct Row {
     pub(crate) command: Kind,
-    /// How many values stand behind the word: files, or one number.
+    /// How many values stand behind the word: files, and maybe a number or a probability.
     pub(crate) values: usize,
     /// Whether `--gain` must stand; elsewhere it may not.
     pub(crate) needs_gain: bool,
@@ -61,6 +67,15 @@ pub(crate) fn row_of(word: &str) -> Option<Row>
             ..plain(Kind::Refine, 2)
         }),
         "check" => Some(plain(Kind::Check, 3)),
+        "capacity" => Some(plain(Kind::Capacity, 1)),
+        "cascade" => Some(plain(Kind::Cascade, 2)),
+        "parallel" => Some(plain(Kind::Parallel, 2)),
+        "choice" => Some(plain(Kind::Choice, 3)),
+        "attack" => Some(Row {
+            needs_gain: true,
+            ..plain(Kind::Attack, 1)
+        }),
+        "reach" => Some(plain(Kind::Reach, 2)),
         _ => None,
     }
 }

@@ -1,5 +1,6 @@
 ghost use Rattle.kf_top.specs.Laws.{CertificatesAccepted, ExactlyOneAnswer};
 
+use kf_attack::{attack_laws, reach_laws};
 use kf_cert::{cert_laws, mark_laws};
 use kf_channel::some_secrets;
 use kf_check::type_laws;
@@ -26,6 +27,8 @@ pub fn exactly_one_answer()
     gain_laws();
     table_laws();
     trail_laws();
+    attack_laws();
+    reach_laws();
     one_verdict();
     verdict_laws();
     cert_laws();

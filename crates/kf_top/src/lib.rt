@@ -1,9 +1,12 @@
 //! The top call: from words and files to bytes and a status.
 #![tactic(auto)]
 
+mod attacking;
+mod capacities;
 mod clearing;
 mod commands;
 mod gain_words;
+mod gains;
 mod law;
 mod leaking;
 mod places;

@@ -23,10 +23,10 @@ use crate::stops::{Done, Refusal, Stop};
 use kf_cert::{Cert, CertError, CheckError, Mark, check_cert, read_cert, write_cert};
 use kf_hyper::Hyper;
 use kf_io::Files;
-use kf_refine::{RefineError, Verdict, same_target};
+use kf_refine::{RefineError, Verdict};
 use kf_run::hyper_of;
 use kf_text::{mark_text, verdict_text};
-use kf_value::{Mem, Target};
+use kf_value::{Mem, Target, same_target};
 use std::alloc::Global;
 
 /// How many pivots a run may have.

@@ -32,6 +32,14 @@ pub enum Refusal<'a> {
     BadCert(&'a str, CertError),
     /// A scale times the certificate's denominator, or its width, passes 2^127 - 1.
     WideCert,
+    /// Two channels have different secrets.
+    OtherRows,
+    /// What one channel shows is no secret of the next.
+    NoFit,
+    /// Two channels side by side have so many cells, or as many as 2^127 - 1 or more.
+    ManyChannelCells(u128),
+    /// The denominator of a channel, or its capacity over that, passes 2^127 - 1.
+    WideChannel,
 }
 
 /// Why there is no answer.

@@ -4,7 +4,7 @@ ghost use Rattle.std.specs.Prelude.{◌≡◌};
 ghost use Rattle.std.specs.List.{flat_map};
 ghost use Rattle.kf_gain.specs.declared.error.TableError.TheVariants as table;
 ghost use Rattle.kf_cert.specs.declared.cert.CertError.TheVariants as cert;
-ghost use Rattle.kf_top.specs.Answer.{placed, said, line_of, status_of, BadTable, BadCert, ManyCells, WideTableau};
+ghost use Rattle.kf_top.specs.Answer.{placed, said, line_of, status_of, BadTable, BadCert, ManyCells, ManyChannelCells, WideTableau};
 ghost use Rattle.kf_top.specs.Outcome.{table_word, cert_word};
 ghost use Rattle.kf_top.specs.Stops.{refused};
 ghost use Rattle.kf_top.specs.Ends.{sunk, TookLine};
@@ -88,6 +88,15 @@ fn tell_cells<E: Sink>(err: &mut E, cells: u128)
     tell_pieces(err, &["kuifje: tableau has ", cells, " cells\n"]);
 }
 
+// Tells how many cells two channels have side by side.
+fn tell_channel_cells<E: Sink>(err: &mut E, cells: u128)
+    ensures { TookLine (sunk E.taken E.faults E.room err.old err.new) (line_of (ManyChannelCells cells)) }
+{
+    let mut digits = Buffer::new();
+    let cells = digits.format(cells);
+    tell_pieces(err, &["kuifje: channel has ", cells, " cells\n"]);
+}
+
 // Tells after how many pivots a tableau's numbers are too wide.
 fn tell_pivots<E: Sink>(err: &mut E, pivots: u32)
     ensures { TookLine (sunk E.taken E.faults E.room err.old err.new) (line_of (WideTableau pivots)) }
@@ -156,6 +165,22 @@ pub fn refuse<E: Sink>(err: &mut E, refusal: &Refusal<'_>) -> u8
         }
         Refusal::WideCert => {
             tell(err, "", "certificate passes 2^127 - 1");
+            7
+        }
+        Refusal::OtherRows => {
+            tell(err, "", "rows differ");
+            10
+        }
+        Refusal::NoFit => {
+            tell(err, "", "channels do not fit");
+            10
+        }
+        Refusal::ManyChannelCells(cells) => {
+            tell_channel_cells(err, *cells);
+            8
+        }
+        Refusal::WideChannel => {
+            tell(err, "", "channel passes 2^127 - 1");
             7
         }
     }

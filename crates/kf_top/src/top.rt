@@ -1,12 +1,49 @@
-ghost use Rattle.std.specs.Prelude.{map, string_bytes};
+ghost use Rattle.std.specs.Prelude.{◌≡◌, ℕ, List, Some, map, string_bytes};
 ghost use Rattle.kf_top.specs.Ends.{sunk, Completes, HasCauses, IsQuiet};
+ghost use Rattle.kf_top.specs.Task.{task_of};
+ghost use Rattle.kf_top.specs.Views.{task_of_job, HasTurns, IsFew};
 
 use crate::stops::Stop;
 use crate::telling::{refuse, tell};
-use crate::words::{WordsError, read_words};
+use crate::words::{Job, WordsError, read_words};
 use crate::work::work;
 use kf_io::{Failed, Files, Sink, write_all};
 use std::alloc::Global;
+
+// Does the job, and writes its answer or tells why there is none.
+fn carry_out<F: Files, O: Sink, E: Sink>(
+    alloc: Global,
+    files: &mut F,
+    job: &Job,
+    out: &mut O,
+    err: &mut E,
+) -> u8
+    requires turns { HasTurns (task_of_job job.now) }
+    requires few { IsFew (task_of_job job.now).command }
+    ensures causes { (words : List (List ℕ)) → task_of words ≡ Some (task_of_job job.now)
+        → HasCauses words (F.contents files.old) (F.faults files.old) (F.faults files.new)
+        (sunk O.taken O.faults O.room out.old out.new) (sunk E.taken E.faults E.room err.old err.new) result }
+    ensures quiet { IsQuiet (sunk O.taken O.faults O.room out.old out.new) (sunk E.taken E.faults E.room err.old err.new) result }
+{
+    match work(alloc, files, job) {
+        Ok(done) => match write_all(out, &done.bytes) {
+            Ok(()) => { if done.yes { 0 } else { 1 } }
+            Err(Failed) => {
+                tell(err, "", "write failed");
+                4
+            }
+        },
+        Err(Stop::Refused(refusal)) => refuse(err, &refusal),
+        Err(Stop::ReadFailed(name)) => {
+            tell(err, name, ": read failed");
+            3
+        }
+        Err(Stop::Mem) => {
+            tell(err, "", "want of memory");
+            12
+        }
+    }
+}
 
 /// Does what the words ask for: reads their files, writes the answer to `out`, and gives the status.
 ///
@@ -40,22 +77,5 @@ pub fn run<F: Files, O: Sink, E: Sink>(
             return 12;
         }
     };
-    match work(alloc, files, &job) {
-        Ok(done) => match write_all(out, &done.bytes) {
-            Ok(()) => { if done.yes { 0 } else { 1 } }
-            Err(Failed) => {
-                tell(err, "", "write failed");
-                4
-            }
-        },
-        Err(Stop::Refused(refusal)) => refuse(err, &refusal),
-        Err(Stop::ReadFailed(name)) => {
-            tell(err, name, ": read failed");
-            3
-        }
-        Err(Stop::Mem) => {
-            tell(err, "", "want of memory");
-            12
-        }
-    }
+    carry_out(alloc, files, &job, out, err)
 }

@@ -1,8 +1,8 @@
-ghost use Rattle.std.specs.Prelude.{◌≡◌, ◌≤◌, IfOk, IfSome, IsErrOf, None, Some, length, map, option_map, option_and_then, string_bytes};
+ghost use Rattle.std.specs.Prelude.{◌≡◌, ◌≤◌, ◌<◌, IfOk, IfSome, IsErrOf, None, Some, length, map, option_map, option_and_then, string_bytes};
 ghost use Rattle.std.specs.Char.{is_ascii_digit};
 ghost use Rattle.std.specs.List.{list_all};
 ghost use Rattle.kf_top.specs.GainWords.{gain_said as gain_in_word};
-ghost use Rattle.kf_top.specs.Numerals.{is_numeral as is_numeral_word, number_said as number_in};
+ghost use Rattle.kf_top.specs.Numerals.{is_numeral as is_numeral_word, number_said as number_in, long_number_said as long_number_in, ratio_said as ratio_in, chance_said as chance_in, wanted_said as wanted_in};
 ghost use Rattle.kf_top.specs.Task.{observations_said as observations_in, task_of, task_said, turns_of};
 ghost use Rattle.kf_top.specs.WordViews.{said_shown, task_shown, values_of};
 ghost use Rattle.kf_top.specs.Views.{gain_of, task_of_job, HasTurns, IsFew};
@@ -61,6 +61,44 @@ pub enum Job {
         b: Name,
         turns: u32,
     },
+    /// The Bayes capacity of the channel of the program in `file`.
+    Capacity {
+        file: Name,
+        turns: u32,
+    },
+    /// The capacities of the channels of two programs, and of the second one behind the first.
+    Cascade {
+        a: Name,
+        b: Name,
+        turns: u32,
+    },
+    /// The same of both side by side.
+    Parallel {
+        a: Name,
+        b: Name,
+        turns: u32,
+    },
+    /// The same of the first with probability `num / den`, which is between 0 and 1, else the second.
+    Choice {
+        a: Name,
+        b: Name,
+        num: u32,
+        den: u32,
+        turns: u32,
+    },
+    /// What is best done at each inner under a gain.
+    Attack {
+        file: Name,
+        gain: GainWord,
+        turns: u32,
+    },
+    /// With how many tries the posterior is at least `num / den`, which is above 0 and at most 1.
+    Reach {
+        file: Name,
+        num: u32,
+        den: u32,
+        turns: u32,
+    },
 }
 
 /// Why the words have no job.
@@ -109,11 +147,11 @@ fn are_digits(word: &[u8]) -> bool
     true
 }
 
-// Whether a word is one to five decimal digits.
-fn is_numeral(word: &str) -> bool
-    ensures { result ≡ is_numeral_word word.now }
+// Whether a word is one to so many decimal digits.
+fn is_numeral(most: usize, word: &str) -> bool
+    ensures { result ≡ is_numeral_word most word.now }
 {
-    1 <= word.len() && word.len() <= 5 && are_digits(word.as_bytes())
+    1 <= word.len() && word.len() <= most && are_digits(word.as_bytes())
 }
 
 /// The number from 1 to 65,535 that the word says.
@@ -121,7 +159,7 @@ pub(crate) fn number_said(word: &str) -> Option<u32>
     ensures said { result ≡ number_in word.now }
     ensures few { IfSome result (λ number. (1 ≤ number) × (number ≤ 65535)) }
 {
-    if !is_numeral(word) {
+    if !is_numeral(5, word) {
         return None;
     }
     match word.parse::<u16>() {
@@ -175,6 +213,52 @@ fn observations_said(word: &str) -> Option<u32>
     }
 }
 
+// The number of one to nine digits that the word says.
+fn long_number_said(word: &str) -> Option<u32>
+    ensures { result ≡ long_number_in word.now }
+{
+    if !is_numeral(9, word) {
+        return None;
+    }
+    word.parse::<u32>().ok()
+}
+
+// The two numbers around a slash that the word says.
+fn ratio_said(word: &str) -> Option<(u32, u32)>
+    ensures { result ≡ ratio_in word.now }
+{
+    let (num, den) = word.split_once('/')?;
+    let num = long_number_said(num)?;
+    let den = long_number_said(den)?;
+    Some((num, den))
+}
+
+// The probability between 0 and 1 that the word says, as its two numbers.
+fn chance_said(word: &str) -> Option<(u32, u32)>
+    ensures said { result ≡ chance_in word.now }
+    ensures between { IfSome result (λ chance. (1 ≤ chance.0) × (chance.0 < chance.1)) }
+{
+    let (num, den) = ratio_said(word)?;
+    if 1 <= num && num < den {
+        Some((num, den))
+    } else {
+        None
+    }
+}
+
+// The probability above 0 that the word says, as its two numbers.
+fn wanted_said(word: &str) -> Option<(u32, u32)>
+    ensures said { result ≡ wanted_in word.now }
+    ensures some { IfSome result (λ wanted. (1 ≤ wanted.0) × (wanted.0 ≤ wanted.1)) }
+{
+    let (num, den) = ratio_said(word)?;
+    if 1 <= num && num <= den {
+        Some((num, den))
+    } else {
+        None
+    }
+}
+
 // The name of a file.
 fn name_of(alloc: Global, word: &str) -> Result<Name, Mem>
     ensures { IfOk result (λ name. name ≡ word.now) }
@@ -215,18 +299,22 @@ fn on_values(
             file: name_of(alloc, values[0])?,
             turns,
         }),
-        Kind::Leak => match gain_of_option(alloc, said.gain)? {
-            Some(gain) => Some(Job::Leak {
+        Kind::Leak => {
+            let Some(gain) = gain_of_option(alloc, said.gain)? else {
+                return Ok(None);
+            };
+            Some(Job::Leak {
                 file: name_of(alloc, values[0])?,
                 gain,
                 turns,
-            }),
-            None => None,
-        },
-        Kind::Make => match observations_said(values[0]) {
-            Some(count) => Some(Job::Make { count, turns }),
-            None => None,
-        },
+            })
+        }
+        Kind::Make => {
+            let Some(count) = observations_said(values[0]) else {
+                return Ok(None);
+            };
+            Some(Job::Make { count, turns })
+        }
         Kind::Refine => Some(Job::Refine {
             a: name_of(alloc, values[0])?,
             b: name_of(alloc, values[1])?,
@@ -239,6 +327,53 @@ fn on_values(
             b: name_of(alloc, values[2])?,
             turns,
         }),
+        Kind::Capacity => Some(Job::Capacity {
+            file: name_of(alloc, values[0])?,
+            turns,
+        }),
+        Kind::Cascade => Some(Job::Cascade {
+            a: name_of(alloc, values[0])?,
+            b: name_of(alloc, values[1])?,
+            turns,
+        }),
+        Kind::Parallel => Some(Job::Parallel {
+            a: name_of(alloc, values[0])?,
+            b: name_of(alloc, values[1])?,
+            turns,
+        }),
+        Kind::Choice => {
+            let Some((num, den)) = chance_said(values[2]) else {
+                return Ok(None);
+            };
+            Some(Job::Choice {
+                a: name_of(alloc, values[0])?,
+                b: name_of(alloc, values[1])?,
+                num,
+                den,
+                turns,
+            })
+        }
+        Kind::Attack => {
+            let Some(gain) = gain_of_option(alloc, said.gain)? else {
+                return Ok(None);
+            };
+            Some(Job::Attack {
+                file: name_of(alloc, values[0])?,
+                gain,
+                turns,
+            })
+        }
+        Kind::Reach => {
+            let Some((num, den)) = wanted_said(values[1]) else {
+                return Ok(None);
+            };
+            Some(Job::Reach {
+                file: name_of(alloc, values[0])?,
+                num,
+                den,
+                turns,
+            })
+        }
     })
 }
 

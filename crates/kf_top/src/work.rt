@@ -3,10 +3,13 @@ ghost use Rattle.std.specs.Option.{ForSome};
 ghost use Rattle.kf_core.specs.Views.{program_tree};
 ghost use Rattle.kf_support.specs.Cleared.{program_of, turns_of};
 ghost use Rattle.kf_top.specs.Outcome.{CommandOutcome, MadeOutcome, TaskOutcome};
-ghost use Rattle.kf_top.specs.Task.{Check, Hyper, Leak, Refine, Traces, Channel, Trail, Task, on_file, on_files};
+ghost use Rattle.kf_top.specs.Task.{Attack, Capacity, Check, Compose, Hyper, Leak, Reach, Refine, Traces, Channel, Trail, Task, on_file, on_files};
 ghost use Rattle.kf_top.specs.Stops.{Answers, Causes};
 ghost use Rattle.kf_top.specs.Views.{gain_of, task_of_job, HasTurns, IsFew, ShowsStatement};
+ghost use Rattle.kf_top.specs.CapacityViews.{way_of};
 
+use crate::attacking::{attack_said, reach_said};
+use crate::capacities::{Composition, capacity_said, composition_said};
 use crate::clearing::{file, two_files};
 use crate::gain_words::GainWord;
 use crate::leaking::leak_said;
@@ -164,6 +167,43 @@ fn leak<'a, F: Files>(
     leak_said(alloc, files, &program, gain)
 }
 
+// The command `attack`.
+fn attack<'a, F: Files>(
+    alloc: Global,
+    files: &mut F,
+    name: &'a Name,
+    gain: &'a GainWord,
+    turns: u32,
+) -> Result<Done, Stop<'a>>
+    requires some_turns { 1 ≤ turns }
+    requires few_turns { turns ≤ 65535 }
+    ensures answer { ForSome (F.contents files.old) (λ c. Answers ShowsStatement result (TaskOutcome c (on_file (Attack (gain_of gain.now)) name.now turns))) }
+    ensures causes { Causes (on_file (Attack (gain_of gain.now)) name.now turns) (F.faults files.old) (F.faults files.new) result }
+{
+    let program = file(alloc, files, name.as_str(), turns)?;
+    attack_said(alloc, files, &program, gain)
+}
+
+// The command `reach`.
+fn reach<'a, F: Files>(
+    alloc: Global,
+    files: &mut F,
+    name: &'a Name,
+    num: u32,
+    den: u32,
+    turns: u32,
+) -> Result<Done, Stop<'a>>
+    requires some { 1 ≤ num }
+    requires part { num ≤ den }
+    requires some_turns { 1 ≤ turns }
+    requires few_turns { turns ≤ 65535 }
+    ensures answer { ForSome (F.contents files.old) (λ c. Answers ShowsStatement result (TaskOutcome c (on_file (Reach num den) name.now turns))) }
+    ensures causes { Causes (on_file (Reach num den) name.now turns) (F.faults files.old) (F.faults files.new) result }
+{
+    let cleared = file(alloc, files, name.as_str(), turns)?;
+    reach_said(alloc, &cleared, num, den)
+}
+
 // The command `refine`.
 fn refine<'a, F: Files>(
     alloc: Global,
@@ -200,6 +240,41 @@ fn check<'a, F: Files>(
     check_said(alloc, files, &pair, cert.as_str())
 }
 
+// The command `capacity`.
+fn capacity<'a, F: Files>(
+    alloc: Global,
+    files: &mut F,
+    name: &'a Name,
+    turns: u32,
+) -> Result<Done, Stop<'a>>
+    requires some_turns { 1 ≤ turns }
+    requires few_turns { turns ≤ 65535 }
+    ensures answer { ForSome (F.contents files.old) (λ c. Answers ShowsStatement result (TaskOutcome c (on_file Capacity name.now turns))) }
+    ensures causes { Causes (on_file Capacity name.now turns) (F.faults files.old) (F.faults files.new) result }
+{
+    let cleared = file(alloc, files, name.as_str(), turns)?;
+    capacity_said(alloc, &cleared)
+}
+
+// The commands `cascade`, `parallel` and `choice`.
+fn compose<'a, F: Files>(
+    alloc: Global,
+    files: &mut F,
+    a: &'a Name,
+    b: &'a Name,
+    way: Composition,
+    turns: u32,
+) -> Result<Done, Stop<'a>>
+    requires proper { IsFew (Compose (way_of way)) }
+    requires some_turns { 1 ≤ turns }
+    requires few_turns { turns ≤ 65535 }
+    ensures answer { ForSome (F.contents files.old) (λ c. Answers ShowsStatement result (TaskOutcome c (on_files (Compose (way_of way)) (a.now ∷ b.now ∷ []) turns))) }
+    ensures causes { Causes (on_files (Compose (way_of way)) (a.now ∷ b.now ∷ []) turns) (F.faults files.old) (F.faults files.new) result }
+{
+    let pair = two_files(alloc, files, a.as_str(), b.as_str(), turns)?;
+    composition_said(alloc, &pair, way)
+}
+
 /// Does the job: what is to be written, or why there is no answer.
 pub fn work<'a, F: Files>(alloc: Global, files: &mut F, job: &'a Job) -> Result<Done, Stop<'a>>
     requires turns { HasTurns (task_of_job job.now) }
@@ -214,7 +289,34 @@ pub fn work<'a, F: Files>(alloc: Global, files: &mut F, job: &'a Job) -> Result<
         Job::Trail { file, turns } => trail(alloc, files, file, *turns),
         Job::Make { count, turns } => make(alloc, *count, *turns),
         Job::Leak { file, gain, turns } => leak(alloc, files, file, gain, *turns),
+        Job::Attack { file, gain, turns } => attack(alloc, files, file, gain, *turns),
+        Job::Reach {
+            file,
+            num,
+            den,
+            turns,
+        } => reach(alloc, files, file, *num, *den, *turns),
         Job::Refine { a, b, json, turns } => refine(alloc, files, a, b, *json, *turns),
         Job::Check { cert, a, b, turns } => check(alloc, files, cert, a, b, *turns),
+        Job::Capacity { file, turns } => capacity(alloc, files, file, *turns),
+        Job::Cascade { a, b, turns } => compose(alloc, files, a, b, Composition::Cascade, *turns),
+        Job::Parallel { a, b, turns } => compose(alloc, files, a, b, Composition::Parallel, *turns),
+        Job::Choice {
+            a,
+            b,
+            num,
+            den,
+            turns,
+        } => compose(
+            alloc,
+            files,
+            a,
+            b,
+            Composition::Choice {
+                num: *num,
+                den: *den,
+            },
+            *turns,
+        ),
     }
 }

@@ -22,6 +22,33 @@ fn made_of(count: u32) -> &'static str {
     }
 }
 
+// The command `attack` with its gain.
+fn attack_by(gain: &GainWord) -> &'static str {
+    match gain {
+        GainWord::Bayes => "attack bayes",
+        GainWord::Table(_) => "attack table",
+        _ => "attack",
+    }
+}
+
+// The command `reach` with its probability.
+fn reached(num: u32, den: u32) -> &'static str {
+    match (num, den) {
+        (1, 1) => "reach 1/1",
+        (999_999_999, 999_999_999) => "reach 1",
+        _ => "reach",
+    }
+}
+
+// The command `choice` with its probability.
+fn chosen_by(num: u32, den: u32) -> &'static str {
+    match (num, den) {
+        (1, 2) => "choice 1/2",
+        (999_999_998, 999_999_999) => "choice nearly 1",
+        _ => "choice",
+    }
+}
+
 // A job's command, file and turns.
 fn parts(job: &Job) -> (&'static str, &str, u32) {
     match job {
@@ -33,6 +60,23 @@ fn parts(job: &Job) -> (&'static str, &str, u32) {
         Job::Leak { file, gain, turns } => (leak_by(gain), file.as_str(), *turns),
         Job::Refine { a, turns, .. } => ("refine", a.as_str(), *turns),
         Job::Check { a, turns, .. } => ("check", a.as_str(), *turns),
+        Job::Attack { file, gain, turns } => (attack_by(gain), file.as_str(), *turns),
+        Job::Reach {
+            file,
+            num,
+            den,
+            turns,
+        } => (reached(*num, *den), file.as_str(), *turns),
+        Job::Capacity { file, turns } => ("capacity", file.as_str(), *turns),
+        Job::Cascade { a, turns, .. } => ("cascade", a.as_str(), *turns),
+        Job::Parallel { a, turns, .. } => ("parallel", a.as_str(), *turns),
+        Job::Choice {
+            a,
+            num,
+            den,
+            turns,
+            ..
+        } => (chosen_by(*num, *den), a.as_str(), *turns),
     }
 }
 
@@ -44,6 +88,11 @@ fn files_of(job: &Job) -> (&'static str, &str, &str, &str) {
             (command, "", a.as_str(), b.as_str())
         }
         Job::Check { cert, a, b, .. } => ("check", cert.as_str(), a.as_str(), b.as_str()),
+        Job::Cascade { a, b, .. } => ("cascade", "", a.as_str(), b.as_str()),
+        Job::Parallel { a, b, .. } => ("parallel", "", a.as_str(), b.as_str()),
+        Job::Choice { a, b, num, den, .. } => {
+            (chosen_by(*num, *den), "", a.as_str(), b.as_str())
+        }
         _ => ("", "", "", ""),
     }
 }
@@ -104,6 +153,20 @@ fn words_that_are_taken(rt: HostRuntime) -> Result<(), Fail> {
         ("kuifje traces p.kf", ("traces", "p.kf", 1024)),
         ("kuifje channel p.kf", ("channel", "p.kf", 1024)),
         ("kuifje trail p.kf --turns 9", ("trail", "p.kf", 9)),
+        ("kuifje capacity p.kf --turns 9", ("capacity", "p.kf", 9)),
+        (
+            "kuifje attack p.kf --gain bayes",
+            ("attack bayes", "p.kf", 1024),
+        ),
+        (
+            "kuifje --gain table:g.json attack p.kf",
+            ("attack table", "p.kf", 1024),
+        ),
+        ("kuifje reach p.kf 01/001", ("reach 1/1", "p.kf", 1024)),
+        (
+            "kuifje reach --turns 2 p.kf 999999999/999999999",
+            ("reach 1", "p.kf", 2),
+        ),
         ("kuifje make 00001 --turns 9", ("make 1", "", 9)),
         ("kuifje make 60", ("make 60", "", 1024)),
         ("--help hyper p.kf", ("hyper", "p.kf", 1024)),
@@ -156,6 +219,19 @@ fn words_of_two_programs(rt: HostRuntime) -> Result<(), Fail> {
             "kuifje check c.json p.kf q.kf",
             ("check", "c.json", "p.kf", "q.kf"),
         ),
+        ("kuifje cascade p.kf q.kf", ("cascade", "", "p.kf", "q.kf")),
+        (
+            "kuifje --turns 3 parallel q.kf p.kf",
+            ("parallel", "", "q.kf", "p.kf"),
+        ),
+        (
+            "kuifje choice p.kf --turns 3 q.kf 000000001/2",
+            ("choice 1/2", "", "p.kf", "q.kf"),
+        ),
+        (
+            "kuifje choice p.kf 1/2 999999998/999999999",
+            ("choice nearly 1", "", "p.kf", "1/2"),
+        ),
     ] {
         asks_of_two(&rt, line, want)?;
     }
@@ -193,6 +269,17 @@ fn words_that_are_refused(rt: HostRuntime) -> Result<(), Fail> {
         "kuifje refine p.kf",
         "kuifje refine p.kf q.kf r.kf",
         "kuifje refine p.kf q.kf --gain bayes",
+        "kuifje attack p.kf",
+        "kuifje attack p.kf --gain bayes --json",
+        "kuifje reach p.kf",
+        "kuifje reach p.kf 3/2",
+        "kuifje reach p.kf 1/2 --gain bayes",
+        "kuifje capacity p.kf --json",
+        "kuifje cascade p.kf q.kf --json",
+        "kuifje parallel p.kf",
+        "kuifje choice p.kf 1/2",
+        "kuifje choice p.kf q.kf 0000000001/2",
+        "kuifje choice p.kf q.kf 2/1",
         "kuifje check p.kf q.kf",
         "kuifje check c.json p.kf q.kf --json",
         "kuifje hyperr p.kf",

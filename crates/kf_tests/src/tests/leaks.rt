@@ -5,7 +5,8 @@ use crate::tests::*;
 /// The words of a run with a gain table.
 pub(super) const TABLE: &str = "kuifje leak p.kf --gain table:g.json";
 
-const TWO_LINES: &str = "var x : 0..1 := uniform 0..1;\nobserve choose { x : 3, 1 - x : 1 };\n";
+pub(super) const TWO_LINES: &str =
+    "var x : 0..1 := uniform 0..1;\nobserve choose { x : 3, 1 - x : 1 };\n";
 
 // A PIN of three digits, compared until the first difference.
 pub(super) const THREE_DIGITS: &str = "var a : 0..9 := uniform 0..9;
@@ -20,7 +21,7 @@ if a = 4 {
 ";
 
 // Its scale is the square of 10^18 + 1: times 1,000 it passes 2^127 - 1.
-const WIDE: &str = "var x : 0..1 := 0;
+pub(super) const WIDE: &str = "var x : 0..1 := 0;
 observe choose { 0 : 1000000000 * 1000000000, 1 : 1 };
 observe choose { 0 : 1000000000 * 1000000000, 1 : 1 };
 ";
@@ -28,10 +29,10 @@ observe choose { 0 : 1000000000 * 1000000000, 1 : 1 };
 pub(super) const LOW_OR_HIGH: &str =
     "{\"actions\":[{\"gains\":[[\"0\",1],[\"1\",1]],\"name\":\"low\"},{\"gains\":[[\"2\",1],[\"3\",1]],\"name\":\"high\"}],\"format\":\"kuifje-gain-1\",\"over\":1,\"rest\":0}";
 
-const LOSE: &str =
+pub(super) const LOSE: &str =
     "{\"actions\":[{\"gains\":[],\"name\":\"lose\"}],\"format\":\"kuifje-gain-1\",\"over\":1,\"rest\":-1}";
 
-const THOUSANDTHS: &str =
+pub(super) const THOUSANDTHS: &str =
     "{\"actions\":[{\"gains\":[[\"0\",1]],\"name\":\"a\"}],\"format\":\"kuifje-gain-1\",\"over\":1000,\"rest\":0}";
 
 // The report of a table that gains nothing by what is shown.

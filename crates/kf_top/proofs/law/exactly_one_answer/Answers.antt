@@ -1,7 +1,7 @@
 use Rattle.kf_top.proofs.ClearedPrograms.{AreClear, are_clear}
 use Rattle.kf_top.proofs.OneAnswer.{one_answer}
 use Rattle.kf_top.proofs.ProperHypers.{AreProper, are_proper}
-use Rattle.kf_top.proofs.SomeAnswer.{some_answer}
+use Rattle.kf_top.proofs.SomeAnswer.{some_answer, stated_text}
 use Rattle.kf_top.proofs.law.exactly_one_answer.Goals as goal
 
 pub returns : goal.returns
@@ -18,9 +18,12 @@ returns c words contents =
     let trail = c.trail_laws.ensures in
     let verdict = c.one_verdict.ensures in
     let mark = c.mark_laws.ensures in
+    let attack = c.attack_laws.ensures in
+    let reach = c.reach_laws.ensures in
     let clear : AreClear = are_clear program.built typed.checked typed.sizes in
     let proper : AreProper = are_proper joint.whole run.positive run.least in
-    let one = one_answer read program.one refused.both refused.refusal typed.one typed.typed table.one joint.one_rows joint.one_hyper average.one verdict.one mark.one clear proper gain.one trail.only words contents in
-    let some = some_answer read.read refused.either program.built typed.either typed.told table.some joint.hyper average.some verdict.some c.cert_laws.ensures.read_sound mark.some clear proper
-    table.actions c.verdict_laws.ensures.prove joint.rows c.some_secrets.ensures gain.some trail.some words contents in
+    let one = one_answer read program.one refused.both refused.refusal typed.one typed.typed table.one joint.one_rows joint.one_hyper average.one verdict.one mark.one clear proper
+    gain.one trail.only attack.one reach.one words contents (stated_text table.actions c.verdict_laws.ensures.prove proper contents clear words) in
+    let some = some_answer read.read refused.either program.built typed.either typed.told table.some joint.rows c.some_secrets.ensures joint.hyper average.some verdict.some c.cert_laws.ensures.read_sound mark.some clear proper
+    table.actions c.verdict_laws.ensures.prove gain.some trail.some attack.some reach.some words contents in
     (some.0, some.1, λ other is. one other some.0 is some.1)

@@ -52,3 +52,39 @@ pub returns-in-Make-clause-causes : goal.returns-in-Make-clause-causes
 returns-in-Make-clause-causes g c =
     let task : Task = on_files (Make c.in-Make.count) [] c.in-Make.turns in
     rw c.in-Make.is (c.make.ensures.causes task (g.F.Files.faults c.args.files.now))
+
+pub returns-in-Capacity-clause-answer : goal.returns-in-Capacity-clause-answer
+returns-in-Capacity-clause-answer g c x e = rw c.in-Capacity.is (c.capacity.ensures.answer x e)
+
+pub returns-in-Capacity-clause-causes : goal.returns-in-Capacity-clause-causes
+returns-in-Capacity-clause-causes g c = rw c.in-Capacity.is c.capacity.ensures.causes
+
+pub returns-in-Cascade-clause-answer : goal.returns-in-Cascade-clause-answer
+returns-in-Cascade-clause-answer g c x e = rw c.in-Cascade.is (c.compose.ensures.answer x e)
+
+pub returns-in-Cascade-clause-causes : goal.returns-in-Cascade-clause-causes
+returns-in-Cascade-clause-causes g c = rw c.in-Cascade.is c.compose.ensures.causes
+
+pub returns-in-Parallel-clause-answer : goal.returns-in-Parallel-clause-answer
+returns-in-Parallel-clause-answer g c x e = rw c.in-Parallel.is (c.compose-in-Parallel.ensures.answer x e)
+
+pub returns-in-Parallel-clause-causes : goal.returns-in-Parallel-clause-causes
+returns-in-Parallel-clause-causes g c = rw c.in-Parallel.is c.compose-in-Parallel.ensures.causes
+
+pub returns-in-Choice-clause-answer : goal.returns-in-Choice-clause-answer
+returns-in-Choice-clause-answer g c x e = rw c.in-Choice.is (c.compose-in-Choice.ensures.answer x e)
+
+pub returns-in-Choice-clause-causes : goal.returns-in-Choice-clause-causes
+returns-in-Choice-clause-causes g c = rw c.in-Choice.is c.compose-in-Choice.ensures.causes
+
+pub returns-in-Attack-clause-answer : goal.returns-in-Attack-clause-answer
+returns-in-Attack-clause-answer g c x e = rw c.in-Attack.is (c.attack.ensures.answer x e)
+
+pub returns-in-Attack-clause-causes : goal.returns-in-Attack-clause-causes
+returns-in-Attack-clause-causes g c = rw c.in-Attack.is c.attack.ensures.causes
+
+pub returns-in-Reach-clause-answer : goal.returns-in-Reach-clause-answer
+returns-in-Reach-clause-answer g c x e = rw c.in-Reach.is (c.reach.ensures.answer x e)
+
+pub returns-in-Reach-clause-causes : goal.returns-in-Reach-clause-causes
+returns-in-Reach-clause-causes g c = rw c.in-Reach.is c.reach.ensures.causes

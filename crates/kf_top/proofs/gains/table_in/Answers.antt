@@ -4,7 +4,7 @@ use Rattle.kf_top.specs.Outcome.{Gives, TableOf, source_of}
 use Rattle.kf_top.specs.Stops.{is_bytes, is_table}
 use Rattle.kf_top.proofs.Reporting.{no_table}
 use Rattle.kf_top.proofs.Steps.{first_stops, names_table}
-use Rattle.kf_top.proofs.leaking.table_in.Goals as goal
+use Rattle.kf_top.proofs.gains.table_in.Goals as goal
 
 pub returns-in_err-bytes-clause-answer : goal.returns-in_err-bytes-clause-answer
 returns-in_err-bytes-clause-answer g c x e =

@@ -1,6 +1,6 @@
 use Rattle.std.proofs.lemmas.Result.{err_from_is_err_and}
 use Rattle.kf_top.proofs.Steps.{reads_table}
-use Rattle.kf_top.proofs.leaking.gain_in.Goals as goal
+use Rattle.kf_top.proofs.gains.gain_in.Goals as goal
 
 pub returns-in_err-table-in-Table-clause-causes : goal.returns-in_err-table-in-Table-clause-causes
 returns-in_err-table-in-Table-clause-causes g c task is =

@@ -1,0 +1,35 @@
+use Rattle.std.proofs.Common.{ℕ, List, refl, subst, ◌∙◌}
+use Rattle.std.proofs.lemmas.Result.{err_from_is_err_and}
+use Rattle.kf_core.specs.Views.{program_tree}
+use Rattle.kf_support.specs.Cleared.{program_of, turns_of}
+use Rattle.kf_top.specs.Stops.{Causes}
+use Rattle.kf_top.specs.Task.{Command, Attack, Task, on_file}
+use Rattle.kf_top.specs.Views.{gain_of}
+use Rattle.kf_top.proofs.Steps.{task_stops, task_answers, named_alone}
+use Rattle.kf_top.proofs.work.attack.Goals as goal
+
+pub returns-in_err-program-clause-answer : goal.returns-in_err-program-clause-answer
+returns-in_err-program-clause-answer g c x e =
+    let p = err_from_is_err_and c.from_residual.result c.from_residual.ensures.1 in
+    let command : Command = Attack (gain_of c.args.gain.now) in
+    rw (p.1, p.2) (task_stops x command c.args.turns c.args.name.now c.as_str.result.now c.as_str.ensures c.in_err-program.field-0.0 (c.in_err-program.ensures.answer command x e))
+
+pub returns-in_err-program-clause-causes : goal.returns-in_err-program-clause-causes
+returns-in_err-program-clause-causes g c =
+    let p = err_from_is_err_and c.from_residual.result c.from_residual.ensures.1 in
+    let task : Task = on_file (Attack (gain_of c.args.gain.now)) c.args.name.now c.args.turns in
+    rw (p.1, p.2) (c.in_err-program.ensures.causes task (named_alone c.args.name.now c.as_str.result.now c.as_str.ensures))
+
+pub returns-clause-answer : goal.returns-clause-answer
+returns-clause-answer g c x e =
+    let cleared = c.in_ok-program.program in
+    let command : Command = Attack (gain_of c.args.gain.now) in
+    task_answers x command c.args.turns c.args.name.now c.as_str.result.now c.as_str.ensures (program_tree (program_of cleared)) (turns_of cleared) c.in_ok-program.ensures.turns
+    c.attack_said.result (c.in_ok-program.ensures.answer command x e) (c.attack_said.ensures.answer x (c.in_ok-program.ensures.unchanged ∙ e))
+
+pub returns-clause-causes : goal.returns-clause-causes
+returns-clause-causes g c =
+    let task : Task = on_file (Attack (gain_of c.args.gain.now)) c.args.name.now c.args.turns in
+    let now = g.F.Files.faults c.attack_said.new.files in
+    let same = c.in_ok-program.ensures.causes task (named_alone c.args.name.now c.as_str.result.now c.as_str.ensures) in
+    subst (λ (before : List ℕ → ℕ). Causes task before now c.attack_said.result) same (c.attack_said.ensures.causes task refl)

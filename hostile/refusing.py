@@ -1,0 +1,151 @@
+"""Memory: one call of `malloc` refused, the first, the second and so on, by stopping the program there (Linux on x86-64)."""
+import ctypes
+import os
+import platform
+import signal
+import struct
+import subprocess
+import tempfile
+
+from program import Outcome
+
+TRACE_ME, CONTINUE, STEP, GET_REGISTERS, SET_REGISTERS, DETACH = 0, 7, 9, 12, 13, 17
+REGISTERS, RAX, RIP, RSP = 27, 10, 16, 19
+ENTRY_POINT = 9
+BREAKPOINT, NOTHING_DONE = b"\xcc", b"\xf3\x0f\x1e\xfa"
+DYNAMIC_SYMBOLS = 11
+
+libc = ctypes.CDLL(None, use_errno=True)
+libc.ptrace.argtypes = [ctypes.c_long, ctypes.c_long, ctypes.c_void_p, ctypes.c_void_p]
+libc.ptrace.restype = ctypes.c_long
+
+
+def can_stop_programs():
+    return platform.system() == "Linux" and platform.machine() == "x86_64"
+
+
+def trace(request, pid, data=None):
+    if libc.ptrace(request, pid, None, data) == -1:
+        raise OSError(ctypes.get_errno(), f"ptrace request {request}")
+
+
+def symbol_offset(path, name):
+    """Where a shared library has a function, from the library's start on."""
+    with open(path, "rb") as file:
+        library = file.read()
+    start, = struct.unpack_from("<Q", library, 0x28)
+    size, count = struct.unpack_from("<HH", library, 0x3A)
+    sections = [struct.unpack_from("<IIQQQQIIQQ", library, start + size * k) for k in range(count)]
+    for section in sections:
+        if section[1] == DYNAMIC_SYMBOLS:
+            names = sections[section[6]][4]
+            for place in range(section[4], section[4] + section[5], 24):
+                label, _, _, _, value, _ = struct.unpack_from("<IBBHQQ", library, place)
+                begin = names + label
+                if value and library[begin:library.index(b"\0", begin)] == name:
+                    return value
+    raise ValueError(f"{path} has no {name}")
+
+
+class Stopped:
+    """A program that is stopped before its first step, and then at each call of `malloc`."""
+
+    def __init__(self, pid):
+        self.pid = pid
+        self.registers = (ctypes.c_ulonglong * REGISTERS)()
+        self.wait()
+        self.memory = os.open(f"/proc/{pid}/mem", os.O_RDWR)
+        self.run_to(self.entry_point())
+        self.malloc = self.address_of(b"malloc")
+        self.first_bytes = os.pread(self.memory, 4, self.malloc)
+        os.pwrite(self.memory, BREAKPOINT, self.malloc)
+
+    def wait(self):
+        """The status with which the program has ended, or None where it is only stopped."""
+        _, told = os.waitpid(self.pid, 0)
+        return os.waitstatus_to_exitcode(told) if os.WIFEXITED(told) or os.WIFSIGNALED(told) else None
+
+    def entry_point(self):
+        with open(f"/proc/{self.pid}/auxv", "rb") as file:
+            return dict(struct.iter_unpack("<QQ", file.read()))[ENTRY_POINT]
+
+    def address_of(self, name):
+        with open(f"/proc/{self.pid}/maps", encoding="utf-8") as file:
+            for line in file:
+                path = line.split()[-1]
+                if "/libc.so" in path or "/libc-" in path:
+                    return int(line.split("-")[0], 16) + symbol_offset(path, name)
+        raise ValueError("the program has no C library")
+
+    def read_registers(self):
+        trace(GET_REGISTERS, self.pid, self.registers)
+
+    def write_registers(self):
+        trace(SET_REGISTERS, self.pid, self.registers)
+
+    def run_to(self, address):
+        there = os.pread(self.memory, 1, address)
+        os.pwrite(self.memory, BREAKPOINT, address)
+        trace(CONTINUE, self.pid)
+        self.wait()
+        os.pwrite(self.memory, there, address)
+        self.read_registers()
+        self.registers[RIP] = address
+        self.write_registers()
+
+    def run_to_call(self):
+        """Runs to the next call of `malloc`: None, or the status with which the program has ended before."""
+        trace(CONTINUE, self.pid)
+        return self.wait()
+
+    def pass_call(self):
+        """Lets the call begin as if nothing stood there."""
+        self.read_registers()
+        if self.first_bytes == NOTHING_DONE:
+            self.registers[RIP] = self.malloc + len(NOTHING_DONE)
+            self.write_registers()
+            return
+        self.registers[RIP] = self.malloc
+        self.write_registers()
+        os.pwrite(self.memory, self.first_bytes[:1], self.malloc)
+        trace(STEP, self.pid)
+        self.wait()
+        os.pwrite(self.memory, BREAKPOINT, self.malloc)
+
+    def refuse_call(self):
+        """Has the call return a null pointer at once, and lets the program go on alone."""
+        self.read_registers()
+        back = os.pread(self.memory, 8, self.registers[RSP])
+        self.registers[RIP], = struct.unpack("<Q", back)
+        self.registers[RSP] += 8
+        self.registers[RAX] = 0
+        self.write_registers()
+        os.pwrite(self.memory, self.first_bytes[:1], self.malloc)
+        trace(DETACH, self.pid)
+
+
+def run_refusing(path, words, folder, refused):
+    """Runs the program with its call number `refused` of `malloc` refused: what it came to, and how many calls there were before its
+    end or that call."""
+    with tempfile.TemporaryFile() as out, tempfile.TemporaryFile() as err:
+        process = subprocess.Popen(  # pylint: disable=consider-using-with
+            [path, *words], cwd=folder, stdin=subprocess.DEVNULL, stdout=out, stderr=err, preexec_fn=lambda: trace(TRACE_ME, 0))
+        stopped, calls, status = Stopped(process.pid), 0, None
+        try:
+            while status is None:
+                status = stopped.run_to_call()
+                if status is None:
+                    calls += 1
+                    if calls == refused:
+                        stopped.refuse_call()
+                        status = stopped.wait()
+                    else:
+                        stopped.pass_call()
+        finally:
+            os.close(stopped.memory)
+            if status is None:
+                os.kill(process.pid, signal.SIGKILL)
+            process.returncode = 0 if status is None else status
+        out.seek(0)
+        err.seek(0)
+        return Outcome(words, status, out.read(), err.read()), calls

@@ -1,8 +1,8 @@
-ghost use Rattle.std.specs.Prelude.{◌≡◌};
-ghost use Rattle.kf_ast.specs.Views.{decl_items, target_items};
+ghost use Rattle.std.specs.Prelude.{◌≡◌, IfOk};
+ghost use Rattle.kf_ast.specs.Views.{decl_items, name_tree, target_items};
 
 use crate::{Dist, StmtList, TyTree};
-use kf_value::Name;
+use kf_value::{Mem, Name};
 
 /// A name where it stands in the source.
 #[derive(Drop)]
@@ -46,6 +46,18 @@ pub struct DeclList {
 #[derive(Drop)]
 pub struct ItemList {
     items: Vec<Item>,
+}
+
+impl Ident {
+    /// An equal name at the same place.
+    pub fn copy(&self) -> Result<Ident, Mem>
+        ensures { IfOk result (λ copied. name_tree copied ≡ name_tree self.now) }
+    {
+        Ok(Ident {
+            text: self.text.copy()?,
+            at: self.at,
+        })
+    }
 }
 
 impl DeclList {

@@ -1,7 +1,9 @@
-ghost use Rattle.std.specs.Prelude.{◌≡◌};
-ghost use Rattle.kf_ast.specs.Views.{case_items};
+ghost use Rattle.std.specs.Prelude.{◌≡◌, map, IfOk};
+ghost use Rattle.kf_ast.specs.Views.{case_items, case_tree, dist_tree};
 
 use crate::Expr;
+use kf_value::Mem;
+use std::alloc::Global;
 
 /// A distribution on values.
 #[derive(Drop)]
@@ -47,5 +49,41 @@ impl CaseList {
         ensures { result.now ≡ case_items self.now }
     {
         self.items.as_slice()
+    }
+
+    /// An equal list.
+    pub fn copy(&self, alloc: Global) -> Result<CaseList, Mem>
+        ensures { IfOk result (λ copied. map case_tree (case_items copied) ≡ map case_tree (case_items self.now)) }
+    {
+        let mut items = Vec::new(alloc);
+        for case in &self.items {
+            items.push(Case {
+                value: case.value.copy(alloc)?,
+                weight: case.weight.copy(alloc)?,
+            })?;
+        }
+        Ok(CaseList { items })
+    }
+}
+
+impl Dist {
+    /// An equal distribution.
+    pub fn copy(&self, alloc: Global) -> Result<Dist, Mem>
+        ensures { IfOk result (λ copied. dist_tree copied ≡ dist_tree self.now) }
+    {
+        let node = match &self.node {
+            DistNode::Sure(value) => DistNode::Sure(value.copy(alloc)?),
+            DistNode::UniformSet(set) => DistNode::UniformSet(set.copy(alloc)?),
+            DistNode::UniformRange(lo, hi) => DistNode::UniformRange(
+                lo.copy(alloc)?,
+                hi.copy(alloc)?,
+            ),
+            DistNode::Choose(cases) => DistNode::Choose(cases.copy(alloc)?),
+            DistNode::Flip { num, den } => DistNode::Flip {
+                num: *num,
+                den: *den,
+            },
+        };
+        Ok(Dist { at: self.at, node })
     }
 }

@@ -1,5 +1,8 @@
-ghost use Rattle.std.specs.Prelude.{◌≡◌};
-ghost use Rattle.kf_ast.specs.Views.{ty_items};
+ghost use Rattle.std.specs.Prelude.{◌≡◌, map, IfOk};
+ghost use Rattle.kf_ast.specs.Views.{ty_items, type_form};
+
+use kf_value::Mem;
+use std::alloc::Global;
 
 /// A type as it is written.
 #[cycle(ty)]
@@ -37,5 +40,33 @@ impl TyTreeList {
         ensures { result.now ≡ ty_items self.now }
     {
         self.items.as_slice()
+    }
+
+    /// An equal list.
+    #[cycle(copy_type)]
+    pub fn copy(&self, alloc: Global) -> Result<TyTreeList, Mem>
+        ensures { IfOk result (λ copied. map type_form (ty_items copied) ≡ map type_form (ty_items self.now)) }
+    {
+        let mut items = Vec::new(alloc);
+        for ty in &self.items {
+            items.push(ty.copy(alloc)?)?;
+        }
+        Ok(TyTreeList { items })
+    }
+}
+
+impl TyTree {
+    /// An equal type.
+    #[cycle(copy_type)]
+    pub fn copy(&self, alloc: Global) -> Result<TyTree, Mem>
+        ensures { IfOk result (λ copied. type_form copied ≡ type_form self.now) }
+    {
+        let node = match &self.node {
+            TyNode::Bool => TyNode::Bool,
+            TyNode::Int { lo, hi } => TyNode::Int { lo: *lo, hi: *hi },
+            TyNode::Tuple(parts) => TyNode::Tuple(parts.copy(alloc)?),
+            TyNode::Set(base) => TyNode::Set(Box::new(alloc, base.copy(alloc)?)?),
+        };
+        Ok(TyTree { at: self.at, node })
     }
 }

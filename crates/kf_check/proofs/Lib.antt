@@ -25,7 +25,7 @@ mod Nodes
 mod PickRules
 mod TypeRules
 mod Behind
-mod Sized
+pub mod Sized
 mod DeclTurns
 mod DeclFacts
 mod Standing

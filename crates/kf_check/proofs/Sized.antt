@@ -20,14 +20,14 @@ as_many_parts : (xs : TypeForms) → type_count xs ≡ length (type_list (plain_
 as_many_parts no_types = refl
 as_many_parts (form.more_types x xs) = ap suc (as_many_parts xs)
 
-both : (a b : Bool) → a ≡ true → b ≡ true → (a && b) ≡ true
+pub both : (a b : Bool) → a ≡ true → b ≡ true → (a && b) ≡ true
 both a b h g = rw (h, g) refl
 
 at_least_two : (n : ℕ) → 2 ≤ n → nat_le 2 n ≡ true
 at_least_two n h = grind (arith, nat_tests)
 
 mutual
-  plain_formed : (x : TypeForm) → IsTypeBuilt x → well_formed (plain_type x) ≡ true
+  pub plain_formed : (x : TypeForm) → IsTypeBuilt x → well_formed (plain_type x) ≡ true
   plain_formed (type_at at shape) b = shape_formed shape b
 
   shape_formed : (shape : TypeShape) → IsTypeShapeBuilt shape → well_formed (plain_shape shape) ≡ true

@@ -1,6 +1,5 @@
 pub mod Channels
 mod Choices
-mod Compared
 pub mod Denominators
 mod Digits
 mod Fitting

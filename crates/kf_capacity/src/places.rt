@@ -7,9 +7,9 @@ ghost use Rattle.kf_hyper.specs.Traces.{trace_order};
 ghost use Rattle.kf_capacity.specs.Compositions.{secret_values, place_of, fits, places};
 ghost use Rattle.kf_capacity.specs.Views.{channel_tree};
 
-use crate::values::{compare_lists, values_at};
+use crate::values::compare_lists;
 use kf_channel::Channel;
-use kf_value::{Mem, Value, ValueList};
+use kf_value::{Mem, Value, ValueList, values_at};
 use std::alloc::Global;
 
 /// For each trace of the first channel the place of its values among the second one's secrets; `None` where some trace has no place.

@@ -21,14 +21,10 @@ use Rattle.kf_gain.specs.Vulnerabilities.{IsPosterior}
 use Rattle.kf_gain.proofs.Adding.{ArePairs, AreShorter, averaged, pairs, shorter, joint_length}
 use Rattle.kf_gain.proofs.Falling.{all}
 use Rattle.kf_gain.proofs.Guessing.{weights_are}
-use Rattle.kf_gain.proofs.Measures.{once_more}
+use Rattle.kf_gain.proofs.Measures.{order_times}
 use Rattle.kf_gain.proofs.Reports.{some_report, one_report}
 use Rattle.kf_attack.specs.Attacks.{ReachTree, IsReach}
 use Rattle.kf_attack.proofs.Positions.{all_weights}
-
-order_times : (k : ℕ) (y z : ℤ) → y ≤ℤ z → (pos k *ℤ y) ≤ℤ (pos k *ℤ z)
-order_times zero y z le = omega (arith, ints, zero-*ℤ y, zero-*ℤ z)
-order_times (suc k) y z le = omega (arith, ints, le, order_times k y z le, once_more k y, once_more k z)
 
 more_tried : (j k : ℕ) (c : List Entry) (y z : ℤ) → j ≤ k → IsVulnerability (Tries j) c y → IsVulnerability (Tries k) c z → y ≤ℤ z
 more_tried j k c y z order v w = let (xs, ascending, few, is) = v.reached in w.best y (xs, ascending, omega (arith, few, order), is)

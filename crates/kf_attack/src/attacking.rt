@@ -13,7 +13,7 @@ ghost use Rattle.kf_attack.specs.Views.{ShowAttacks};
 use crate::guesses::{in_turn, likeliest};
 use crate::scores::scored;
 use crate::{Attack, AttackList};
-use kf_gain::{Gain, GainFault, prior};
+use kf_gain::{Gain, GainFault, guarded};
 use kf_hyper::{Entry, Hyper};
 use kf_value::Mem;
 use std::alloc::Global;
@@ -57,8 +57,7 @@ pub fn attack_of(alloc: Global, h: &Hyper, g: &Gain) -> Result<AttackList, GainF
     ensures narrow { IfOk result (λ _. (m : ℕ) × IsWidth (gain_tree g.now) (inners_of h.now) m × (scale_of h.now * m ≤ limit)) }
     ensures wide { IsErrOf result GainFault.Wide → (m : ℕ) × IsWidth (gain_tree g.now) (inners_of h.now) m × (limit < scale_of h.now * m) }
 {
-    // Refuses numbers that are too wide.
-    prior(alloc, h, g)?;
+    guarded(alloc, h, g)?;
     let attacks = attacks(alloc, h, g)?;
     Ok(attacks)
 }

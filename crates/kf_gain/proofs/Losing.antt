@@ -10,7 +10,6 @@ use Rattle.std.proofs.lemmas.List.Sorted.{sum_by-IsPermutation, IsPermutation-ma
 use Rattle.kf_hyper.specs.declared.entry.Entry.{Entry}
 use Rattle.kf_hyper.specs.Columns.{weight_at, total, values}
 use Rattle.kf_hyper.specs.Hypers.{Inner}
-use Rattle.kf_hyper.specs.Shapes.{IsShape}
 use Rattle.kf_hyper.specs.Averages.{joint_weight, joint_column, average_weight}
 use Rattle.kf_hyper.proofs.Weights.{Above, weight_at_head, weight_at_other, weight_below}
 use Rattle.kf_hyper.proofs.Scaling.{total-cons}
@@ -21,7 +20,7 @@ use Rattle.kf_gain.specs.declared.table.Action.{Action}
 use Rattle.kf_gain.specs.Gains.{GainOf, Bayes, Tries, Guessing, Table, TableTree}
 use Rattle.kf_gain.specs.Worth.{gained, NoBetter, IsVulnerability}
 use Rattle.kf_gain.specs.Vulnerabilities.{IsPrior, IsPosterior}
-use Rattle.kf_gain.proofs.Adding.{ArePairs, pairs, Averaged, averaged, the_average, above_average, gained_all}
+use Rattle.kf_gain.proofs.Adding.{ArePairs, Averaged, averaged, the_average, above_average, gained_all}
 use Rattle.kf_gain.proofs.Falling.{all, front, front_within, Threshold, threshold, costs, cheaper, Sorted, sort}
 use Rattle.kf_gain.proofs.Trying.{sum_two, same_sums, zero_sum, spread, past_head}
 use Rattle.kf_gain.proofs.Guessing.{cost_is, guesses_are, weights_are}
@@ -143,16 +142,16 @@ module _ (inners : List Inner) (y z : ℤ) where
       let same : sum_by (weight_at p.average) xs ≡ sum_by (average_weight inners) xs = same_sums (weight_at p.average) (average_weight inners) xs p.is_average.weights in
       omega (arith, ints, is, same, tries_kept k xs inners z ascending few q)
 
-  pub nothing_is_lost : (size scale : ℕ) (g : GainOf TableTree) → IsShape size scale inners → IsPrior g inners y → IsPosterior g inners z → NoBetter g y z
-  nothing_is_lost size scale Bayes shape p q =
+  pub nothing_is_lost : (g : GainOf TableTree) → ArePairs inners → IsPrior g inners y → IsPosterior g inners z → NoBetter g y z
+  nothing_is_lost Bayes prs p q =
       tries_lose_nothing 1 (record { average = p.average; is_average = p.is_average; is = record { reached = p.is.reached; best = p.is.best } }) (as_tries inners z q)
-  nothing_is_lost size scale (Tries k) shape p q = tries_lose_nothing k p q
-  nothing_is_lost size scale Guessing shape p q =
+  nothing_is_lost (Tries k) prs p q = tries_lose_nothing k p q
+  nothing_is_lost Guessing prs p q =
       let (xs, order, is) = p.is.reached in
       let kept : z ≤ℤ pos (costs 1 (map (average_weight inners) xs)) =
-      orders_kept p.average xs inners z (above_average inners p.average p.is_average) order (pairs size scale inners shape) (λ x. omega (arith, p.is_average.weights x)) q in
+      orders_kept p.average xs inners z (above_average inners p.average p.is_average) order prs (λ x. omega (arith, p.is_average.weights x)) q in
       omega (arith, ints, is, kept, cost_is p.average 1 xs, same_costs (weight_at p.average) (average_weight inners) 1 xs p.is_average.weights)
-  nothing_is_lost size scale (Table t) shape p q =
+  nothing_is_lost (Table t) prs p q =
       let (a, there, is) = p.is.reached in
       let r : Averaged inners = averaged inners in
       let same : gained t.rest a.gains p.average ≡ gained_all t.rest a.gains inners = ap (λ (c : List Entry). gained t.rest a.gains c) (the_average inners p.average p.is_average) ∙ r.gains t.rest a.gains in

@@ -100,7 +100,7 @@ module _ (k : ℕ) where
 pub once_more : (k : ℕ) (z : ℤ) → pos (suc k) *ℤ z ≡ z +ℤ pos k *ℤ z
 once_more k z = omega (arith, ints, add_mul z (pos 1) (pos k))
 
-order_times : (k : ℕ) (y z : ℤ) → y ≤ℤ z → (pos k *ℤ y) ≤ℤ (pos k *ℤ z)
+pub order_times : (k : ℕ) (y z : ℤ) → y ≤ℤ z → (pos k *ℤ y) ≤ℤ (pos k *ℤ z)
 order_times zero y z le = omega (arith, ints, zero-*ℤ y, zero-*ℤ z)
 order_times (suc k) y z le = omega (arith, ints, le, order_times k y z le, once_more k y, once_more k z)
 

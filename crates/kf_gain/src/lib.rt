@@ -20,3 +20,4 @@ pub use reading::read_table;
 pub use table::{Action, ActionList, GainEntry, GainEntryList, GainTable};
 pub use table_law::table_laws;
 pub use vulnerability::{posterior, prior};
+pub use widths::guarded;

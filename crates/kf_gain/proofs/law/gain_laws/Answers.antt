@@ -1,3 +1,4 @@
+use Rattle.kf_gain.proofs.Adding.{pairs}
 use Rattle.kf_gain.proofs.Losing.{nothing_is_lost, bayes_is_bounded}
 use Rattle.kf_gain.proofs.Reports.{some_report, one_report, width_bounds}
 use Rattle.kf_gain.proofs.law.gain_laws.Goals as goal
@@ -12,7 +13,7 @@ pub returns-clause-width : goal.returns-clause-width
 returns-clause-width c = width_bounds
 
 pub returns-clause-nothing_is_lost : goal.returns-clause-nothing_is_lost
-returns-clause-nothing_is_lost c = λ size scale g inners y z. nothing_is_lost inners y z size scale g
+returns-clause-nothing_is_lost c = λ size scale g inners y z shape. nothing_is_lost inners y z g (pairs size scale inners shape)
 
 pub returns-clause-bayes : goal.returns-clause-bayes
 returns-clause-bayes c = λ size scale inners y z shape. bayes_is_bounded inners y z

@@ -1,7 +1,7 @@
 pub mod Alike
 mod Apart
 pub mod Ascending
-mod Comparing
+pub mod Comparing
 mod Deciding
 mod Digits
 mod Examples

@@ -28,7 +28,7 @@ pub use name::Name;
 pub use nth::value_at;
 pub use numbers::number;
 pub use order::compare;
-pub use prints::{number_of, print_target, print_value};
+pub use prints::{number_of, print_target, print_value, values_at, write_target};
 pub use shape::{OutOfRange, Shape, ShapeError};
 pub use sizes::size;
 pub use slot_list::SlotList;

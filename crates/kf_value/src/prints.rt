@@ -12,6 +12,7 @@ use crate::nth::value_at;
 use crate::readings::candidate;
 use crate::sizes::known_size;
 use crate::{Mem, Target, TargetItem, Value, ValueList};
+use itoa::Buffer;
 use std::alloc::Global;
 
 /// Appends the text of a value: `true`, `-7`, `(1, true)`, `{0, 2}`, `{}`. After `Mem` `out` is as before.
@@ -20,7 +21,7 @@ pub fn print_value(alloc: Global, v: &Value, out: &mut Vec<u8>) -> Result<(), Me
     ensures kept { OnErr result (out.new.items ≡ out.old.items) }
 {
     let mut bytes = Vec::new(alloc);
-    write_value(alloc, v, &mut bytes)?;
+    write_value(v, &mut bytes)?;
     out.extend_from_slice(&bytes)?;
     Ok(())
 }
@@ -31,29 +32,40 @@ pub fn print_target(alloc: Global, target: &Target, n: u64, out: &mut Vec<u8>) -
     ensures printed { OnOk result (out.new.items ≡ out.old.items ++ target_value_text (items_of target.now) n) }
     ensures kept { OnErr result (out.new.items ≡ out.old.items) }
 {
-    let values = values_at(alloc, target.items.as_slice(), n)?;
     let mut bytes = Vec::new(alloc);
-    write_shown(alloc, values.as_slice(), &mut bytes)?;
+    write_target(alloc, target, n, &mut bytes)?;
     out.extend_from_slice(&bytes)?;
     Ok(())
 }
 
+/// Appends the text of the target's value with the number `n`. After `Mem` `out` may have a part of it.
+pub fn write_target(alloc: Global, target: &Target, n: u64, out: &mut Vec<u8>) -> Result<(), Mem>
+    requires { n < target_size (items_of target.now) }
+    ensures printed { OnOk result (out.new.items ≡ out.old.items ++ target_value_text (items_of target.now) n) }
+{
+    let values = values_at(alloc, target.items.as_slice(), n)?;
+    write_shown(values.as_slice(), out)
+}
+
 #[cycle(write_value)]
 #[tactic(auto, using(crate::proofs::Trees::shown_values))]
-fn write_value(alloc: Global, v: &Value, out: &mut Vec<u8>) -> Result<(), Mem>
+fn write_value(v: &Value, out: &mut Vec<u8>) -> Result<(), Mem>
     ensures { OnOk result (out.new.items ≡ out.old.items ++ text (value_tree v.now)) }
 {
     match v {
         Value::Bool(truth) => out.extend_from_slice(if *truth { b"true" } else { b"false" })?,
-        Value::Int(whole) => out.extend_from_slice(whole.to_string(alloc)?.as_bytes())?,
+        Value::Int(whole) => {
+            let mut digits = Buffer::new();
+            out.extend_from_slice(digits.format(*whole).as_bytes())?;
+        }
         Value::Tuple(parts) => {
             out.push(b'(')?;
-            write_separated(alloc, parts.as_slice(), out)?;
+            write_separated(parts.as_slice(), out)?;
             out.push(b')')?;
         }
         Value::Set(elements) => {
             out.push(b'{')?;
-            write_separated(alloc, elements.as_slice(), out)?;
+            write_separated(elements.as_slice(), out)?;
             out.push(b'}')?;
         }
     }
@@ -62,48 +74,48 @@ fn write_value(alloc: Global, v: &Value, out: &mut Vec<u8>) -> Result<(), Mem>
 
 /// Writes the texts of the values with a comma and a space between them.
 #[cycle(write_value)]
-fn write_separated(alloc: Global, values: &[Value], out: &mut Vec<u8>) -> Result<(), Mem>
+fn write_separated(values: &[Value], out: &mut Vec<u8>) -> Result<(), Mem>
     ensures { OnOk result (out.new.items ≡ out.old.items ++ separated (map text (map value_tree values.now))) }
 {
     let [first, others @ ..] = values else {
         return Ok(());
     };
-    write_value(alloc, first, out)?;
+    write_value(first, out)?;
     for value in others {
         out.extend_from_slice(b", ")?;
-        write_value(alloc, value, out)?;
+        write_value(value, out)?;
     }
     Ok(())
 }
 
 /// Writes one value as it is, and several in parentheses.
-fn write_shown(alloc: Global, values: &[Value], out: &mut Vec<u8>) -> Result<(), Mem>
+fn write_shown(values: &[Value], out: &mut Vec<u8>) -> Result<(), Mem>
     ensures { OnOk result (out.new.items ≡ out.old.items ++ shown (map value_tree values.now)) }
 {
     if values.len() == 1 {
-        write_value(alloc, &values[0], out)
+        write_value(&values[0], out)
     } else {
-        write_in_parentheses(alloc, values, out)
+        write_in_parentheses(values, out)
     }
 }
 
-fn write_in_parentheses(alloc: Global, values: &[Value], out: &mut Vec<u8>) -> Result<(), Mem>
+fn write_in_parentheses(values: &[Value], out: &mut Vec<u8>) -> Result<(), Mem>
     ensures { OnOk result (out.new.items ≡ out.old.items ++ text (Tuple (parts (map value_tree values.now)))) }
 {
     out.push(b'(')?;
-    write_separated(alloc, values, out)?;
+    write_separated(values, out)?;
     out.push(b')')?;
     Ok(())
 }
 
-/// One value for each item: the digits of `n` in mixed radix over the sizes, as values.
-fn values_at(alloc: Global, items: &[TargetItem], n: u64) -> Result<ValueList, Mem>
+/// The values at place `n`, from 0, of all lists of values, one for each item, in their order.
+pub fn values_at(alloc: Global, items: &[TargetItem], n: u64) -> Result<ValueList, Mem>
     requires sized { All (λ i. fault_of (item_of i).ty ≡ None) items.now }
     requires below { n < target_size (map item_of items.now) }
     requires fits { target_size (map item_of items.now) ≤ 2 ^ 63 }
     ensures { IfOk result (λ vs. slice_get (target_values (map item_of items.now)) n ≡ Some (value_trees vs)) }
 {
-    let mut values = Vec::new(alloc);
+    let mut values = Vec::with_capacity(alloc, items.len())?;
     let mut weight = value_count(items);
     for item in items {
         let size = u64::from(known_size(&item.ty));

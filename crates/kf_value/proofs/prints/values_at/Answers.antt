@@ -14,7 +14,7 @@ loop-item-init c =
     let fits = c.requires.fits in
     let counted = c.value_count-weight.ensures in
     let weight : c.value_count-weight.result ≡ target_size (map item_of c.args.items.now) = omega arith in
-    rw (c.new-values.ensures.items)
+    rw (c.in_ok-values.ensures.items)
     (find_parts_start types c.args.n c.value_count-weight.result (no_first_fault types (items_sized c.args.items.now c.requires.sized))
     (rw (← whole) c.requires.below) (weight ∙ whole))
 

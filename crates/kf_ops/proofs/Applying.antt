@@ -1,8 +1,10 @@
 -- From a place of the table and fitting arguments to the operator's answer.
 use Rattle.std.proofs.Common.{◌≡◌, ℕ, zero, suc, ◌<◌, ◌≤◌, List, [], ◌∷◌, length, map, take, get_or, slice_get, Some, Result, Ok, Err, IfOk, refl, sym, ap, ◌∙◌, subst, arith}
 use Rattle.std.specs.List.{All, AllByRecursion as Each}
+use Rattle.std.specs.Option.{option_map}
 use Rattle.std.proofs.lemmas.List.{length-map}
 use Rattle.std.proofs.lemmas.List.Elements.{All-from_recursion, recursion_from_All}
+use Rattle.std.proofs.lemmas.Option.{get_or_from_slice_get, slice_get-map}
 use Rattle.kf_value.specs.Kinds.{KindTree}
 use Rattle.kf_value.specs.Values.{ValueTree}
 use Rattle.kf_value.specs.Forms.{IsWellFormed}
@@ -14,6 +16,7 @@ use Rattle.kf_ops.specs.Fitting.{EachFits, Fits, FitsRow, FitsWell}
 use Rattle.kf_ops.specs.Places.{IsRow}
 use Rattle.kf_ops.specs.Laws.{KeepsKinds}
 use Rattle.kf_ops.specs.Rows.{Row, operators}
+use Rattle.kf_ops.specs.Table.{codes_of}
 use Rattle.kf_ops.specs.Views.{row_of, rows_of}
 use Rattle.kf_ops.specs.Values.{Fault, applied}
 use Rattle.kf_ops.specs.declared.fault.OpFault.{OpFault}
@@ -30,14 +33,12 @@ read_row [] place d within = absurd (omega arith)
 read_row (x ∷ xs) zero d within = refl
 read_row (x ∷ xs) (suc place) d within = read_row xs place d (omega arith)
 
-same_code : (r s : Row) → Some r ≡ Some s → r.code ≡ s.code
-same_code r s h = let one : r ≡ s = (cc) in ap (λ (t : Row). t.code) one
-
-pub code_at : (table : List OpRow) (place : ℕ) (d : OpRow) → rows_of table ≡ operators → place < length operators → (r : Row) → IsRow place r
-    → r.code ≡ (get_or table place d).code
-code_at table place d same within r here =
-    let inside : place < length table = subst (λ n. place < n) (sym (ap length same) ∙ length-map table row_of) within in
-    same_code r (row_of (get_or table place d)) (sym here ∙ (ap (λ rows. slice_get rows place) (sym same) ∙ read_row table place d inside))
+-- the operator of a row is listed at the row's place
+pub code_listed : (codes : List Op) (place : ℕ) (d : Op) → codes_of operators ≡ codes → (r : Row) → IsRow place r → r.code ≡ get_or codes place d
+code_listed codes place d same r here =
+    let there : slice_get codes place ≡ Some r.code =
+    ap (λ cs. slice_get cs place) (sym same) ∙ (slice_get-map (λ (o : Row). o.code) operators place ∙ ap (option_map (λ (o : Row). o.code)) here) in
+    sym (get_or_from_slice_get codes place r.code d there)
 
 pub row_at : (table : List OpRow) (place number : ℕ) (d : OpRow) → rows_of table ≡ operators → place ≡ number → place < length operators
     → IsRow number (row_of (get_or table place d))

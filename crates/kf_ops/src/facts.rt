@@ -1,18 +1,26 @@
 ghost use Rattle.std.specs.Prelude.{◌≡◌, ◌<◌, length};
 ghost use Rattle.std.specs.List.{All};
 ghost use Rattle.kf_ops.specs.Places.{IsRow, number_of};
-ghost use Rattle.kf_ops.specs.Rows.{operators as operator_rows};
+ghost use Rattle.kf_ops.specs.Rows.{Row, operators as operator_rows};
 ghost use Rattle.kf_ops.specs.Views.{row_of, rows_of};
 ghost use Rattle.kf_ops.specs.Table.{HasArity, HasDistinctCodes, HasDistinctWords, HasLevel, HasRowAtNumber};
 
 use crate::row::{Op, OpRow};
-use crate::table::OPS;
+use crate::table::{CODES, OPS};
 
 /// The table by value, for a caller whose contract speaks of its rows: in a body, one call in place of all rows written out.
 pub fn operators() -> [OpRow; 27]
     ensures { rows_of result ≡ operator_rows }
 {
     OPS
+}
+
+/// The operator of a row, counted from 0.
+pub fn operator_at(row: usize) -> Op
+    requires { row < length operator_rows }
+    ensures { (r : Row) → IsRow row r → r.code ≡ result }
+{
+    CODES[row]
 }
 
 /// The row of one operator.

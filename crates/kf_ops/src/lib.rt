@@ -11,7 +11,7 @@ mod sets;
 mod table;
 mod values;
 
-pub use facts::{operator_row, operators, table_facts};
+pub use facts::{operator_at, operator_row, operators, table_facts};
 pub use fault::OpFault;
 pub use laws::row_laws;
 pub use lookup::find;

@@ -1,9 +1,9 @@
 //! What each operator gives.
 
-ghost use Rattle.std.specs.Prelude.{◌≡◌, ◌≢◌, ◌<◌, ◌≤◌, true, map, length, pos, Ok, Err, IfOk};
+ghost use Rattle.std.specs.Prelude.{◌≡◌, ◌≢◌, ◌≤◌, true, map, length, pos, Ok, Err, IfOk};
 ghost use Rattle.std.specs.List.{All};
 ghost use Rattle.kf_value.specs.Kinds.{KindTree};
-ghost use Rattle.kf_ops.specs.Rows.{Row, operators as operator_rows};
+ghost use Rattle.kf_ops.specs.Rows.{Row};
 ghost use Rattle.kf_ops.specs.Fitting.{Fits, FitsRow, FitsWell};
 ghost use Rattle.kf_ops.specs.Places.{IsRow};
 ghost use Rattle.std.specs.Int.{int_div_euclid, int_rem_euclid};
@@ -15,7 +15,7 @@ ghost use Rattle.kf_ops.specs.declared.fault.OpFault.TheVariants as fault;
 ghost use Rattle.kf_ops.specs.Values.{applied, divided_by, narrow, row_value};
 
 use crate::arguments::{elements, truth, whole};
-use crate::facts::operators;
+use crate::facts::operator_at;
 use crate::fault::OpFault;
 use crate::row::Op;
 use crate::sets::{Kept, combined, contains, is_subset};
@@ -122,14 +122,6 @@ fn size(elements: &[Value]) -> i64
     ensures { result ≡ pos (length elements.now) }
 {
     elements.len() as i64
-}
-
-/// The operator of the row at this place.
-fn operator_at(row: usize) -> Op
-    requires { row < length operator_rows }
-    ensures { (r : Row) → IsRow row r → r.code ≡ result }
-{
-    operators()[row].code
 }
 
 /// The value of the operator at its arguments.

@@ -14,7 +14,7 @@ use Rattle.kf_value.specs.Numbers.{IsStore}
 use Rattle.kf_value.specs.Views.{value_tree}
 use Rattle.kf_value.specs.declared.shape.Shape.{Shape}
 use Rattle.kf_value.specs.declared.value.Value.{Value}
-use Rattle.kf_value.proofs.ListLemmas.{each_at, left_step}
+use Rattle.kf_value.proofs.ListLemmas.{each_at, left_step, mapped_read}
 use Rattle.kf_ops.specs.Answers.{Answers as OpAnswers}
 use Rattle.kf_ops.specs.Fitting.{FitsRow}
 use Rattle.kf_ops.specs.Places.{IsRow, pattern_kind}
@@ -36,7 +36,7 @@ use Rattle.kf_core.specs.declared.ex.Ex.{Ex}
 use Rattle.kf_core.specs.declared.ex.Ex.TheVariants as ex
 use Rattle.kf_core.proofs.Keeping.{EachGives, all_given, fitting, joined, kinded_length}
 use Rattle.kf_core.proofs.Trees.{ex_tree-Slot, ex_tree-Part}
-use Rattle.kf_eval.specs.Answers.{Answers, IsFaultOf, error_of}
+use Rattle.kf_eval.specs.Answers.{Answers, IsFaultOf, at_all, error_of}
 use Rattle.kf_eval.specs.declared.fault.EvalError.{EvalError}
 use Rattle.kf_eval.specs.declared.fault.EvalError.TheVariants as error
 use Rattle.kf_eval.specs.Kinds.{shape_kinds, IsKinded, AreKinded, HasPart}
@@ -204,24 +204,78 @@ fault_of_op defined fault.DivZero h = h
 fault_of_op defined fault.ArithWide h = h
 fault_of_op defined fault.Mem h = tt
 
-module _ (ks : List KindTree) (s : List ValueTree) (place : ℕ) (xs : List ExTree) (vs : List ValueTree) (code : Op) (calls : CallsRow ks place xs)
-    (is : operator_at place ≡ Some code) (no_or : code ≢ op.Or) (no_and : code ≢ op.And) (no_cond : code ≢ op.Cond)
-    (known : all_values (evs s (exs xs)) ≡ Ok vs) where
-  applied_row : at_row (operator_at place) (evs s (exs xs)) ≡ applied calls.row.code vs
-  applied_row =
-      ap (λ o. at_row o (evs s (exs xs))) is
-      ∙ (plain code (evs s (exs xs)) no_or no_and no_cond
-      ∙ (ap (λ r. then_ok r (applied code)) known ∙ ap (λ c. applied c vs) (sym (code_of ks place xs calls code is))))
+pub fault_on : {A B : Type 0} (go : Result A Fault → Result B Fault) → ((f : Fault) → go (Err f) ≡ Err f) → (e : Result A Fault) (err : EvalError) → IsFaultOf e err
+    → IsFaultOf (go e) err
+fault_on go stays e error.DivZero h = ap go h ∙ stays DivZero
+fault_on go stays e error.ArithWide h = ap go h ∙ stays ArithWide
+fault_on go stays e error.Mem h = tt
 
-  pub row_value_is : (read : List ValueTree) (v : ValueTree) → read ≡ vs → ((r : Row) → IsRow place r → applied r.code read ≡ Ok v)
-      → at_row (operator_at place) (evs s (exs xs)) ≡ Ok v
-  row_value_is read v same gives = applied_row ∙ (ap (applied calls.row.code) (sym same) ∙ gives calls.row calls.here)
+-- an operator that needs all its arguments
+pub needs_all : (row : ℕ) (code : Op) (es : List Evaluated) → operator_at row ≡ Some code → code ≢ op.Or → code ≢ op.And → code ≢ op.Cond
+    → at_row (operator_at row) es ≡ at_all (operator_at row) es
+needs_all row code es is no_or no_and no_cond = ap (λ o. at_row o es) is ∙ plain code es no_or no_and no_cond ∙ ap (λ o. at_all o es) (sym is)
 
-  pub row_fault_is : (read : List ValueTree) (f : OpFault) → read ≡ vs → ((r : Row) → IsRow place r → OpAnswers (Err f) (applied r.code read))
-      → IsFaultOf (at_row (operator_at place) (evs s (exs xs))) (error_of f)
-  row_fault_is read f same gives =
-      let defined = applied_row ∙ ap (applied calls.row.code) (sym same) in
-      subst (λ (e : Evaluated). IsFaultOf e (error_of f)) (sym defined) (fault_of_op (applied calls.row.code read) f (gives calls.row calls.here))
+module _ (ks : List KindTree) (s : List ValueTree) (place : ℕ) (xs : List ExTree) (calls : CallsRow ks place xs) where
+  listed_row : at_all (operator_at place) (evs s (exs xs)) ≡ then_ok (all_values (evs s (exs xs))) (applied calls.row.code)
+  listed_row = ap (λ o. at_all o (evs s (exs xs))) (ap (option_map (λ r. r.code)) calls.here)
+
+  -- a fault of an argument is the operator's
+  pub row_stops : (err : EvalError) → IsFaultOf (all_values (evs s (exs xs))) err → IsFaultOf (at_all (operator_at place) (evs s (exs xs))) err
+  row_stops err h =
+      subst (λ (e : Evaluated). IsFaultOf e err) (sym listed_row) (fault_on (λ r. then_ok r (applied calls.row.code)) (λ f. refl) (all_values (evs s (exs xs))) err h)
+
+  module _ (vs : List ValueTree) (known : all_values (evs s (exs xs)) ≡ Ok vs) where
+    applied_row : at_all (operator_at place) (evs s (exs xs)) ≡ applied calls.row.code vs
+    applied_row = listed_row ∙ ap (λ r. then_ok r (applied calls.row.code)) known
+
+    pub row_value_is : (read : List ValueTree) (v : ValueTree) → read ≡ vs → ((r : Row) → IsRow place r → applied r.code read ≡ Ok v)
+        → at_all (operator_at place) (evs s (exs xs)) ≡ Ok v
+    row_value_is read v same gives = applied_row ∙ (ap (applied calls.row.code) (sym same) ∙ gives calls.row calls.here)
+
+    pub row_fault_is : (read : List ValueTree) (f : OpFault) → read ≡ vs → ((r : Row) → IsRow place r → OpAnswers (Err f) (applied r.code read))
+        → IsFaultOf (at_all (operator_at place) (evs s (exs xs))) (error_of f)
+    row_fault_is read f same gives =
+        let defined = applied_row ∙ ap (applied calls.row.code) (sym same) in
+        subst (λ (e : Evaluated). IsFaultOf e (error_of f)) (sym defined) (fault_of_op (applied calls.row.code read) f (gives calls.row calls.here))
+
+-- ---- one argument, or two
+
+pub nth_kinded : (ks : List KindTree) (args : List Ex) (k : ℕ) (x : Ex) → AreKinded ks (map ex_tree args) → k < length args → x ≡ get_or args k x → IsKinded ks (ex_tree x)
+nth_kinded ks args k x are within is = each_at (IsKinded ks) (map ex_tree args) k (ex_tree x) are (mapped_read ex_tree args k x within is)
+
+module _ (s : List ValueTree) where
+  pub first_stops : (args : List Ex) (x : Ex) (err : EvalError) → 0 < length args → x ≡ get_or args 0 x → IsFaultOf (ev s (ex_tree x)) err
+      → IsFaultOf (all_values (evs s (exs (map ex_tree args)))) err
+  first_stops [] x err some is h = absurd (omega arith)
+  first_stops (a ∷ args) x err some is h =
+      fault_on (λ e. all_values (e ∷ evs s (exs (map ex_tree args)))) (λ f. refl) (ev s (ex_tree a)) err (subst (λ y. IsFaultOf (ev s (ex_tree y)) err) is h)
+
+  pub one_value : (args : List Ex) (x : Ex) (v : ValueTree) → length args ≡ 1 → x ≡ get_or args 0 x → ev s (ex_tree x) ≡ Ok v
+      → all_values (evs s (exs (map ex_tree args))) ≡ Ok (v ∷ [])
+  one_value [] x v long is known = absurd (omega arith)
+  one_value (a ∷ []) x v long is known = ap (λ e. all_values (e ∷ [])) (ap (λ y. ev s (ex_tree y)) (sym is) ∙ known)
+  one_value (a ∷ b ∷ args) x v long is known = absurd (omega arith)
+
+  module _ (x y : Ex) (v : ValueTree) (known : ev s (ex_tree x) ≡ Ok v) where
+    pub second_stops : (args : List Ex) (err : EvalError) → length args ≡ 2 → x ≡ get_or args 0 x → y ≡ get_or args 1 y → IsFaultOf (ev s (ex_tree y)) err
+        → IsFaultOf (all_values (evs s (exs (map ex_tree args)))) err
+    second_stops [] err long is next h = absurd (omega arith)
+    second_stops (a ∷ []) err long is next h = absurd (omega arith)
+    second_stops (a ∷ b ∷ []) err long is next h =
+        let first : ev s (ex_tree a) ≡ Ok v = ap (λ z. ev s (ex_tree z)) (sym is) ∙ known in
+        rw first
+        (fault_on (λ e. all_values (Ok v ∷ e ∷ [])) (λ f. refl) (ev s (ex_tree b)) err (subst (λ z. IsFaultOf (ev s (ex_tree z)) err) next h))
+    second_stops (a ∷ b ∷ c ∷ args) err long is next h = absurd (omega arith)
+
+    pub two_values : (args : List Ex) (w : ValueTree) → length args ≡ 2 → x ≡ get_or args 0 x → y ≡ get_or args 1 y → ev s (ex_tree y) ≡ Ok w
+        → all_values (evs s (exs (map ex_tree args))) ≡ Ok (v ∷ w ∷ [])
+    two_values [] w long is next same = absurd (omega arith)
+    two_values (a ∷ []) w long is next same = absurd (omega arith)
+    two_values (a ∷ b ∷ []) w long is next same =
+        let first : ev s (ex_tree a) ≡ Ok v = ap (λ z. ev s (ex_tree z)) (sym is) ∙ known in
+        let second : ev s (ex_tree b) ≡ Ok w = ap (λ z. ev s (ex_tree z)) (sym next) ∙ same in
+        rw (first, second) refl
+    two_values (a ∷ b ∷ c ∷ args) w long is next same = absurd (omega arith)
 
 -- ---- values from left to right
 
@@ -259,12 +313,6 @@ module _ (ks : List KindTree) (s : List ValueTree) where
         ∙ (onto-next (map value_tree done) (value_tree v) (list_ev left)
         ∙ (ap (λ e. onto (map value_tree done) (joined e (list_ev left))) (sym is) ∙ so_far.whole));
   }
-
-  fault_on : {A B : Type 0} (go : Result A Fault → Result B Fault) → ((f : Fault) → go (Err f) ≡ Err f) → (e : Result A Fault) (err : EvalError) → IsFaultOf e err
-      → IsFaultOf (go e) err
-  fault_on go stays e error.DivZero h = ap go h ∙ stays DivZero
-  fault_on go stays e error.ArithWide h = ap go h ∙ stays ArithWide
-  fault_on go stays e error.Mem h = tt
 
   pub values_fault : (all : List ExTree) (x : ExTree) (left : List ExTree) (done : List Value) (err : EvalError) → ValuesSoFar all (x ∷ left) done
       → IsFaultOf (ev s x) err → IsFaultOf (list_ev all) err

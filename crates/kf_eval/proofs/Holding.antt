@@ -24,20 +24,21 @@ use Rattle.kf_value.specs.declared.value.Value.TheVariants as value
 use Rattle.kf_value.specs.declared.value.ValueList.{ValueList}
 use Rattle.kf_value.proofs.ListLemmas.{each_at, mapped_read}
 use Rattle.kf_value.proofs.Trees.{parts_list-parts, value_tree-Tuple}
-use Rattle.kf_ops.specs.Rows.{operators}
-use Rattle.kf_ops.specs.Views.{row_of, rows_of}
-use Rattle.kf_ops.specs.declared.row.OpRow.{OpRow}
+use Rattle.kf_ops.specs.Places.{IsRow}
+use Rattle.kf_ops.specs.Rows.{Row, operators, unary}
+use Rattle.kf_ops.specs.declared.row.Op.{Op}
+use Rattle.kf_ops.specs.declared.row.Pat.TheVariants as pat
 use Rattle.kf_core.specs.Runs.{store_at}
 use Rattle.kf_core.specs.Evaluation.{operator_at, part_of}
 use Rattle.kf_core.proofs.Keeping.{kinds_length}
 use Rattle.kf_core.proofs.Stores.{store_is}
 use Rattle.kf_eval.specs.Kinds.{HasPart}
 
-pub code_found : (rows : List OpRow) (i : ℕ) (d : OpRow) → rows_of rows ≡ operators → i < length operators → operator_at i ≡ Some (get_or rows i d).code
-code_found rows i d same within =
-    let long : i < length rows = rw (← length-map rows row_of, same) within in
-    ap (λ t. option_map (λ r. r.code) (slice_get t i)) (sym same)
-    ∙ (ap (option_map (λ r. r.code)) (slice_get-map row_of rows i) ∙ ap (λ o. option_map (λ r. r.code) (option_map row_of o)) (slice_get-get_or rows i d long))
+pub code_found : (row : ℕ) (code : Op) → ((r : Row) → IsRow row r → r.code ≡ code) → row < length operators → operator_at row ≡ Some code
+code_found row code known within =
+    let r = get_or operators row (unary [] 0 pat.Nothing pat.Nothing code) in
+    let here : slice_get operators row ≡ Some r = slice_get-get_or operators row (unary [] 0 pat.Nothing pat.Nothing code) within in
+    ap (option_map (λ t. t.code)) here ∙ ap (λ c. Some c) (known r here)
 
 -- ---- parts of a tuple
 
@@ -60,6 +61,9 @@ module _ (v : Value) (vs : ValueList) (k : ℕ) (is : v ≡ value.Tuple vs) wher
       ∙ get_or_from_slice_get (value_trees vs) k (value_tree x) (Truth false) (mapped_read value_tree (value_items vs) k x within read))
 
 -- ---- variables of a store
+
+pub types_length : (shape : Shape) (list : TyList) (read : List Ty) → type_trees list ≡ shape_types shape → read ≡ type_items list → length read ≡ length (shape_types shape)
+types_length shape list read same is = sym (length-map read type_tree) ∙ ap length (ap (map type_tree) is ∙ same)
 
 all_at : {X : Type 0} (p : X → Bool) (xs : List X) (i : ℕ) (x : X) → list_all p xs ≡ true → slice_get xs i ≡ Some x → p x ≡ true
 all_at p [] i x all at = (cc)

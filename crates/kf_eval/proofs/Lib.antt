@@ -1,6 +1,11 @@
 mod Holding
 mod Inserting
 mod Checking
+mod Chosen
+mod Agreeing
+mod Numbered
+mod Listing
+mod Remembering
 mod Adding
 mod Placing
 mod Weighing

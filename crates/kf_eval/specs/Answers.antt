@@ -1,11 +1,14 @@
 -- For bodies: what the program may answer where a value or a fault is defined.
-use Rattle.std.specs.Prelude.{◌≡◌, Result, Ok, Err, MatchResult}
+use Rattle.std.specs.Prelude.{◌≡◌, false, List, Option, Some, None, Result, Ok, Err, MatchResult}
+use Rattle.kf_value.specs.Values.{Truth}
 use Rattle.kf_value.specs.Views.{value_tree}
 use Rattle.kf_value.specs.declared.value.Value.{Value}
-use Rattle.kf_ops.specs.Values.{Fault, DivZero, ArithWide}
+use Rattle.kf_ops.specs.Values.{Fault, DivZero, ArithWide, applied}
 use Rattle.kf_ops.specs.declared.fault.OpFault.{OpFault}
 use Rattle.kf_ops.specs.declared.fault.OpFault.TheVariants as fault
-use Rattle.kf_core.specs.Evaluation.{Evaluated}
+use Rattle.kf_ops.specs.declared.row.Op.{Op}
+use Rattle.kf_core.specs.Results.{then_ok}
+use Rattle.kf_core.specs.Evaluation.{Evaluated, all_values}
 use Rattle.kf_eval.specs.declared.fault.EvalError.{EvalError}
 use Rattle.kf_eval.specs.declared.fault.EvalError.TheVariants as error
 
@@ -24,3 +27,8 @@ IsFaultOf defined error.Mem = Unit {0}
 -- the defined value, the defined fault, or want of memory
 abbrev pub Answers : Result Value EvalError → Evaluated → Type 0
 Answers result defined = MatchResult result (λ v. defined ≡ Ok (value_tree v)) (IsFaultOf defined)
+
+-- the operator of a row at all its arguments
+abbrev pub at_all : Option Op → List Evaluated → Evaluated
+at_all (Some code) es = then_ok (all_values es) (applied code)
+at_all None es = Ok (Truth false)

@@ -4,3 +4,5 @@ pub mod Kinds
 pub mod Insertion
 pub mod Choices
 pub mod Gathering
+pub mod Memos
+pub mod Reads

@@ -10,10 +10,10 @@ ghost use Rattle.kf_value.specs.Views.{value_tree};
 ghost use Rattle.kf_core.specs.Runs.{store_at};
 ghost use Rattle.kf_core.specs.Exs.{Apply, SetOf, Tuple, exs as exs_tree};
 ghost use Rattle.kf_core.specs.Views.{ex_tree};
-ghost use Rattle.kf_core.specs.Evaluation.{ev, evs, all_values, operated};
+ghost use Rattle.kf_core.specs.Evaluation.{ev, evs, all_values, operated, operator_at};
 ghost use Rattle.kf_core.specs.Checked.{Kinded};
 ghost use Rattle.kf_ops.specs.declared.row.Op.TheVariants as op;
-ghost use Rattle.kf_eval.specs.Answers.{Answers, IsFaultOf};
+ghost use Rattle.kf_eval.specs.Answers.{Answers, IsFaultOf, at_all};
 ghost use Rattle.kf_eval.specs.Kinds.{shape_kinds, IsKinded, AreKinded};
 
 use crate::fault::EvalError;
@@ -114,8 +114,35 @@ fn operation(
         Op::Or => or(alloc, args, shape, store),
         Op::And => and(alloc, args, shape, store),
         Op::Cond => cond(alloc, args, shape, store),
+        _ => strict(alloc, row, args, shape, store),
+    }
+}
+
+/// An operator that needs all its arguments.
+#[cycle(eval)]
+fn strict(
+    alloc: Global,
+    row: usize,
+    args: &[Ex],
+    shape: &Shape,
+    store: u64,
+) -> Result<Value, EvalError>
+    requires store { store < shape_size shape.now }
+    requires kinded { IsKinded (shape_kinds shape.now) (Apply row (exs_tree (map ex_tree args.now))) }
+    ensures { Answers result (at_all (operator_at row) (evs (store_at (shape_types shape.now) store) (exs_tree (map ex_tree args.now)))) }
+{
+    evaluation_laws();
+    match args {
+        [x] => {
+            let a = value_of(alloc, x, shape, store)?;
+            Ok(apply(alloc, row, &[a])?)
+        }
+        [x, y] => {
+            let a = value_of(alloc, x, shape, store)?;
+            let b = value_of(alloc, y, shape, store)?;
+            Ok(apply(alloc, row, &[a, b])?)
+        }
         _ => {
-            evaluation_laws();
             let values = values_of(alloc, args, shape, store)?;
             Ok(apply(alloc, row, &values)?)
         }

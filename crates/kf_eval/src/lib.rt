@@ -6,7 +6,9 @@ mod choosing;
 mod evaluation;
 mod fault;
 mod gathering;
+mod memo;
 mod parts;
+mod reading;
 mod sets;
 mod weights;
 
@@ -14,4 +16,5 @@ pub use choice::{Choice, ChoiceError, Weighted, WeightedList};
 pub use choosing::choices;
 pub use evaluation::eval;
 pub use fault::EvalError;
+pub use memo::Memo;
 pub use parts::value_in;

@@ -6,19 +6,19 @@ ghost use Rattle.kf_value.specs.Shapes.{shape_types, shape_size};
 ghost use Rattle.kf_value.specs.Views.{value_tree};
 ghost use Rattle.kf_ops.specs.Rows.{operators as rows};
 ghost use Rattle.kf_core.specs.Runs.{store_at};
-ghost use Rattle.kf_core.specs.Evaluation.{operator_at, part_of};
+ghost use Rattle.kf_core.specs.Evaluation.{operator_at as operator_of, part_of};
 ghost use Rattle.kf_eval.specs.Kinds.{HasPart};
 
-use kf_ops::{Op, operators};
+use kf_ops::{Op, operator_at};
 use kf_value::{Mem, Shape, Value, value_at};
 use std::alloc::Global;
 
 /// The operator of a row of the table.
 pub fn code_at(row: usize) -> Op
     requires { row < length rows }
-    ensures { operator_at row ≡ Some result }
+    ensures { operator_of row ≡ Some result }
 {
-    operators()[row].code
+    operator_at(row)
 }
 
 /// A part of a tuple, counted from 0.

@@ -1,4 +1,4 @@
-use Rattle.std.proofs.Common.{◌+◌, rules, map, drop, sym, ap, ◌∙◌, subst, arith}
+use Rattle.std.proofs.Common.{◌≡◌, ◌+◌, rules, [], ◌∷◌, length, map, drop, refl, sym, ap, ◌∙◌, subst, arith}
 use Rattle.std.proofs.lemmas.List.{length-map}
 use Rattle.std.proofs.lemmas.Result.{err_from_is_err_and}
 use Rattle.kf_value.specs.Views.{value_tree}
@@ -6,11 +6,13 @@ use Rattle.kf_value.proofs.ListLemmas.{left_step, left_end}
 use Rattle.kf_value.specs.Shapes.{shape_types}
 use Rattle.kf_core.specs.Runs.{store_at}
 use Rattle.kf_core.specs.Views.{ex_tree}
-use Rattle.kf_core.specs.Evaluation.{Evaluated}
+use Rattle.kf_core.specs.Exs.{exs}
+use Rattle.kf_core.specs.declared.ex.Ex.{the_lemmas}
+use Rattle.kf_core.specs.Evaluation.{Evaluated, evs}
 use Rattle.kf_ops.specs.declared.row.Op.TheVariants as op
 use Rattle.kf_eval.specs.Answers.{Answers}
 use Rattle.kf_eval.specs.Kinds.{shape_kinds}
-use Rattle.kf_eval.proofs.Checking.{calls_row, needed, row_within, each_kinded, parts_kinded, members_kinded, fits_row, has_part, store_kinds, slot_within, slot_value, or_first, and_first, cond_second, row_value_is, row_fault_is, values_start, values_step, values_fault, values_end}
+use Rattle.kf_eval.proofs.Checking.{calls_row, needed, row_within, each_kinded, parts_kinded, members_kinded, fits_row, has_part, store_kinds, slot_within, slot_value, or_first, and_first, cond_second, needs_all, row_stops, row_value_is, row_fault_is, nth_kinded, first_stops, one_value, second_stops, two_values, values_start, values_step, values_fault, values_end}
 use Rattle.kf_eval.proofs.evaluation.+eval.Goals as goal
 
 pub or-returns-then-is_true : goal.or-returns-then-is_true
@@ -56,37 +58,164 @@ operation-cond-requires t c =
     let enough = needed ks c.args.row (map ex_tree c.args.args.now) calls op.Cond c.in-Cond.ensures in
     (search rules, (c.requires.store, (sym (length-map c.args.args.now ex_tree) ∙ enough, each_kinded ks calls.args)))
 
-pub operation-values_of-requires : goal.operation-values_of-requires
-operation-values_of-requires t c =
-    let calls = calls_row (shape_kinds c.args.shape.now) c.args.row (map ex_tree c.args.args.now) c.requires.kinded in
-    (search rules, (c.requires.store, each_kinded (shape_kinds c.args.shape.now) calls.args))
+pub operation-strict-requires : goal.operation-strict-requires
+operation-strict-requires t c = (search rules, (c.requires.store, c.requires.kinded))
 
-pub operation-apply-requires : goal.operation-apply-requires
-operation-apply-requires t c =
+pub operation-returns-in_default : goal.operation-returns-in_default
+operation-returns-in_default t c =
+    let es = evs (store_at (shape_types c.args.shape.now) c.args.store) (exs (map ex_tree c.args.args.now)) in
+    subst (λ (e : Evaluated). Answers c.strict.result e) (sym (needs_all c.args.row c.code_at.result es c.code_at.ensures c.in_default.not-Or c.in_default.not-And c.in_default.not-Cond)) c.strict.ensures
+
+pub strict-value_of-requires : goal.strict-value_of-requires
+strict-value_of-requires t c =
     let ks = shape_kinds c.args.shape.now in
-    let calls = calls_row ks c.args.row (map ex_tree c.args.args.now) c.requires.kinded in
+    let args = c.args.args.now in
+    let calls = calls_row ks c.args.row (map ex_tree args) c.requires.kinded in
+    let long : length args ≡ 1 = omega (arith, c.in-len1.len_at_least, c.in-len1.len_below) in
+    (search (rules, the_lemmas), (c.requires.store, nth_kinded ks args 0 c.x-item.result (each_kinded ks calls.args) (omega (arith, long)) c.x-item.is))
+
+pub strict-returns-in_err-a-in-len1 : goal.strict-returns-in_err-a-in-len1
+strict-returns-in_err-a-in-len1 t c =
+    let ks = shape_kinds c.args.shape.now in
+    let s = store_at (shape_types c.args.shape.now) c.args.store in
+    let args = c.args.args.now in
+    let calls = calls_row ks c.args.row (map ex_tree args) c.requires.kinded in
+    let long : length args ≡ 1 = omega (arith, c.in-len1.len_at_least, c.in-len1.len_below) in
+    let p = err_from_is_err_and c.from_residual.result c.from_residual.ensures.1 in
+    rw (p.1, p.2) (row_stops ks s c.args.row (map ex_tree args) calls _ (first_stops s args c.x-item.result _ (omega (arith, long)) c.x-item.is c.in_err-a-in-len1.ensures))
+
+pub strict-apply-requires : goal.strict-apply-requires
+strict-apply-requires t c =
+    let ks = shape_kinds c.args.shape.now in
+    let s = store_at (shape_types c.args.shape.now) c.args.store in
+    let args = c.args.args.now in
+    let calls = calls_row ks c.args.row (map ex_tree args) c.requires.kinded in
     let are = store_kinds c.evaluation_laws.ensures.stores c.args.shape.now c.args.store c.requires.store in
-    rw c.deref.ensures.value
-    (fits_row c.evaluation_laws.ensures.kinds ks (store_at (shape_types c.args.shape.now) c.args.store) are c.args.row (map ex_tree c.args.args.now)
-    (map value_tree c.in_ok-values-in_default.values.items) calls c.in_ok-values-in_default.ensures)
+    let long : length args ≡ 1 = omega (arith, c.in-len1.len_at_least, c.in-len1.len_below) in
+    let known = one_value s args c.x-item.result (value_tree c.in_ok-a-in-len1.a) long c.x-item.is c.in_ok-a-in-len1.ensures in
+    fits_row c.evaluation_laws.ensures.kinds ks s are c.args.row (map ex_tree args) (value_tree c.in_ok-a-in-len1.a ∷ []) calls known
 
-pub operation-returns-in_err-apply-in_default : goal.operation-returns-in_err-apply-in_default
-operation-returns-in_err-apply-in_default t c =
+pub strict-returns-in_err-apply-in-len1 : goal.strict-returns-in_err-apply-in-len1
+strict-returns-in_err-apply-in-len1 t c =
     let ks = shape_kinds c.args.shape.now in
-    let calls = calls_row ks c.args.row (map ex_tree c.args.args.now) c.requires.kinded in
+    let s = store_at (shape_types c.args.shape.now) c.args.store in
+    let args = c.args.args.now in
+    let calls = calls_row ks c.args.row (map ex_tree args) c.requires.kinded in
+    let long : length args ≡ 1 = omega (arith, c.in-len1.len_at_least, c.in-len1.len_below) in
+    let known = one_value s args c.x-item.result (value_tree c.in_ok-a-in-len1.a) long c.x-item.is c.in_ok-a-in-len1.ensures in
+    let p = err_from_is_err_and c.from_residual-in_err-apply-in-len1.result c.from_residual-in_err-apply-in-len1.ensures.1 in
+    rw (p.1, p.2) (row_fault_is ks s c.args.row (map ex_tree args) calls (value_tree c.in_ok-a-in-len1.a ∷ []) known (value_tree c.in_ok-a-in-len1.a ∷ []) c.in_err-apply-in-len1.field-0.0 refl c.in_err-apply-in-len1.ensures.value)
+
+pub strict-returns-in_ok-apply-in-len1 : goal.strict-returns-in_ok-apply-in-len1
+strict-returns-in_ok-apply-in-len1 t c =
+    let ks = shape_kinds c.args.shape.now in
+    let s = store_at (shape_types c.args.shape.now) c.args.store in
+    let args = c.args.args.now in
+    let calls = calls_row ks c.args.row (map ex_tree args) c.requires.kinded in
+    let long : length args ≡ 1 = omega (arith, c.in-len1.len_at_least, c.in-len1.len_below) in
+    let known = one_value s args c.x-item.result (value_tree c.in_ok-a-in-len1.a) long c.x-item.is c.in_ok-a-in-len1.ensures in
+    row_value_is ks s c.args.row (map ex_tree args) calls (value_tree c.in_ok-a-in-len1.a ∷ []) known (value_tree c.in_ok-a-in-len1.a ∷ []) (value_tree c.in_ok-apply-in-len1.field-0) refl c.in_ok-apply-in-len1.ensures.value
+
+pub strict-value_of-requires-in-len2 : goal.strict-value_of-requires-in-len2
+strict-value_of-requires-in-len2 t c =
+    let ks = shape_kinds c.args.shape.now in
+    let args = c.args.args.now in
+    let calls = calls_row ks c.args.row (map ex_tree args) c.requires.kinded in
+    let long : length args ≡ 2 = omega (arith, c.in-len2.len_at_least, c.in-len2.len_below) in
+    (search (rules, the_lemmas), (c.requires.store, nth_kinded ks args 0 c.x-item-then-args-lt3.result (each_kinded ks calls.args) (omega (arith, long)) c.x-item-then-args-lt3.is))
+
+pub strict-returns-in_err-a-in-len2 : goal.strict-returns-in_err-a-in-len2
+strict-returns-in_err-a-in-len2 t c =
+    let ks = shape_kinds c.args.shape.now in
+    let s = store_at (shape_types c.args.shape.now) c.args.store in
+    let args = c.args.args.now in
+    let calls = calls_row ks c.args.row (map ex_tree args) c.requires.kinded in
+    let long : length args ≡ 2 = omega (arith, c.in-len2.len_at_least, c.in-len2.len_below) in
+    let p = err_from_is_err_and c.from_residual-in_err-a-in-len2.result c.from_residual-in_err-a-in-len2.ensures.1 in
+    rw (p.1, p.2) (row_stops ks s c.args.row (map ex_tree args) calls _ (first_stops s args c.x-item-then-args-lt3.result _ (omega (arith, long)) c.x-item-then-args-lt3.is c.in_err-a-in-len2.ensures))
+
+pub strict-value_of-requires-in-len2-2 : goal.strict-value_of-requires-in-len2-2
+strict-value_of-requires-in-len2-2 t c =
+    let ks = shape_kinds c.args.shape.now in
+    let args = c.args.args.now in
+    let calls = calls_row ks c.args.row (map ex_tree args) c.requires.kinded in
+    let long : length args ≡ 2 = omega (arith, c.in-len2.len_at_least, c.in-len2.len_below) in
+    (search (rules, the_lemmas), (c.requires.store, nth_kinded ks args 1 c.y-item.result (each_kinded ks calls.args) (omega (arith, long)) c.y-item.is))
+
+pub strict-returns-in_err-b-in-len2 : goal.strict-returns-in_err-b-in-len2
+strict-returns-in_err-b-in-len2 t c =
+    let ks = shape_kinds c.args.shape.now in
+    let s = store_at (shape_types c.args.shape.now) c.args.store in
+    let args = c.args.args.now in
+    let calls = calls_row ks c.args.row (map ex_tree args) c.requires.kinded in
+    let long : length args ≡ 2 = omega (arith, c.in-len2.len_at_least, c.in-len2.len_below) in
+    let p = err_from_is_err_and c.from_residual-in_err-b-in-len2.result c.from_residual-in_err-b-in-len2.ensures.1 in
+    rw (p.1, p.2) (row_stops ks s c.args.row (map ex_tree args) calls _ (second_stops s c.x-item-then-args-lt3.result c.y-item.result (value_tree c.in_ok-a-in-len2.a) c.in_ok-a-in-len2.ensures args _ long c.x-item-then-args-lt3.is c.y-item.is c.in_err-b-in-len2.ensures))
+
+pub strict-apply-requires-in-len2 : goal.strict-apply-requires-in-len2
+strict-apply-requires-in-len2 t c =
+    let ks = shape_kinds c.args.shape.now in
+    let s = store_at (shape_types c.args.shape.now) c.args.store in
+    let args = c.args.args.now in
+    let calls = calls_row ks c.args.row (map ex_tree args) c.requires.kinded in
+    let are = store_kinds c.evaluation_laws.ensures.stores c.args.shape.now c.args.store c.requires.store in
+    let long : length args ≡ 2 = omega (arith, c.in-len2.len_at_least, c.in-len2.len_below) in
+    let known = two_values s c.x-item-then-args-lt3.result c.y-item.result (value_tree c.in_ok-a-in-len2.a) c.in_ok-a-in-len2.ensures args (value_tree c.in_ok-b-in-len2.b) long c.x-item-then-args-lt3.is c.y-item.is c.in_ok-b-in-len2.ensures in
+    fits_row c.evaluation_laws.ensures.kinds ks s are c.args.row (map ex_tree args) (value_tree c.in_ok-a-in-len2.a ∷ value_tree c.in_ok-b-in-len2.b ∷ []) calls known
+
+pub strict-returns-in_err-apply-in-len2 : goal.strict-returns-in_err-apply-in-len2
+strict-returns-in_err-apply-in-len2 t c =
+    let ks = shape_kinds c.args.shape.now in
+    let s = store_at (shape_types c.args.shape.now) c.args.store in
+    let args = c.args.args.now in
+    let calls = calls_row ks c.args.row (map ex_tree args) c.requires.kinded in
+    let long : length args ≡ 2 = omega (arith, c.in-len2.len_at_least, c.in-len2.len_below) in
+    let known = two_values s c.x-item-then-args-lt3.result c.y-item.result (value_tree c.in_ok-a-in-len2.a) c.in_ok-a-in-len2.ensures args (value_tree c.in_ok-b-in-len2.b) long c.x-item-then-args-lt3.is c.y-item.is c.in_ok-b-in-len2.ensures in
+    let p = err_from_is_err_and c.from_residual-in_err-apply-in-len2.result c.from_residual-in_err-apply-in-len2.ensures.1 in
+    rw (p.1, p.2) (row_fault_is ks s c.args.row (map ex_tree args) calls (value_tree c.in_ok-a-in-len2.a ∷ value_tree c.in_ok-b-in-len2.b ∷ []) known (value_tree c.in_ok-a-in-len2.a ∷ value_tree c.in_ok-b-in-len2.b ∷ []) c.in_err-apply-in-len2.field-0.0 refl c.in_err-apply-in-len2.ensures.value)
+
+pub strict-returns-in_ok-apply-in-len2 : goal.strict-returns-in_ok-apply-in-len2
+strict-returns-in_ok-apply-in-len2 t c =
+    let ks = shape_kinds c.args.shape.now in
+    let s = store_at (shape_types c.args.shape.now) c.args.store in
+    let args = c.args.args.now in
+    let calls = calls_row ks c.args.row (map ex_tree args) c.requires.kinded in
+    let long : length args ≡ 2 = omega (arith, c.in-len2.len_at_least, c.in-len2.len_below) in
+    let known = two_values s c.x-item-then-args-lt3.result c.y-item.result (value_tree c.in_ok-a-in-len2.a) c.in_ok-a-in-len2.ensures args (value_tree c.in_ok-b-in-len2.b) long c.x-item-then-args-lt3.is c.y-item.is c.in_ok-b-in-len2.ensures in
+    row_value_is ks s c.args.row (map ex_tree args) calls (value_tree c.in_ok-a-in-len2.a ∷ value_tree c.in_ok-b-in-len2.b ∷ []) known (value_tree c.in_ok-a-in-len2.a ∷ value_tree c.in_ok-b-in-len2.b ∷ []) (value_tree c.in_ok-apply-in-len2.field-0) refl c.in_ok-apply-in-len2.ensures.value
+
+pub strict-values_of-requires : goal.strict-values_of-requires
+strict-values_of-requires t c =
+    let ks = shape_kinds c.args.shape.now in
+    let args = c.args.args.now in
+    let calls = calls_row ks c.args.row (map ex_tree args) c.requires.kinded in
+    (search rules, (c.requires.store, each_kinded ks calls.args))
+
+pub strict-apply-requires-in_default : goal.strict-apply-requires-in_default
+strict-apply-requires-in_default t c =
+    let ks = shape_kinds c.args.shape.now in
+    let s = store_at (shape_types c.args.shape.now) c.args.store in
+    let args = c.args.args.now in
+    let calls = calls_row ks c.args.row (map ex_tree args) c.requires.kinded in
+    let are = store_kinds c.evaluation_laws.ensures.stores c.args.shape.now c.args.store c.requires.store in
+    rw c.deref.ensures.value (fits_row c.evaluation_laws.ensures.kinds ks s are c.args.row (map ex_tree args) (map value_tree c.in_ok-values-in_default.values.items) calls c.in_ok-values-in_default.ensures)
+
+pub strict-returns-in_err-apply-in_default : goal.strict-returns-in_err-apply-in_default
+strict-returns-in_err-apply-in_default t c =
+    let ks = shape_kinds c.args.shape.now in
+    let s = store_at (shape_types c.args.shape.now) c.args.store in
+    let args = c.args.args.now in
+    let calls = calls_row ks c.args.row (map ex_tree args) c.requires.kinded in
     let p = err_from_is_err_and c.from_residual-in_err-apply-in_default.result c.from_residual-in_err-apply-in_default.ensures.1 in
-    rw (p.1, p.2)
-    (row_fault_is ks (store_at (shape_types c.args.shape.now) c.args.store) c.args.row (map ex_tree c.args.args.now) (map value_tree c.in_ok-values-in_default.values.items) c.code_at.result calls
-    c.code_at.ensures c.in_default.not-Or c.in_default.not-And c.in_default.not-Cond c.in_ok-values-in_default.ensures (map value_tree c.deref.result.now)
-    c.in_err-apply-in_default.field-0.0 (ap (map value_tree) c.deref.ensures.value) c.in_err-apply-in_default.ensures.value)
+    rw (p.1, p.2) (row_fault_is ks s c.args.row (map ex_tree args) calls (map value_tree c.in_ok-values-in_default.values.items) c.in_ok-values-in_default.ensures (map value_tree c.deref.result.now) c.in_err-apply-in_default.field-0.0 (ap (map value_tree) c.deref.ensures.value) c.in_err-apply-in_default.ensures.value)
 
-pub operation-returns-in_ok-apply-in_default : goal.operation-returns-in_ok-apply-in_default
-operation-returns-in_ok-apply-in_default t c =
+pub strict-returns-in_ok-apply-in_default : goal.strict-returns-in_ok-apply-in_default
+strict-returns-in_ok-apply-in_default t c =
     let ks = shape_kinds c.args.shape.now in
-    let calls = calls_row ks c.args.row (map ex_tree c.args.args.now) c.requires.kinded in
-    row_value_is ks (store_at (shape_types c.args.shape.now) c.args.store) c.args.row (map ex_tree c.args.args.now) (map value_tree c.in_ok-values-in_default.values.items) c.code_at.result calls
-    c.code_at.ensures c.in_default.not-Or c.in_default.not-And c.in_default.not-Cond c.in_ok-values-in_default.ensures (map value_tree c.deref.result.now)
-    (value_tree c.in_ok-apply-in_default.field-0) (ap (map value_tree) c.deref.ensures.value) c.in_ok-apply-in_default.ensures.value
+    let s = store_at (shape_types c.args.shape.now) c.args.store in
+    let args = c.args.args.now in
+    let calls = calls_row ks c.args.row (map ex_tree args) c.requires.kinded in
+    row_value_is ks s c.args.row (map ex_tree args) calls (map value_tree c.in_ok-values-in_default.values.items) c.in_ok-values-in_default.ensures (map value_tree c.deref.result.now) (value_tree c.in_ok-apply-in_default.field-0) (ap (map value_tree) c.deref.ensures.value) c.in_ok-apply-in_default.ensures.value
 
 pub value_of-value_in-requires-clause-within : goal.value_of-value_in-requires-clause-within
 value_of-value_in-requires-clause-within t c =

@@ -1,5 +1,7 @@
 -- What holds of all ways to stores, and stays so with one more.
-use Rattle.std.proofs.Common.{◌≡◌, ℕ, ◌+◌, ◌<◌, ◌≤◌, ◌^◌, [], ◌∷◌, ◌++◌, Option, Some, None, refl, sym, ap, ◌∙◌, subst, arith}
+use Rattle.std.proofs.Common.{◌≡◌, ℕ, suc, ◌+◌, ◌-◌, length, take, get_or, ◌<◌, ◌≤◌, ◌^◌, [], ◌∷◌, ◌++◌, Option, Some, None, refl, sym, ap, ◌∙◌, subst, arith}
+use Rattle.std.proofs.Math.Seq.{take-suc}
+use Rattle.std.proofs.lemmas.List.{take_all}
 use Rattle.std.specs.declared.cmp.Ordering.{Ordering}
 use Rattle.std.specs.declared.cmp.Ordering.TheVariants.{Less, Equal, Greater}
 use Rattle.std.specs.Ordering.{nat_cmp, match_ordering}
@@ -37,9 +39,6 @@ met_scale (Some old) scale h k = common_scale old scale h.0 k.0
 pub found_scale : (size n : ℕ) (es : Reached) → AreWays size es → IfSome (lookup (is_at (nat_cmp n)) es) IsScale
 found_scale size n es ways = All-lookup IsScale (is_at (nat_cmp n)) es (All-weaker (IsWay size) (λ e. IsScale e.1) (λ e h. h.1) es ways)
 
-pub found_some : (size n old : ℕ) (es : Reached) → AreWays size es → lookup (is_at (nat_cmp n)) es ≡ Some old → 1 ≤ old
-found_some size n old es ways found = (subst (λ o. IfSome o IsScale) found (found_scale size n es ways)).0
-
 placed : (size n scale : ℕ) (e : ℕ × ℕ) (es rest : Reached) (o : Ordering) → IsWay size (n, scale) → AreWays size (e ∷ es) → AreWays size rest
     → AreWays size (match_ordering o ((n, scale) ∷ e ∷ es) ((e.0, scale) ∷ es) (e ∷ rest))
 placed size n scale e es rest Less way ways more = All-cons (IsWay size) (n, scale) (e ∷ es) way ways
@@ -67,26 +66,11 @@ first_way size e es fs same ways =
 
 -- ---- all ways
 
--- the ways that are left to add, and what comes out in the end
-pub record AddsAll (more whole now : Reached) : Type 0 where
-  pub all : with_all now more ≡ whole
-  pub size : ℕ
-  pub ways : AreWays size now
-  pub others : AreWays size more
-
-pub adds_start : (es fs : Reached) (a b : ℕ) → AreWays a es → AreWays b fs → AddsAll fs (with_all es fs) es
-adds_start es fs a b ways others = record {
-  all = refl;
-  size = a + b;
-  ways = wider a (a + b) es (omega arith) ways;
-  others = wider b (a + b) fs (omega arith) others;
-}
-
-module _ (e : ℕ × ℕ) (es whole now : Reached) (left : AddsAll (e ∷ es) whole now) where
-  pub adds_step : AddsAll es whole (with_way now e.0 e.1)
-  adds_step =
-      let way = All-head (IsWay left.size) e es left.others in
-      record { all = left.all; size = left.size; ways = way_added left.size e.0 e.1 now way.0 way.1 left.ways; others = All-tail (IsWay left.size) e es left.others }
+pub all_added : (size : ℕ) (es fs : Reached) → AreWays size es → AreWays size fs → AreWays size (with_all es fs)
+all_added size es [] ways others = ways
+all_added size es (f ∷ fs) ways others =
+    let way = All-head (IsWay size) f fs others in
+    all_added size (with_way es f.0 f.1) fs (way_added size f.0 f.1 es way.0 way.1 ways) (All-tail (IsWay size) f fs others)
 
 -- ---- the scale of all ways
 
@@ -129,3 +113,22 @@ module _ (e : ℕ × ℕ) (es whole : Reached) (scale : ℕ) (left : ScaledFrom 
     ways = (front_ways left.size es e left.ways).0;
     some = (common_scale e.1 scale scaled_some left.some).0;
   }
+
+-- the list from its last way on
+module _ (es : Reached) where
+  pub scaled_whole : (size : ℕ) → AreWays size es → ScaledFrom (take (length es - 0) es) es 1
+  scaled_whole size ways = subst (λ fs. ScaledFrom fs es 1) (sym (take_all (length es - 0) es (omega arith))) (scaled_start es size ways)
+
+  module _ (i scale : ℕ) (within : i < length es) (left : ScaledFrom (take (length es - i) es) es scale) where
+    abbrev last_left : ℕ × ℕ
+    last_left = get_or es (length es - 1 - i) (0, 0)
+
+    one_less : ScaledFrom (take (length es - (i + 1)) es ++ last_left ∷ []) es scale
+    one_less =
+        let here : length es - i ≡ suc (length es - (i + 1)) = omega (arith, within) in
+        let at : length es - (i + 1) ≡ length es - 1 - i = omega arith in
+        subst (λ fs. ScaledFrom fs es scale)
+        (ap (λ k. take k es) here ∙ (take-suc es (length es - (i + 1)) (0, 0) (omega (arith, within)) ∙ ap (λ k. take (length es - (i + 1)) es ++ get_or es k (0, 0) ∷ []) at)) left
+
+    pub scaled_less : ScaledFrom (take (length es - (i + 1)) es) es (capped (lcm_of last_left.1 scale))
+    scaled_less = scaled_step last_left (take (length es - (i + 1)) es) es scale one_less

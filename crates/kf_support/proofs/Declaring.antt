@@ -1,7 +1,5 @@
 -- What the pass over a program comes to, declaration by declaration.
-use Rattle.std.proofs.Common.{◌≡◌, ℕ, suc, ◌+◌, ◌<◌, ◌≤◌, List, [], ◌∷◌, length, map, drop, get_or, Ok, refl, sym, ap, ◌∙◌, subst, arith}
-use Rattle.std.specs.Ordering.{nat_cmp}
-use Rattle.std.specs.BTreeMap.{insert_entry}
+use Rattle.std.proofs.Common.{◌≡◌, ℕ, suc, ◌+◌, ◌<◌, ◌≤◌, List, [], ◌∷◌, ◌++◌, length, map, drop, get_or, Ok, refl, sym, ap, ◌∙◌, subst, arith}
 use Rattle.kf_value.specs.Shapes.{shape_types}
 use Rattle.kf_value.proofs.ListLemmas.{left_step, left_end}
 use Rattle.kf_core.specs.declared.dx.Dx.{Dx}
@@ -42,9 +40,9 @@ module _ (program : Program) (turns : ℕ) where
     pub same : whole ≡ then_ok (decls_from i (map dx_tree (drop i (dx_items program.decls))) es) behind
     pub ways : AreIts program.shape turns es
 
-  pub decls_start : (none es : Reached) → none ≡ [] → es ≡ insert_entry nat_cmp none 0 1 → DeclsSoFar 0 es
+  pub decls_start : (none es : Reached) → none ≡ [] → es ≡ none ++ (0, 1) ∷ [] → DeclsSoFar 0 es
   decls_start none es empty is =
-      let first : es ≡ (0, 1) ∷ [] = is ∙ ap (λ fs. insert_entry nat_cmp fs 0 1) empty in
+      let first : es ≡ (0, 1) ∷ [] = is ∙ ap (λ fs. fs ++ (0, 1) ∷ []) empty in
       rw first (record { same = refl; ways = first_store program.shape })
 
   module _ (i : ℕ) (es : Reached) (before : DeclsSoFar i es) where

@@ -10,10 +10,10 @@ use Rattle.kf_frac.proofs.CommonMultiples.{lcm_is}
 use Rattle.kf_core.proofs.Scales.{lcm_divides}
 use Rattle.kf_support.specs.Carried.{capped}
 
-pub bound : ℕ
+unfoldable pub bound : ℕ
 bound = 2 ^ 127
 
-below_or_not : (a b : ℕ) → (a < b) ⊎ (b ≤ a)
+pub below_or_not : (a b : ℕ) → (a < b) ⊎ (b ≤ a)
 below_or_not a zero = inr (omega arith)
 below_or_not zero (suc b) = inl (omega arith)
 below_or_not (suc a) (suc b) = later (below_or_not a b)

@@ -10,6 +10,7 @@ mod Carrying
 mod Nothing
 mod Telling
 mod Adding
+mod Settling
 mod Weighing
 mod Stepping
 mod Copying

@@ -1,6 +1,5 @@
 -- What a pass comes to, statement by statement and turn by turn.
 use Rattle.std.proofs.Common.{◌≡◌, ℕ, zero, suc, ◌+◌, ◌-◌, ◌<◌, ◌≤◌, true, false, List, [], ◌∷◌, length, Ok, refl, sym, ap, ◌∙◌, subst, arith}
-use Rattle.std.proofs.lemmas.List.Elements.{All-head, All-tail}
 use Rattle.kf_value.specs.Types.{product}
 use Rattle.kf_value.specs.Shapes.{shape_types, shape_sizes}
 use Rattle.kf_value.specs.declared.shape.Shape.{Shape}
@@ -15,9 +14,8 @@ use Rattle.kf_core.proofs.SoundParts.{sound_first}
 use Rattle.kf_eval.specs.Kinds.{shape_kinds}
 use Rattle.kf_support.specs.declared.faults.Halt.{Halt}
 use Rattle.kf_support.specs.declared.faults.Halt.TheVariants as halt
-use Rattle.kf_support.specs.Answers.{IsHaltOf, AreWays}
-use Rattle.kf_support.specs.Carried.{Reached, with_way, with_all, carry_step, guard_lead, last_lead, carry_loop, carry, carry_all, NothingLeadsNowhere}
-use Rattle.kf_support.proofs.Adding.{IsWay, way_added}
+use Rattle.kf_support.specs.Answers.{IsHaltOf, AreWays, AreReached}
+use Rattle.kf_support.specs.Carried.{Reached, with_all, carry_step, guard_lead, last_lead, carry_loop, carry, carry_all, NothingLeadsNowhere}
 
 -- ---- what stops a step stops all
 
@@ -32,14 +30,6 @@ halts_as one other e same h = subst (λ r. IsHaltOf r e) (sym same) h
 pub goes_on : {A B : Type 0} (first : Passed A) (next : A → Passed B) (x : A) → first ≡ Ok x → then_ok first next ≡ next x
 goes_on first next x h = ap (λ r. then_ok r next) h
 
--- ---- the ways of both
-
-pub all_added : (size : ℕ) (es fs : Reached) → AreWays size es → AreWays size fs → AreWays size (with_all es fs)
-all_added size es [] ways others = ways
-all_added size es (f ∷ fs) ways others =
-    let way = All-head (IsWay size) f fs others in
-    all_added size (with_way es f.0 f.1) fs (way_added size f.0 f.1 es way.0 way.1 ways) (All-tail (IsWay size) f fs others)
-
 pub no_stores : (es : Reached) → length es ≡ 0 → es ≡ []
 no_stores [] empty = refl
 no_stores (e ∷ es) empty = absurd (omega arith)
@@ -51,7 +41,7 @@ module _ (shape : Shape) (turns : ℕ) where
   leads ss es = carry_all (shape_types shape) turns (sts ss) es
 
   abbrev pub AreIts : Reached → Type 0
-  AreIts es = AreWays (product (shape_sizes shape)) es
+  AreIts es = AreReached (product (shape_sizes shape)) es
 
   -- the statements that are left, and the stores that are reached before them
   pub record PassSoFar (whole : Passed Reached) (left : List StTree) (es : Reached) : Type 0 where
@@ -97,46 +87,46 @@ module _ (shape : Shape) (turns : ℕ) (d : Dx) (body : List StTree) where
   takes es = carry_step (guard_lead true test) [] es
 
   abbrev leaves : Reached → Reached → Passed Reached
-  leaves left es = carry_step (guard_lead false test) left es
+  leaves left es = carry_step (guard_lead false test) (with_all [] left) es
 
-  -- behind so many turns
+  -- behind so many turns, with ways to the stores that have left
   pub record LoopSoFar (whole : Passed Reached) (done : ℕ) (left es : Reached) : Type 0 where
-    pub same : whole ≡ turns_left (turns - done) left es
+    pub same : whole ≡ turns_left (turns - done) (with_all [] left) es
     pub ways : AreIts shape turns es
-    pub left_ways : AreIts shape turns left
+    pub left_ways : AreWays (product (shape_sizes shape)) left
 
   module _ (whole : Passed Reached) (done : ℕ) (left es : Reached) (before : LoopSoFar whole done left es) where
     module _ (within : done < turns) where
-      one_more : whole ≡ turns_left (suc (turns - (done + 1))) left es
-      one_more = let count : turns - done ≡ suc (turns - (done + 1)) = omega arith in before.same ∙ ap (λ k. turns_left k left es) count
+      one_more : whole ≡ turns_left (suc (turns - (done + 1))) (with_all [] left) es
+      one_more = let count : turns - done ≡ suc (turns - (done + 1)) = omega arith in before.same ∙ ap (λ k. turns_left k (with_all [] left) es) count
 
       pub guard_fails : (e : Halt) → IsHaltOf (takes es) e → IsHaltOf whole e
       guard_fails e h = halts_as whole _ e one_more (halts (takes es) _ e h)
 
-      module _ (turn gone : Reached) (taken : takes es ≡ Ok turn) (left_is : leaves left es ≡ Ok gone) where
-        next_turn : whole ≡ then_ok (leads shape turns body turn) (turns_left (turns - (done + 1)) gone)
-        next_turn = one_more ∙ (goes_on (takes es) _ turn taken ∙ goes_on (leaves left es) _ gone left_is)
+      module _ (turn gone : Reached) (taken : takes es ≡ Ok turn) (left_is : leaves left es ≡ Ok (with_all [] gone)) where
+        next_turn : whole ≡ then_ok (leads shape turns body turn) (turns_left (turns - (done + 1)) (with_all [] gone))
+        next_turn = one_more ∙ (goes_on (takes es) _ turn taken ∙ goes_on (leaves left es) _ (with_all [] gone) left_is)
 
-        pub none_taken : NothingLeadsNowhere → turn ≡ [] → whole ≡ Ok gone
+        pub none_taken : NothingLeadsNowhere → turn ≡ [] → whole ≡ Ok (with_all [] gone)
         none_taken nothing empty =
             let none = nothing (shape_types shape) turns (sts body) in
             next_turn
-            ∙ (ap (λ fs. then_ok (leads shape turns body fs) (turns_left (turns - (done + 1)) gone)) empty
-            ∙ (goes_on (leads shape turns body []) (turns_left (turns - (done + 1)) gone) [] none
-            ∙ no_turns test d.at (leads shape turns body) (turns - (done + 1)) gone none))
+            ∙ (ap (λ fs. then_ok (leads shape turns body fs) (turns_left (turns - (done + 1)) (with_all [] gone))) empty
+            ∙ (goes_on (leads shape turns body []) (turns_left (turns - (done + 1)) (with_all [] gone)) [] none
+            ∙ no_turns test d.at (leads shape turns body) (turns - (done + 1)) (with_all [] gone) none))
 
         pub body_fails : (e : Halt) → IsHaltOf (leads shape turns body turn) e → IsHaltOf whole e
-        body_fails e h = halts_as whole _ e next_turn (halts (leads shape turns body turn) (turns_left (turns - (done + 1)) gone) e h)
+        body_fails e h = halts_as whole _ e next_turn (halts (leads shape turns body turn) (turns_left (turns - (done + 1)) (with_all [] gone)) e h)
 
-        pub body_done : (fs : Reached) → leads shape turns body turn ≡ Ok fs → AreIts shape turns fs → AreIts shape turns gone → LoopSoFar whole (done + 1) gone fs
+        pub body_done : (fs : Reached) → leads shape turns body turn ≡ Ok fs → AreIts shape turns fs → AreWays (product (shape_sizes shape)) gone → LoopSoFar whole (done + 1) gone fs
         body_done fs is ways left_ways = record {
-          same = next_turn ∙ goes_on (leads shape turns body turn) (turns_left (turns - (done + 1)) gone) fs is;
+          same = next_turn ∙ goes_on (leads shape turns body turn) (turns_left (turns - (done + 1)) (with_all [] gone)) fs is;
           ways = ways;
           left_ways = left_ways;
         }
 
-    pub last_is : turns ≤ done → whole ≡ carry_step (last_lead d.at test) left es
-    last_is past = let count : turns - done ≡ 0 = omega arith in before.same ∙ ap (λ k. turns_left k left es) count
+    pub last_is : turns ≤ done → whole ≡ carry_step (last_lead d.at test) (with_all [] left) es
+    last_is past = let count : turns - done ≡ 0 = omega arith in before.same ∙ ap (λ k. turns_left k (with_all [] left) es) count
 
-  pub loop_start : (left es : Reached) → left ≡ [] → AreIts shape turns left → AreIts shape turns es → LoopSoFar (turns_left turns [] es) 0 left es
-  loop_start left es empty left_ways ways = let whole : turns ≡ turns - 0 = omega arith in record { same = ap (λ fs. turns_left turns fs es) (sym empty) ∙ ap (λ k. turns_left k left es) whole; ways = ways; left_ways = left_ways }
+  pub loop_start : (left es : Reached) → left ≡ [] → AreWays (product (shape_sizes shape)) left → AreIts shape turns es → LoopSoFar (turns_left turns [] es) 0 left es
+  loop_start left es empty left_ways ways = let whole : turns ≡ turns - 0 = omega arith in record { same = ap (λ fs. turns_left turns (with_all [] fs) es) (sym empty) ∙ ap (λ k. turns_left k (with_all [] left) es) whole; ways = ways; left_ways = left_ways }

@@ -78,7 +78,7 @@ module _ (Q : ℕ → ℕ → Type 0) (nice : Nice Q) where
 
 -- ---- one way more
 
-data Adds (n s : ℕ) : Reached → Reached → Type 0 where
+pub data Adds (n s : ℕ) : Reached → Reached → Type 0 where
   fresh : (es : Reached) → Each (λ f. n < f.0) es → Adds n s es ((n, s) ∷ es)
   again : (e : ℕ × ℕ) (es : Reached) → n ≡ e.0 → Adds n s (e ∷ es) ((e.0, capped (lcm_of e.1 s)) ∷ es)
   past : (e : ℕ × ℕ) (es fs : Reached) → e.0 < n → Adds n s es fs → Adds n s (e ∷ es) (e ∷ fs)
@@ -103,12 +103,12 @@ module _ (n s : ℕ) where
   adds_at e es good Equal is later = again e es (ranked n e.0 Equal is)
   adds_at e es good Greater is later = past e es (with_way es n s) (ranked n e.0 Greater is) later
 
-  adds : (es : Reached) → Good es → Adds n s es (with_way es n s)
+  pub adds : (es : Reached) → Good es → Adds n s es (with_way es n s)
   adds [] good = fresh [] tt
   adds (e ∷ es) good = adds_at e es good (nat_cmp n e.0) refl (adds es good.2)
 
   module _ (P : ℕ → Type 0) (here : P n) where
-    each_adds : {es fs : Reached} → Adds n s es fs → Each (λ f. P f.0) es → Each (λ f. P f.0) fs
+    pub each_adds : {es fs : Reached} → Adds n s es fs → Each (λ f. P f.0) es → Each (λ f. P f.0) fs
     each_adds (fresh es above) h = (here, h)
     each_adds (again e es is) h = h
     each_adds (past e es fs low later) h = (h.0, each_adds later h.1)

@@ -1,14 +1,15 @@
 -- One step from all stores, store by store.
-use Rattle.std.proofs.Common.{◌≡◌, ℕ, zero, suc, ◌*◌, ◌<◌, ◌≤◌, Bool, true, false, List, [], ◌∷◌, Option, Some, Ok, Err, refl, sym, ap, ◌∙◌, subst, arith, if◌then◌else◌}
+use Rattle.std.proofs.Common.{◌≡◌, ℕ, zero, suc, ◌*◌, ◌<◌, ◌≤◌, Bool, true, false, List, [], ◌∷◌, Option, Some, Ok, Err, ◌++◌, refl, sym, ap, ◌∙◌, subst, arith, if◌then◌else◌, append_assoc, append-nil}
 use Rattle.kf_core.specs.Choices.{Weighted, total}
 use Rattle.kf_core.specs.Runs.{LoopBound, Tried}
 use Rattle.kf_core.specs.Results.{then_ok}
 use Rattle.kf_core.specs.Support.{Passed, each_moved, can_be, bounded}
 use Rattle.kf_support.specs.declared.faults.Halt.{Halt}
 use Rattle.kf_support.specs.declared.faults.Halt.TheVariants as halt
-use Rattle.kf_support.specs.Answers.{AreWays, IsHaltOf}
-use Rattle.kf_support.specs.Carried.{Reached, Lead, capped, with_way, with_ways, carry_step, staying, guard_lead, last_lead}
-use Rattle.kf_support.proofs.Adding.{IsWay, IsScale, capped_scale, way_added, first_way}
+use Rattle.kf_support.specs.Answers.{AreWays, IsHaltOf, ways_to}
+use Rattle.kf_support.specs.Carried.{Reached, Lead, capped, with_all, with_ways, carry_step, staying, guard_lead, last_lead}
+use Rattle.kf_support.proofs.Adding.{IsWay, IsScale, capped_scale, first_way}
+use Rattle.kf_support.proofs.Settling.{made_more, one_more_way}
 
 pub passed_value : {A B : Type 0} (r : Passed A) (f : A → B) (y : B) → then_ok r (λ x. Ok (f x)) ≡ Ok y → (x : A) × (r ≡ Ok x) × (y ≡ f x)
 passed_value (Ok x) f y e = let same : y ≡ f x = (cc) in (x, refl, same)
@@ -16,29 +17,34 @@ passed_value (Err g) f y e = absurd (cc)
 
 -- ---- where the choices in a store lead
 
--- the moves that are left, beside those that are made
-pub record MovesOn (at scale size : ℕ) (left : List (Option ℕ)) (whole : Passed Reached) (now : Reached) : Type 0 where
-  pub all : then_ok (each_moved at left) (λ ms. Ok (with_ways now ms scale)) ≡ whole
-  pub ways : AreWays size now
+-- the moves that are left, behind those that are made
+pub record MovesOn (at scale size : ℕ) (left : List (Option ℕ)) (whole : Passed Reached) (made : Reached) : Type 0 where
+  pub all : then_ok (each_moved at left) (λ ms. Ok (made ++ ways_to ms scale)) ≡ whole
+  pub ways : AreWays size made
 
-way_first : (r : Passed (List ℕ)) (now : Reached) (m scale : ℕ)
-    → then_ok (then_ok r (λ others. Ok (m ∷ others))) (λ ms. Ok (with_ways now ms scale)) ≡ then_ok r (λ ms. Ok (with_ways (with_way now m scale) ms scale))
-way_first (Ok ms) now m scale = refl
-way_first (Err f) now m scale = refl
+way_first : (r : Passed (List ℕ)) (made : Reached) (m scale : ℕ)
+    → then_ok {B = Reached} (then_ok {B = List ℕ} r (λ others. Ok (m ∷ others))) (λ ms. Ok (made ++ ways_to ms scale)) ≡ then_ok {B = Reached} r (λ ms. Ok ((made ++ (m, scale) ∷ []) ++ ways_to ms scale))
+way_first (Ok ms) made m scale = let joined = append_assoc made ((m, scale) ∷ []) (ways_to ms scale) in λ i. Ok (sym joined i)
+way_first (Err f) made m scale = refl
 
-module _ (at scale size : ℕ) (whole : Passed Reached) (now : Reached) where
-  pub moves_step : (m : ℕ) (ms left : List (Option ℕ)) → left ≡ Some m ∷ ms → m < size → IsScale scale → MovesOn at scale size left whole now
-      → MovesOn at scale size ms whole (with_way now m scale)
+module _ (at scale size : ℕ) (whole : Passed Reached) (made : Reached) where
+  pub moves_step : (m : ℕ) (ms left : List (Option ℕ)) → left ≡ Some m ∷ ms → m < size → IsScale scale → MovesOn at scale size left whole made
+      → MovesOn at scale size ms whole (made ++ (m, scale) ∷ [])
   moves_step m ms left next below is had = record {
-    all = sym (way_first (each_moved at ms) now m scale) ∙ (ap (λ l. then_ok (each_moved at l) (λ ks. Ok (with_ways now ks scale))) (sym next) ∙ had.all);
-    ways = way_added size m scale now below is had.ways;
+    all = sym (way_first (each_moved at ms) made m scale) ∙ (ap (λ l. then_ok (each_moved at l) (λ ks. Ok (made ++ ways_to ks scale))) (sym next) ∙ had.all);
+    ways = one_more_way size m scale made below is had.ways;
   }
 
--- ---- the stores that are left, beside those that others lead to
+  pub moves_end : (left : List (Option ℕ)) → left ≡ [] → MovesOn at scale size left whole made → whole ≡ Ok made
+  moves_end left none had =
+      let all : then_ok (each_moved at []) (λ ms. Ok (made ++ ways_to ms scale)) ≡ whole = ap (λ l. then_ok (each_moved at l) (λ ms. Ok (made ++ ways_to ms scale))) (sym none) ∙ had.all in
+      sym all ∙ (let e = append-nil made in λ i. Ok (e i))
 
-pub record CarriesOn (lead : Lead) (size : ℕ) (left : Reached) (whole : Passed Reached) (now : Reached) : Type 0 where
-  pub all : carry_step lead now left ≡ whole
-  pub ways : AreWays size now
+-- ---- the stores that are left, and the ways that others lead to
+
+pub record CarriesOn (lead : Lead) (size : ℕ) (left : Reached) (whole : Passed Reached) (made : Reached) : Type 0 where
+  pub all : carry_step lead (with_all [] made) left ≡ whole
+  pub ways : AreWays size made
   pub rest : AreWays size left
 
 -- a store's scale, times that of its choices
@@ -50,26 +56,36 @@ grown_scale scale n some more = capped_scale (scale * n) (some_product scale n s
     some_product (suc a) zero p q = absurd (omega arith)
     some_product (suc a) (suc b) p q = omega arith
 
-module _ (lead : Lead) (size : ℕ) (whole : Passed Reached) (now : Reached) (e : ℕ × ℕ) (es left : Reached) (next : left ≡ e ∷ es) (had : CarriesOn lead size left whole now) where
+module _ (lead : Lead) (size : ℕ) (whole : Passed Reached) (made : Reached) (e : ℕ × ℕ) (es left : Reached) (next : left ≡ e ∷ es) (had : CarriesOn lead size left whole made) where
   pub here : IsWay size e
   here = (first_way size e es left next had.rest).0
 
-  opened : carry_step lead now (e ∷ es) ≡ whole
-  opened = ap (carry_step lead now) (sym next) ∙ had.all
+  opened : carry_step lead (with_all [] made) (e ∷ es) ≡ whole
+  opened = ap (carry_step lead (with_all [] made)) (sym next) ∙ had.all
 
-  pub carries_step : (to : List ℕ) (n : ℕ) (after : Reached) → lead e.0 ≡ Ok (to, n) → after ≡ with_ways now to (capped (e.1 * n)) → AreWays size after
+  pub carries_step : (to : List ℕ) (n : ℕ) (after : Reached) → lead e.0 ≡ Ok (to, n) → after ≡ made ++ ways_to to (capped (e.1 * n)) → AreWays size after
       → CarriesOn lead size es whole after
   carries_step to n after leads is ways = record {
-    all = ap (λ l. carry_step lead l es) is ∙ (ap (λ (r : Passed (List ℕ × ℕ)). then_ok r (λ k. carry_step lead (with_ways now k.0 (capped (e.1 * k.1))) es)) (sym leads) ∙ opened);
+    all = ap (λ l. carry_step lead l es) (ap (with_all []) is ∙ made_more made to (capped (e.1 * n)))
+        ∙ (ap (λ (r : Passed (List ℕ × ℕ)). then_ok r (λ k. carry_step lead (with_ways (with_all [] made) k.0 (capped (e.1 * k.1))) es)) (sym leads) ∙ opened);
     ways = ways;
     rest = (first_way size e es left next had.rest).1;
   }
 
   -- the first fault
   pub carries_fault : (h : Halt) → IsHaltOf (lead e.0) h → IsHaltOf whole h
-  carries_fault (halt.Fault kind at) is = sym opened ∙ ap (λ (r : Passed (List ℕ × ℕ)). then_ok r (λ k. carry_step lead (with_ways now k.0 (capped (e.1 * k.1))) es)) is
+  carries_fault (halt.Fault kind at) is = sym opened ∙ ap (λ (r : Passed (List ℕ × ℕ)). then_ok r (λ k. carry_step lead (with_ways (with_all [] made) k.0 (capped (e.1 * k.1))) es)) is
   carries_fault halt.Scale is = is
   carries_fault halt.Mem is = tt
+
+-- other ways that lead to the same
+pub carries_same : (lead : Lead) (size : ℕ) (left : Reached) (whole : Passed Reached) (made others : Reached) → with_all [] others ≡ with_all [] made → AreWays size others → CarriesOn lead size left whole made
+    → CarriesOn lead size left whole others
+carries_same lead size left whole made others same ways had = record {
+  all = ap (λ es. carry_step lead es left) same ∙ had.all;
+  ways = ways;
+  rest = had.rest;
+}
 
 -- ---- a fault of what comes first
 
@@ -112,20 +128,20 @@ module _ (r : Passed (List Weighted)) (moves : List Weighted → Passed (List �
   pub moved_fault : (h : Halt) → IsHaltOf (moves ws) h → IsHaltOf (lead_of r) h
   moved_fault h fault = fault_same (lead_of r) (lead_of (Ok ws)) h (ap lead_of is) (then_fault (moves ws) (λ ms. led ms (total ws)) h fault)
 
-pub self_added : (size n scale : ℕ) (b : Bool) (now after : Reached) → n < size → IsScale scale → after ≡ with_ways now (if b then n ∷ [] else []) scale → AreWays size now → AreWays size after
-self_added size n scale true now after below is same ways = subst (AreWays size) (sym same) (way_added size n scale now below is ways)
-self_added size n scale false now after below is same ways = subst (AreWays size) (sym same) ways
+pub self_added : (size n scale : ℕ) (b : Bool) (made after : Reached) → n < size → IsScale scale → after ≡ made ++ ways_to (if b then n ∷ [] else []) scale → AreWays size made → AreWays size after
+self_added size n scale true made after below is same ways = subst (AreWays size) (sym same) (one_more_way size n scale made below is ways)
+self_added size n scale false made after below is same ways = subst (AreWays size) (sym (same ∙ append-nil made)) ways
 
-module _ (b : Bool) (guard : ℕ → Tried) (size : ℕ) (whole : Passed Reached) (now : Reached) (e : ℕ × ℕ) (es left : Reached) (next : left ≡ e ∷ es)
-    (had : CarriesOn (guard_lead b guard) size left whole now) (ws : List Weighted) (n : ℕ) (is : guard e.0 ≡ Ok ws) (sum : n ≡ total ws) (some : 1 ≤ n) where
-  pub guard_step : (there : Bool) (after : Reached) → there ≡ can_be b (Ok ws) → after ≡ with_ways now (if there then e.0 ∷ [] else []) (capped (e.1 * n))
+module _ (b : Bool) (guard : ℕ → Tried) (size : ℕ) (whole : Passed Reached) (made : Reached) (e : ℕ × ℕ) (es left : Reached) (next : left ≡ e ∷ es)
+    (had : CarriesOn (guard_lead b guard) size left whole made) (ws : List Weighted) (n : ℕ) (is : guard e.0 ≡ Ok ws) (sum : n ≡ total ws) (some : 1 ≤ n) where
+  pub guard_step : (there : Bool) (after : Reached) → there ≡ can_be b (Ok ws) → after ≡ made ++ ways_to (if there then e.0 ∷ [] else []) (capped (e.1 * n))
       → CarriesOn (guard_lead b guard) size es whole after
   guard_step there after test same =
       let way = (first_way size e es left next had.rest).0 in
       let to : List Weighted → List ℕ = λ ws. if can_be b (Ok ws) then e.0 ∷ [] else [] in
-      let known : after ≡ with_ways now (to ws) (capped (e.1 * n)) = same ∙ ap (λ (t : Bool). with_ways now (if t then e.0 ∷ [] else []) (capped (e.1 * n))) test in
-      carries_step (guard_lead b guard) size whole now e es left next had (to ws) n after (same_value (guard e.0) ws to n is sum) known
-      (self_added size e.0 (capped (e.1 * n)) there now after way.0 (grown_scale e.1 n way.1.0 some) same had.ways)
+      let known : after ≡ made ++ ways_to (to ws) (capped (e.1 * n)) = same ∙ ap (λ (t : Bool). made ++ ways_to (if t then e.0 ∷ [] else []) (capped (e.1 * n))) test in
+      carries_step (guard_lead b guard) size whole made e es left next had (to ws) n after (same_value (guard e.0) ws to n is sum) known
+      (self_added size e.0 (capped (e.1 * n)) there made after way.0 (grown_scale e.1 n way.1.0 some) same had.ways)
 
 -- ---- a guard that must be false
 
@@ -140,27 +156,27 @@ module _ (at : ℕ) (guard : ℕ → Tried) (n : ℕ) where
   last_leaves : (ws : List Weighted) → guard n ≡ Ok ws → can_be true (Ok ws) ≡ false → last_lead at guard n ≡ guard_lead false guard n
   last_leaves ws is test = ap (λ r. then_ok r (λ _. guard_lead false guard n)) (ap (bounded at n) is ∙ bounded_is at n ws false test)
 
-module _ (at : ℕ) (guard : ℕ → Tried) (size : ℕ) (whole : Passed Reached) (now : Reached) (e : ℕ × ℕ) (es left : Reached) (next : left ≡ e ∷ es)
-    (had : CarriesOn (last_lead at guard) size left whole now) (ws : List Weighted) (n : ℕ) (is : guard e.0 ≡ Ok ws) (sum : n ≡ total ws) (some : 1 ≤ n)
+module _ (at : ℕ) (guard : ℕ → Tried) (size : ℕ) (whole : Passed Reached) (made : Reached) (e : ℕ × ℕ) (es left : Reached) (next : left ≡ e ∷ es)
+    (had : CarriesOn (last_lead at guard) size left whole made) (ws : List Weighted) (n : ℕ) (is : guard e.0 ≡ Ok ws) (sum : n ≡ total ws) (some : 1 ≤ n)
     (never : can_be true (Ok ws) ≡ false) where
-  pub last_step : (there : Bool) (after : Reached) → there ≡ can_be false (Ok ws) → after ≡ with_ways now (if there then e.0 ∷ [] else []) (capped (e.1 * n))
+  pub last_step : (there : Bool) (after : Reached) → there ≡ can_be false (Ok ws) → after ≡ made ++ ways_to (if there then e.0 ∷ [] else []) (capped (e.1 * n))
       → CarriesOn (last_lead at guard) size es whole after
   last_step there after test same =
       let way = (first_way size e es left next had.rest).0 in
       let to : List Weighted → List ℕ = λ ws. if can_be false (Ok ws) then e.0 ∷ [] else [] in
-      let known : after ≡ with_ways now (to ws) (capped (e.1 * n)) = same ∙ ap (λ (t : Bool). with_ways now (if t then e.0 ∷ [] else []) (capped (e.1 * n))) test in
-      carries_step (last_lead at guard) size whole now e es left next had (to ws) n after (last_leaves at guard e.0 ws is never ∙ same_value (guard e.0) ws to n is sum) known
-      (self_added size e.0 (capped (e.1 * n)) there now after way.0 (grown_scale e.1 n way.1.0 some) same had.ways)
+      let known : after ≡ made ++ ways_to (to ws) (capped (e.1 * n)) = same ∙ ap (λ (t : Bool). made ++ ways_to (if t then e.0 ∷ [] else []) (capped (e.1 * n))) test in
+      carries_step (last_lead at guard) size whole made e es left next had (to ws) n after (last_leaves at guard e.0 ws is never ∙ same_value (guard e.0) ws to n is sum) known
+      (self_added size e.0 (capped (e.1 * n)) there made after way.0 (grown_scale e.1 n way.1.0 some) same had.ways)
 
 -- ---- a store that leads to one other
 
 pub same_scale : (s : ℕ) → IsScale s → s ≡ capped (s * 1)
 same_scale s is = omega (arith, is.0, is.1)
 
-module _ (lead : Lead) (size : ℕ) (whole : Passed Reached) (now : Reached) (e : ℕ × ℕ) (es left : Reached) (next : left ≡ e ∷ es) (had : CarriesOn lead size left whole now)
+module _ (lead : Lead) (size : ℕ) (whole : Passed Reached) (made : Reached) (e : ℕ × ℕ) (es left : Reached) (next : left ≡ e ∷ es) (had : CarriesOn lead size left whole made)
     (to : ℕ) (leads : lead e.0 ≡ led (to ∷ []) 1) (below : to < size) where
-  pub single_step : (after : Reached) → after ≡ with_way now to e.1 → CarriesOn lead size es whole after
+  pub single_step : (after : Reached) → after ≡ made ++ (to, e.1) ∷ [] → CarriesOn lead size es whole after
   single_step after same =
       let way = (first_way size e es left next had.rest).0 in
-      carries_step lead size whole now e es left next had (to ∷ []) 1 after leads (same ∙ ap (with_way now to) (same_scale e.1 way.1))
-      (subst (AreWays size) (sym same) (way_added size to e.1 now below way.1 had.ways))
+      carries_step lead size whole made e es left next had (to ∷ []) 1 after leads (same ∙ ap (λ s. made ++ (to, s) ∷ []) (same_scale e.1 way.1))
+      (subst (AreWays size) (sym same) (one_more_way size to e.1 made below way.1 had.ways))

@@ -1,10 +1,11 @@
 -- What choices are where a pass is defined.
-use Rattle.std.proofs.Common.{Bool, true, false, not, ◌||◌, ◌≡◌, ℕ, ◌+◌, ◌<◌, ◌≤◌, List, [], ◌∷◌, length, map, drop, get_or, All, Ok, Err, refl, sym, ap, ◌∙◌, arith}
+use Rattle.std.proofs.Common.{Bool, true, false, not, ◌||◌, ◌≡◌, ℕ, ◌+◌, ◌<◌, ◌≤◌, List, [], ◌∷◌, length, map, drop, get_or, All, Ok, Err, Some, slice_get, refl, sym, ap, subst, ◌∙◌, arith}
 use Rattle.std.proofs.lemmas.List.Elements.{All-head, recursion_from_All}
 use Rattle.std.proofs.lemmas.List.Sums.{sum_by-cons}
 use Rattle.kf_value.specs.Values.{ValueTree, truth}
 use Rattle.kf_value.proofs.ListLemmas.{each_at, mapped_read, left_step}
-use Rattle.kf_core.specs.Dxs.{DxShape}
+use Rattle.kf_value.specs.declared.shape.Shape.{Shape}
+use Rattle.kf_core.specs.Dxs.{DxShape, DxTree}
 use Rattle.kf_core.specs.Results.{then_ok}
 use Rattle.kf_core.specs.Choices.{Weighted, Chosen, listed, lowest, gathered, choices, total}
 use Rattle.kf_core.specs.ChoiceLaws.{ChoicesAreShares}
@@ -14,6 +15,9 @@ use Rattle.kf_value.specs.Views.{value_tree}
 use Rattle.kf_core.specs.Support.{can_be}
 use Rattle.kf_core.specs.Runs.{placed_at}
 use Rattle.kf_eval.specs.Choices.{IsChoiceFaultOf, weighted_tree}
+use Rattle.kf_eval.specs.Memos.{IsChosen, IsKeptAt, kept}
+use Rattle.kf_eval.specs.declared.memo.Memo.{Memo}
+use Rattle.kf_eval.specs.declared.choice.Choice.{Choice}
 use Rattle.kf_eval.specs.declared.choice.Weighted as coded
 use Rattle.kf_eval.specs.declared.choice.ChoiceError.{ChoiceError}
 use Rattle.kf_eval.specs.declared.choice.ChoiceError.TheVariants as error
@@ -70,3 +74,11 @@ can_be_any false (c ∷ cs) = alike_false (truth (value_tree c.value)) (can_be_a
     alike_false : (t : Bool) {s u : Bool} → s ≡ u → (beq t false || s) ≡ (not t || u)
     alike_false true h = h
     alike_false false h = refl
+
+-- ---- what is kept
+
+pub kept_choice : (shape : Shape) (d : DxTree) (store place : ℕ) (m : Memo) (c : Choice) → IsKeptAt shape d store m place → slice_get (kept m) place ≡ Some c → IsChosen shape d (store, c)
+kept_choice shape d store place m c at read =
+    let there = at.there in
+    let same : at.choice ≡ c = cc (there, read) in
+    subst (λ x. IsChosen shape d (store, x)) same at.chosen

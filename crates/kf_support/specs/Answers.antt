@@ -1,7 +1,7 @@
 -- For bodies: what the program may answer where a pass is defined.
-use Rattle.std.specs.Prelude.{◌≡◌, ℕ, ◌^◌, ◌<◌, ◌≤◌, Result, Ok, Err, MatchResult}
-use Rattle.std.specs.List.{All}
-use Rattle.std.specs.BTreeMap.{BTreeMap}
+use Rattle.std.specs.Prelude.{◌≡◌, ℕ, ◌^◌, ◌<◌, ◌≤◌, List, [], ◌∷◌, map, Result, Ok, Err, MatchResult}
+use Rattle.std.specs.List.{All, AllByRecursion as Each}
+use Rattle.std.specs.Global.{Vec}
 use Rattle.kf_ops.specs.Values as ops
 use Rattle.kf_core.specs.Choices as choice
 use Rattle.kf_core.specs.Runs.{Cause, Choosing, Halted}
@@ -43,9 +43,22 @@ IsHaltOf defined halt.Scale = ⊥
 IsHaltOf defined halt.Mem = Unit {0}
 
 -- the defined stores with their scales, the defined fault, or want of memory
-abbrev pub AnswersPass : Result (BTreeMap ℕ ℕ) Halt → Passed Reached → Type 0
-AnswersPass result defined = MatchResult result (λ m. defined ≡ Ok m.entries) (IsHaltOf defined)
+abbrev pub AnswersPass : Result (Vec (ℕ × ℕ)) Halt → Passed Reached → Type 0
+AnswersPass result defined = MatchResult result (λ m. defined ≡ Ok m.items) (IsHaltOf defined)
 
--- stores below the number of all, each with a scale from 1 to 2^127
+-- ways to stores below the number of all, each of a scale from 1 to 2^127
 abbrev pub AreWays : ℕ → Reached → Type 0
 AreWays size es = All (λ e. (e.0 < size) × ((1 ≤ e.1) × (e.1 ≤ 2 ^ 127))) es
+
+-- each store comes before those behind it
+abbrev pub Ascend : Reached → Type 0
+Ascend [] = Unit {0}
+Ascend (e ∷ es) = Each (λ f. e.0 < f.0) es × Ascend es
+
+-- ways in ascending number of their stores, one to each
+abbrev pub AreReached : ℕ → Reached → Type 0
+AreReached size es = AreWays size es × Ascend es
+
+-- a way of this scale to each of the stores
+abbrev pub ways_to : List ℕ → ℕ → Reached
+ways_to ns scale = map (λ n. (n, scale)) ns

@@ -31,7 +31,7 @@ pub fn clear(alloc: Global, program: Program, turns: u32) -> Result<Cleared, Hal
 {
     carry_laws();
     let reached = pass_program(alloc, &program, turns)?;
-    let scale = scale_in(&reached);
+    let scale = scale_in(reached.as_slice());
     if scale >= PASSED {
         return Err(Halt::Scale);
     }

@@ -8,17 +8,16 @@ ghost use Rattle.kf_core.specs.Views.{dx_tree, st_tree, program_tree};
 ghost use Rattle.kf_core.specs.Runs.{tried};
 ghost use Rattle.kf_core.specs.Sts.{sts};
 ghost use Rattle.kf_eval.specs.Kinds.{shape_kinds};
-ghost use Rattle.kf_support.specs.Answers.{AnswersPass, AreWays};
+ghost use Rattle.kf_support.specs.Answers.{AnswersPass, AreReached};
 ghost use Rattle.kf_support.specs.Carried.{carry, carry_all, carry_loop, carry_program};
 
 use crate::faults::Halt;
 use crate::laws::carry_laws;
 use crate::steps::{assign, copy, guard, last_guard, observe};
-use crate::ways::add_all;
+use crate::ways::{FEW, add_all, settled, shortened};
 use kf_core::{Dx, Program, St};
 use kf_value::Shape;
 use std::alloc::Global;
-use std::collections::BTreeMap;
 
 /// Where a statement leads. A conditional's first branch goes before its second one.
 #[cycle(pass)]
@@ -27,26 +26,33 @@ fn pass(
     shape: &Shape,
     turns: u32,
     statement: &St,
-    from: BTreeMap<u64, u128>,
-) -> Result<BTreeMap<u64, u128>, Halt>
+    from: Vec<(u64, u128)>,
+) -> Result<Vec<(u64, u128)>, Halt>
     requires sound { IsSound (shape_kinds shape.now) (st_tree statement.now) }
-    requires ways { AreWays (shape_size shape.now) from.entries }
-    ensures answer { AnswersPass result (carry (shape_types shape.now) turns (st_tree statement.now) from.entries) }
-    ensures ways { IfOk result (λ m. AreWays (shape_size shape.now) m.entries) }
+    requires ways { AreReached (shape_size shape.now) from.items }
+    ensures answer { AnswersPass result (carry (shape_types shape.now) turns (st_tree statement.now) from.items) }
+    ensures ways { IfOk result (λ m. AreReached (shape_size shape.now) m.items) }
 {
     match statement {
         St::Skip => Ok(from),
-        St::Assign { slot, dist, .. } => assign(alloc, shape, usize::from(*slot), dist, &from),
-        St::Observe(dist) => observe(alloc, shape, dist, &from),
+        St::Assign { slot, dist, .. } => assign(
+            alloc,
+            shape,
+            usize::from(*slot),
+            dist,
+            from.as_slice(),
+        ),
+        St::Observe(dist) => observe(alloc, shape, dist, from.as_slice()),
         St::If {
             guard: test,
             yes,
             no,
         } => {
-            let branches = guard(alloc, shape, test, &from, BTreeMap::new(alloc))?;
-            let mut reached = pass_all(alloc, shape, turns, yes.as_slice(), branches.taken)?;
-            let others = pass_all(alloc, shape, turns, no.as_slice(), branches.left)?;
-            add_all(&mut reached, &others)?;
+            let branches = guard(alloc, shape, test, from.as_slice(), Vec::new(alloc))?;
+            let left = settled(alloc, branches.left)?;
+            let one = pass_all(alloc, shape, turns, yes.as_slice(), branches.taken)?;
+            let other = pass_all(alloc, shape, turns, no.as_slice(), left)?;
+            let reached = add_all(alloc, one, other)?;
             Ok(reached)
         }
         St::While { guard: test, body } => {
@@ -63,26 +69,28 @@ fn pass_while(
     turns: u32,
     test: &Dx,
     body: &[St],
-    from: BTreeMap<u64, u128>,
-) -> Result<BTreeMap<u64, u128>, Halt>
+    from: Vec<(u64, u128)>,
+) -> Result<Vec<(u64, u128)>, Halt>
     requires kinded { DistKinded (shape_kinds shape.now) (dx_tree test.now) TruthKind }
     requires sound { AreSound (shape_kinds shape.now) (map st_tree body.now) }
-    requires ways { AreWays (shape_size shape.now) from.entries }
-    ensures answer { AnswersPass result (carry_loop turns (tried (shape_types shape.now) (dx_tree test.now)) test.now.at (carry_all (shape_types shape.now) turns (sts (map st_tree body.now))) [] from.entries) }
-    ensures ways { IfOk result (λ m. AreWays (shape_size shape.now) m.entries) }
+    requires ways { AreReached (shape_size shape.now) from.items }
+    ensures answer { AnswersPass result (carry_loop turns (tried (shape_types shape.now) (dx_tree test.now)) test.now.at (carry_all (shape_types shape.now) turns (sts (map st_tree body.now))) [] from.items) }
+    ensures ways { IfOk result (λ m. AreReached (shape_size shape.now) m.items) }
 {
     carry_laws();
     let mut states = from;
-    let mut left = BTreeMap::new(alloc);
+    let mut left = Vec::new(alloc);
+    let mut room = FEW;
     for _turn in 0..turns {
-        let branches = guard(alloc, shape, test, &states, left)?;
-        left = branches.left;
+        let branches = guard(alloc, shape, test, states.as_slice(), left)?;
+        left = shortened(alloc, branches.left, &mut room)?;
         if branches.taken.is_empty() {
-            return Ok(left);
+            let reached = settled(alloc, left)?;
+            return Ok(reached);
         }
         states = pass_all(alloc, shape, turns, body, branches.taken)?;
     }
-    last_guard(alloc, shape, test, &states, left)
+    last_guard(alloc, shape, test, states.as_slice(), left)
 }
 
 /// Where statements lead, one after the other.
@@ -92,12 +100,12 @@ pub fn pass_all(
     shape: &Shape,
     turns: u32,
     statements: &[St],
-    from: BTreeMap<u64, u128>,
-) -> Result<BTreeMap<u64, u128>, Halt>
+    from: Vec<(u64, u128)>,
+) -> Result<Vec<(u64, u128)>, Halt>
     requires sound { AreSound (shape_kinds shape.now) (map st_tree statements.now) }
-    requires ways { AreWays (shape_size shape.now) from.entries }
-    ensures answer { AnswersPass result (carry_all (shape_types shape.now) turns (sts (map st_tree statements.now)) from.entries) }
-    ensures ways { IfOk result (λ m. AreWays (shape_size shape.now) m.entries) }
+    requires ways { AreReached (shape_size shape.now) from.items }
+    ensures answer { AnswersPass result (carry_all (shape_types shape.now) turns (sts (map st_tree statements.now)) from.items) }
+    ensures ways { IfOk result (λ m. AreReached (shape_size shape.now) m.items) }
 {
     let mut states = from;
     for statement in statements {
@@ -107,22 +115,18 @@ pub fn pass_all(
 }
 
 /// Where a whole program leads: its declarations from the first store, its carried copies, its statements.
-pub fn pass_program(
-    alloc: Global,
-    program: &Program,
-    turns: u32,
-) -> Result<BTreeMap<u64, u128>, Halt>
+pub fn pass_program(alloc: Global, program: &Program, turns: u32) -> Result<Vec<(u64, u128)>, Halt>
     requires { IsChecked (program_tree program.now) }
     ensures answer { AnswersPass result (carry_program turns (program_tree program.now)) }
-    ensures ways { IfOk result (λ m. AreWays (shape_size program.now.shape) m.entries) }
+    ensures ways { IfOk result (λ m. AreReached (shape_size program.now.shape) m.items) }
 {
     let decls = program.decls.as_slice();
-    let mut states = BTreeMap::new(alloc);
-    states.insert(0, 1)?;
+    let mut states = Vec::new(alloc);
+    states.push((0, 1))?;
     for (i, dist) in decls.iter().enumerate() {
-        states = assign(alloc, &program.shape, i, dist, &states)?;
+        states = assign(alloc, &program.shape, i, dist, states.as_slice())?;
     }
-    let copied = copy(alloc, program, &states)?;
+    let copied = copy(alloc, program, states.as_slice())?;
     pass_all(
         alloc,
         &program.shape,

@@ -1,6 +1,6 @@
 //! One step from all stores that are reached.
 
-ghost use Rattle.std.specs.Prelude.{◌≡◌, ℕ, ◌<◌, ◌≤◌, ◌^◌, [], ◌∷◌, if◌then◌else◌, true, false, Ok, Err, length, map, Some, None, IfOk, IfErr, IfSome, OnOk};
+ghost use Rattle.std.specs.Prelude.{◌≡◌, ℕ, ◌<◌, ◌≤◌, ◌^◌, [], ◌∷◌, ◌++◌, if◌then◌else◌, true, false, Ok, Err, length, map, Some, None, IfOk, IfErr, IfSome, OnOk};
 ghost use Rattle.std.specs.List.{All};
 ghost use Rattle.kf_value.specs.Forms.{IsWellFormed};
 ghost use Rattle.kf_value.specs.Kinds.{KindTree, TruthKind};
@@ -13,23 +13,23 @@ ghost use Rattle.kf_core.specs.Results.{then_ok};
 ghost use Rattle.kf_core.specs.Support.{can_be as can_be_of, each_moved};
 ghost use Rattle.kf_eval.specs.Choices.{weighted_tree, weighted_trees};
 ghost use Rattle.kf_eval.specs.Kinds.{shape_kinds};
-ghost use Rattle.kf_support.specs.Answers.{AnswersPass, AreWays, IsHaltOf};
-ghost use Rattle.kf_support.specs.Carried.{carry_step, with_ways, assign_lead, observe_lead, guard_lead, last_lead, copy_lead};
+ghost use Rattle.kf_eval.specs.Memos.{IsKeptAt, IsMemoOf, kept};
+ghost use Rattle.kf_support.specs.Answers.{AnswersPass, AreReached, AreWays, IsHaltOf, ways_to};
+ghost use Rattle.kf_support.specs.Carried.{carry_step, with_all, assign_lead, observe_lead, guard_lead, last_lead, copy_lead};
 
 use crate::faults::{Halt, RunFault, fault_of};
 use crate::moves::{copied_store, moved};
-use crate::ways::{add_way, scaled};
+use crate::ways::{FEW, scaled, settled, shortened};
 use kf_core::{Dx, Program, choice_laws};
-use kf_eval::{Choice, Weighted, choices};
+use kf_eval::{Choice, Memo, Weighted, choices};
 use kf_value::{Mem, Shape, is_true};
 use std::alloc::Global;
-use std::collections::BTreeMap;
 
-/// The stores of a guard that can be true, and those of one that can be false.
+/// The stores in which a guard can be true, and ways to those in which it can be false.
 #[derive(Drop)]
 pub struct Branches {
-    pub taken: BTreeMap<u64, u128>,
-    pub left: BTreeMap<u64, u128>,
+    pub taken: Vec<(u64, u128)>,
+    pub left: Vec<(u64, u128)>,
 }
 
 /// What the distribution chooses in a store, or its fault as one of the pass.
@@ -45,6 +45,28 @@ fn choices_in(alloc: Global, shape: &Shape, dist: &Dx, store: u64) -> Result<Cho
     choice_laws();
     match choices(alloc, dist, shape, store) {
         Ok(choice) => Ok(choice),
+        Err(error) => Err(fault_of(error, dist.at)),
+    }
+}
+
+/// Where the memo keeps what the distribution chooses in a store, or its fault as one of the pass.
+fn find_in(
+    alloc: Global,
+    shape: &Shape,
+    dist: &Dx,
+    store: u64,
+    memo: &mut Memo,
+) -> Result<usize, Halt>
+    requires store { store < shape_size shape.now }
+    requires kinded { (k : KindTree) × DistKinded (shape_kinds shape.now) (dx_tree dist.now) k }
+    requires memo { IsMemoOf shape.now (dx_tree dist.now) memo.old }
+    ensures memo { OnOk result (IsMemoOf shape.now (dx_tree dist.now) memo.new) }
+    ensures found { IfOk result (λ place. IsKeptAt shape.now (dx_tree dist.now) store memo.new place) }
+    ensures within { IfOk result (λ place. place < length (kept memo.new)) }
+    ensures fault { IfErr result (λ e. IsHaltOf (tried (shape_types shape.now) (dx_tree dist.now) store) e) }
+{
+    match memo.find(alloc, shape, dist, store) {
+        Ok(place) => Ok(place),
         Err(error) => Err(fault_of(error, dist.at)),
     }
 }
@@ -75,17 +97,17 @@ fn add_moved(
     store: u64,
     choices: &[Weighted],
     scale: u128,
-    next: &mut BTreeMap<u64, u128>,
+    next: &mut Vec<(u64, u128)>,
 ) -> Result<(), Halt>
     requires variable { slot < length (shape_types shape.now) }
     requires store { store < shape_size shape.now }
     requires formed { All (λ w. IsWellFormed w.value) (map weighted_tree choices.now) }
     requires some { 1 ≤ scale }
     requires told { scale ≤ 2 ^ 127 }
-    requires ways { AreWays (shape_size shape.now) next.old.entries }
+    requires ways { AreWays (shape_size shape.now) next.old.items }
     ensures moved { OnOk result (then_ok (each_moved at (map (λ w. replaced (shape_types shape.now) slot w.value store) (map weighted_tree choices.now)))
-        (λ ms. Ok (with_ways next.old.entries ms scale)) ≡ Ok next.new.entries) }
-    ensures ways { OnOk result (AreWays (shape_size shape.now) next.new.entries) }
+        (λ ms. Ok (next.old.items ++ ways_to ms scale)) ≡ Ok next.new.items) }
+    ensures ways { OnOk result (AreWays (shape_size shape.now) next.new.items) }
     ensures fault { IfErr result (λ e. IsHaltOf (each_moved at (map (λ w. replaced (shape_types shape.now) slot w.value store) (map weighted_tree choices.now))) e) }
 {
     for choice in choices {
@@ -95,7 +117,7 @@ fn add_moved(
                 at,
             });
         };
-        add_way(next, after, scale)?;
+        next.push((after, scale))?;
     }
     Ok(())
 }
@@ -106,29 +128,34 @@ pub fn assign(
     shape: &Shape,
     slot: usize,
     dist: &Dx,
-    from: &BTreeMap<u64, u128>,
-) -> Result<BTreeMap<u64, u128>, Halt>
+    from: &[(u64, u128)],
+) -> Result<Vec<(u64, u128)>, Halt>
     requires variable { slot < length (shape_types shape.now) }
     requires kinded { (k : KindTree) × DistKinded (shape_kinds shape.now) (dx_tree dist.now) k }
-    requires ways { AreWays (shape_size shape.now) from.now.entries }
-    ensures answer { AnswersPass result (carry_step (assign_lead (shape_types shape.now) slot (dx_tree dist.now)) [] from.now.entries) }
-    ensures ways { IfOk result (λ m. AreWays (shape_size shape.now) m.entries) }
+    requires ways { AreWays (shape_size shape.now) from.now }
+    ensures answer { AnswersPass result (carry_step (assign_lead (shape_types shape.now) slot (dx_tree dist.now)) [] from.now) }
+    ensures ways { IfOk result (λ m. AreReached (shape_size shape.now) m.items) }
 {
-    let mut next = BTreeMap::new(alloc);
-    for (store, scale) in from {
-        let choice = choices_in(alloc, shape, dist, *store)?;
-        let grown = scaled(*scale, choice.total);
+    let mut next = Vec::new(alloc);
+    let mut room = FEW;
+    let mut memo = Memo::new(alloc, shape, dist, from.len())?;
+    for way in from {
+        let place = find_in(alloc, shape, dist, way.0, &mut memo)?;
+        let choice = memo.at(place);
+        let grown = scaled(way.1, choice.total);
         add_moved(
             shape,
             slot,
             dist.at,
-            *store,
+            way.0,
             choice.items.as_slice(),
             grown,
             &mut next,
         )?;
+        next = shortened(alloc, next, &mut room)?;
     }
-    Ok(next)
+    let reached = settled(alloc, next)?;
+    Ok(reached)
 }
 
 /// The same stores behind an observation.
@@ -136,19 +163,22 @@ pub fn observe(
     alloc: Global,
     shape: &Shape,
     dist: &Dx,
-    from: &BTreeMap<u64, u128>,
-) -> Result<BTreeMap<u64, u128>, Halt>
+    from: &[(u64, u128)],
+) -> Result<Vec<(u64, u128)>, Halt>
     requires kinded { (k : KindTree) × DistKinded (shape_kinds shape.now) (dx_tree dist.now) k }
-    requires ways { AreWays (shape_size shape.now) from.now.entries }
-    ensures answer { AnswersPass result (carry_step (observe_lead (shape_types shape.now) (dx_tree dist.now)) [] from.now.entries) }
-    ensures ways { IfOk result (λ m. AreWays (shape_size shape.now) m.entries) }
+    requires ways { AreWays (shape_size shape.now) from.now }
+    ensures answer { AnswersPass result (carry_step (observe_lead (shape_types shape.now) (dx_tree dist.now)) [] from.now) }
+    ensures ways { IfOk result (λ m. AreReached (shape_size shape.now) m.items) }
 {
-    let mut next = BTreeMap::new(alloc);
-    for (store, scale) in from {
-        let choice = choices_in(alloc, shape, dist, *store)?;
-        add_way(&mut next, *store, scaled(*scale, choice.total))?;
+    let mut next = Vec::new(alloc);
+    let mut memo = Memo::new(alloc, shape, dist, from.len())?;
+    for way in from {
+        let place = find_in(alloc, shape, dist, way.0, &mut memo)?;
+        let choice = memo.at(place);
+        next.push((way.0, scaled(way.1, choice.total)))?;
     }
-    Ok(next)
+    let reached = settled(alloc, next)?;
+    Ok(reached)
 }
 
 /// Whether some choice is true, or false.
@@ -159,47 +189,43 @@ fn can_be(choices: &[Weighted], truth: bool) -> bool
 }
 
 /// Adds a way to a store where `there` says so.
-fn add_if(
-    reached: &mut BTreeMap<u64, u128>,
-    there: bool,
-    store: u64,
-    scale: u128,
-) -> Result<(), Mem>
-    requires ways { (size : ℕ) × AreWays size reached.old.entries }
-    requires some { 1 ≤ scale }
-    ensures { OnOk result (reached.new.entries ≡ with_ways reached.old.entries (if there then store ∷ [] else []) scale) }
+fn add_if(ways: &mut Vec<(u64, u128)>, there: bool, store: u64, scale: u128) -> Result<(), Mem>
+    ensures { OnOk result (ways.new.items ≡ ways.old.items ++ ways_to (if there then store ∷ [] else []) scale) }
 {
     if there {
-        add_way(reached, store, scale)?;
+        ways.push((store, scale))?;
     }
     Ok(())
 }
 
-/// The stores in which a guard can be true, and beside `left` those in which it can be false.
+/// The stores in which a guard can be true, and behind `left` ways to those in which it can be false.
 pub fn guard(
     alloc: Global,
     shape: &Shape,
     dist: &Dx,
-    from: &BTreeMap<u64, u128>,
-    left: BTreeMap<u64, u128>,
+    from: &[(u64, u128)],
+    left: Vec<(u64, u128)>,
 ) -> Result<Branches, Halt>
     requires kinded { DistKinded (shape_kinds shape.now) (dx_tree dist.now) TruthKind }
-    requires ways { AreWays (shape_size shape.now) from.now.entries }
-    requires left_ways { AreWays (shape_size shape.now) left.entries }
-    ensures taken { IfOk result (λ b. carry_step (guard_lead true (tried (shape_types shape.now) (dx_tree dist.now))) [] from.now.entries ≡ Ok b.taken.entries) }
-    ensures left { IfOk result (λ b. carry_step (guard_lead false (tried (shape_types shape.now) (dx_tree dist.now))) left.entries from.now.entries ≡ Ok b.left.entries) }
-    ensures fault { IfErr result (λ e. IsHaltOf (carry_step (guard_lead true (tried (shape_types shape.now) (dx_tree dist.now))) [] from.now.entries) e) }
-    ensures ways { IfOk result (λ b. AreWays (shape_size shape.now) b.taken.entries × AreWays (shape_size shape.now) b.left.entries) }
+    requires ways { AreWays (shape_size shape.now) from.now }
+    requires left_ways { AreWays (shape_size shape.now) left.items }
+    ensures taken { IfOk result (λ b. carry_step (guard_lead true (tried (shape_types shape.now) (dx_tree dist.now))) [] from.now ≡ Ok b.taken.items) }
+    ensures left { IfOk result (λ b. carry_step (guard_lead false (tried (shape_types shape.now) (dx_tree dist.now))) (with_all [] left.items) from.now ≡ Ok (with_all [] b.left.items)) }
+    ensures fault { IfErr result (λ e. IsHaltOf (carry_step (guard_lead true (tried (shape_types shape.now) (dx_tree dist.now))) [] from.now) e) }
+    ensures ways { IfOk result (λ b. AreReached (shape_size shape.now) b.taken.items × AreWays (shape_size shape.now) b.left.items) }
 {
-    let mut taken = BTreeMap::new(alloc);
+    let mut taken = Vec::new(alloc);
     let mut left = left;
-    for (store, scale) in from {
-        let choice = choices_in(alloc, shape, dist, *store)?;
-        let grown = scaled(*scale, choice.total);
+    let mut memo = Memo::new(alloc, shape, dist, from.len())?;
+    for way in from {
+        let place = find_in(alloc, shape, dist, way.0, &mut memo)?;
+        let choice = memo.at(place);
+        let grown = scaled(way.1, choice.total);
         let choices = choice.items.as_slice();
-        add_if(&mut taken, can_be(choices, true), *store, grown)?;
-        add_if(&mut left, can_be(choices, false), *store, grown)?;
+        add_if(&mut taken, can_be(choices, true), way.0, grown)?;
+        add_if(&mut left, can_be(choices, false), way.0, grown)?;
     }
+    let taken = settled(alloc, taken)?;
     Ok(Branches { taken, left })
 }
 
@@ -208,18 +234,20 @@ pub fn last_guard(
     alloc: Global,
     shape: &Shape,
     dist: &Dx,
-    from: &BTreeMap<u64, u128>,
-    left: BTreeMap<u64, u128>,
-) -> Result<BTreeMap<u64, u128>, Halt>
+    from: &[(u64, u128)],
+    left: Vec<(u64, u128)>,
+) -> Result<Vec<(u64, u128)>, Halt>
     requires kinded { DistKinded (shape_kinds shape.now) (dx_tree dist.now) TruthKind }
-    requires ways { AreWays (shape_size shape.now) from.now.entries }
-    requires left_ways { AreWays (shape_size shape.now) left.entries }
-    ensures answer { AnswersPass result (carry_step (last_lead dist.now.at (tried (shape_types shape.now) (dx_tree dist.now))) left.entries from.now.entries) }
-    ensures ways { IfOk result (λ m. AreWays (shape_size shape.now) m.entries) }
+    requires ways { AreWays (shape_size shape.now) from.now }
+    requires left_ways { AreWays (shape_size shape.now) left.items }
+    ensures answer { AnswersPass result (carry_step (last_lead dist.now.at (tried (shape_types shape.now) (dx_tree dist.now))) (with_all [] left.items) from.now) }
+    ensures ways { IfOk result (λ m. AreReached (shape_size shape.now) m.items) }
 {
     let mut left = left;
-    for (store, scale) in from.iter() {
-        let choice = choices_in(alloc, shape, dist, *store)?;
+    let mut memo = Memo::new(alloc, shape, dist, from.len())?;
+    for way in from {
+        let place = find_in(alloc, shape, dist, way.0, &mut memo)?;
+        let choice = memo.at(place);
         let choices = choice.items.as_slice();
         if can_be(choices, true) {
             return Err(Halt::Fault {
@@ -230,28 +258,30 @@ pub fn last_guard(
         add_if(
             &mut left,
             can_be(choices, false),
-            *store,
-            scaled(*scale, choice.total),
+            way.0,
+            scaled(way.1, choice.total),
         )?;
     }
-    Ok(left)
+    let reached = settled(alloc, left)?;
+    Ok(reached)
 }
 
 /// The stores with the carried copies set.
 pub fn copy(
     alloc: Global,
     program: &Program,
-    from: &BTreeMap<u64, u128>,
-) -> Result<BTreeMap<u64, u128>, Halt>
+    from: &[(u64, u128)],
+) -> Result<Vec<(u64, u128)>, Halt>
     requires checked { IsChecked (program_tree program.now) }
-    requires ways { AreWays (shape_size program.now.shape) from.now.entries }
-    ensures answer { AnswersPass result (carry_step (copy_lead (program_tree program.now)) [] from.now.entries) }
-    ensures ways { IfOk result (λ m. AreWays (shape_size program.now.shape) m.entries) }
+    requires ways { AreWays (shape_size program.now.shape) from.now }
+    ensures answer { AnswersPass result (carry_step (copy_lead (program_tree program.now)) [] from.now) }
+    ensures ways { IfOk result (λ m. AreReached (shape_size program.now.shape) m.items) }
 {
-    let mut next = BTreeMap::new(alloc);
-    for (store, scale) in from {
-        let after = copied_store(alloc, program, *store)?;
-        add_way(&mut next, after, *scale)?;
+    let mut next = Vec::new(alloc);
+    for way in from {
+        let after = copied_store(alloc, program, way.0)?;
+        next.push((after, way.1))?;
     }
-    Ok(next)
+    let reached = settled(alloc, next)?;
+    Ok(reached)
 }

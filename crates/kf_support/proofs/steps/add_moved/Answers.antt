@@ -15,4 +15,4 @@ loop-choice-preserved c =
     let cs = c.args.choices.now in
     let i = c.loop-choice.choice-index in
     let next = choice_next (λ w. replaced (shape_types c.args.shape.now) c.args.slot w.value c.args.store) cs i c.choice-item.result _ c.loop-choice-test.true c.choice-item.is c.in-Some.ensures.moved in
-    rw c.in_ok-add_way.ensures.way (moves_step c.args.at c.args.scale (product (shape_sizes c.args.shape.now)) _ c.loop-choice.next.entries c.in-Some.after _ _ next c.in-Some.ensures.below (c.requires.some, c.requires.told) c.loop-choice.invariant)
+    rw c.in_ok-push.ensures.items (moves_step c.args.at c.args.scale (product (shape_sizes c.args.shape.now)) _ c.loop-choice.next.items c.in-Some.after _ _ next c.in-Some.ensures.below (c.requires.some, c.requires.told) c.loop-choice.invariant)

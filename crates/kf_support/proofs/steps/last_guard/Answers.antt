@@ -1,29 +1,35 @@
-use Rattle.std.proofs.Common.{ℕ, sym, ◌∙◌}
+use Rattle.std.proofs.Common.{drop, get_or, ◌+◌, [], ℕ, sym, ◌∙◌}
+use Rattle.std.proofs.lemmas.List.{drop_more}
 use Rattle.kf_value.specs.Shapes.{shape_types, shape_sizes}
 use Rattle.kf_value.specs.Types.{product}
 use Rattle.kf_core.specs.Views.{dx_tree}
 use Rattle.kf_core.specs.Runs.{tried}
 use Rattle.kf_eval.specs.Choices.{weighted_trees}
-use Rattle.kf_support.specs.Carried.{carry_step, last_lead}
-use Rattle.kf_support.proofs.Adding.{first_way}
-use Rattle.kf_support.proofs.Stepping.{grown_scale, last_step}
+use Rattle.kf_support.specs.Carried.{with_all, carry_step, last_lead}
+use Rattle.kf_support.proofs.Settling.{settled_reached}
+use Rattle.kf_support.proofs.Weighing.{kept_choice}
+use Rattle.kf_support.proofs.Stepping.{last_step}
 use Rattle.kf_support.proofs.steps.last_guard.Goals as goal
 
-pub add_if-requires-clause-some : goal.add_if-requires-clause-some
-add_if-requires-clause-some c =
-    let way = (first_way (product (shape_sizes c.args.shape.now)) (c.in-Some.store.now, c.in-Some.scale.now) c.next.new.self c.loop-store.store-iterator c.in-Some.ensures.steps c.loop-store.invariant.rest).0 in
-    rw c.scaled.ensures (grown_scale c.in-Some.scale.now c.in_ok-choice.choice.total way.1.0 c.in_ok-choice.ensures.some).0
-
-pub loop-store-preserved : goal.loop-store-preserved
-loop-store-preserved c =
+pub loop-way-preserved : goal.loop-way-preserved
+loop-way-preserved c =
+    let e : ℕ × ℕ = get_or c.args.from.now c.loop-way.way-index (0, 0) in
+    let later = drop (c.loop-way.way-index + 1) c.args.from.now in
+    let left = drop c.loop-way.way-index c.args.from.now in
+    let next = drop_more c.args.from.now c.loop-way.way-index (0, 0) c.loop-way-test.true in
+    let known = kept_choice c.args.shape.now (dx_tree c.args.dist.now) e.0 c.in_ok-place.place c.find_in.new.memo c.at-choice.result.now c.in_ok-place.ensures.found c.at-choice.ensures in
     let size = product (shape_sizes c.args.shape.now) in
     let at = c.args.dist.now.at in
     let guard = tried (shape_types c.args.shape.now) (dx_tree c.args.dist.now) in
-    let e : ℕ × ℕ = (c.in-Some.store.now, c.in-Some.scale.now) in
-    let ws = weighted_trees c.in_ok-choice.choice in
-    let known = c.in_ok-choice.ensures in
+    let ws = weighted_trees c.at-choice.result.now in
     let on = rw c.as_slice-choices.ensures at c.can_be.ensures in
-    let off = rw c.as_slice-choices.ensures at c.can_be-in-loop-store.ensures in
-    let left = rw c.scaled.ensures at c.in_ok-add_if.ensures in
-    last_step at guard size (carry_step (last_lead at guard) c.args.left.entries c.args.from.now.entries) c.loop-store.left.entries e c.next.new.self c.loop-store.store-iterator c.in-Some.ensures.steps
-    c.loop-store.invariant ws c.in_ok-choice.choice.total known.choice known.total known.some (sym on ∙ c.if-can_be.false) c.can_be-in-loop-store.result c.add_if.new.reached.entries off left
+    let off = rw c.as_slice-choices.ensures at c.can_be-in-loop-way.ensures in
+    let gone = rw c.scaled.ensures at c.in_ok-add_if.ensures in
+    record {
+      carried = last_step at guard size (carry_step (last_lead at guard) (with_all [] c.args.left.items) c.args.from.now) c.loop-way.left.items e later left next
+          c.loop-way.invariant.carried ws c.at-choice.result.now.total known.chosen known.total_is known.some (sym on ∙ c.if-can_be.false) c.can_be-in-loop-way.result c.add_if.new.ways.items off gone;
+      memo = c.in_ok-place.ensures.memo;
+    }
+
+pub returns-clause-ways : goal.returns-clause-ways
+returns-clause-ways c = settled_reached (product (shape_sizes c.args.shape.now)) c.loop-way.left.items c.in_ok-reached.reached.items c.loop-way.invariant.carried.ways c.in_ok-reached.ensures.settled

@@ -1,14 +1,16 @@
+use Rattle.std.proofs.Common.{ℕ, [], ◌+◌, ap, ◌∙◌, arith}
 use Rattle.kf_support.specs.Carried.{with_all}
-use Rattle.kf_support.proofs.Adding.{adds_start, adds_step}
+use Rattle.kf_support.proofs.Adding.{wider}
+use Rattle.kf_support.proofs.Settling.{ways_joined, all_beside}
 use Rattle.kf_support.proofs.ways.add_all.Goals as goal
 
-pub loop-store-init : goal.loop-store-init
-loop-store-init c =
-    let start = adds_start c.args.reached.now.entries c.args.others.now.entries c.requires.ways.0 c.requires.other_ways.0 c.requires.ways.1 c.requires.other_ways.1 in
-    rw c.into_iter-store-iterator.ensures.into_iter_gives.0 start
+pub settled-requires : goal.settled-requires
+settled-requires c =
+    let a : ℕ = c.requires.one.0 in
+    let b : ℕ = c.requires.other.0 in
+    let one = wider a (a + b) c.args.one.items (omega arith) c.requires.one.1.0 in
+    let other = wider b (a + b) c.args.other.items (omega arith) c.requires.other.1.0 in
+    record { ways = rw c.in_ok-append.ensures.items (a + b, ways_joined (a + b) c.args.one.items c.args.other.items one other) }
 
-pub loop-store-preserved : goal.loop-store-preserved
-loop-store-preserved c =
-    let whole = with_all c.args.reached.now.entries c.args.others.now.entries in
-    let left = rw c.in-Some.ensures.steps at c.loop-store.invariant in
-    rw c.in_ok-add_way.ensures.way (adds_step (c.in-Some.store.now, c.in-Some.scale.now) c.next.new.self whole c.loop-store.reached.entries left)
+pub returns : goal.returns
+returns c = record { all = c.in_ok-reached.ensures.settled ∙ (ap (with_all []) c.in_ok-append.ensures.items ∙ all_beside c.args.one.items c.args.other.items c.requires.one.1.1) }

@@ -2,21 +2,20 @@
 use Rattle.std.proofs.Common.{◌≡◌, ℕ, ◌+◌, ◌<◌, ◌≤◌, List, [], ◌∷◌, Bool, true, All, map, sum_by, count_by, refl, sym, ◌∙◌, ap, subst, arith, length, get_or, if◌then◌else◌}
 use Rattle.std.specs.List.{AllByRecursion}
 use Rattle.std.specs.List.Sorted.{IsStrictlySortedBy}
-use Rattle.std.specs.Map.{keys_of}
+use Rattle.std.proofs.lemmas.Simd.{map-map}
 use Rattle.std.specs.Int.{◌∣◌}
-use Rattle.std.proofs.lemmas.Nat.Gcd.{le_of_dvd}
 use Rattle.std.specs.declared.cmp.Ordering.TheVariants.{Less}
 use Rattle.std.proofs.lemmas.List.Elements.{All-map, All-head, All-tail}
 use Rattle.std.proofs.lemmas.List.Sums.{sum_by-cons, get_or-le-sum_by}
 use Rattle.kf_frac.specs.Fractions.{limit}
 use Rattle.kf_hyper.specs.declared.entry.Entry.{Entry}
+use Rattle.kf_hyper.specs.declared.class.Class.{Class}
 use Rattle.kf_hyper.specs.declared.column.Column.{Column}
 use Rattle.kf_hyper.specs.Columns.{total, proportional}
-use Rattle.kf_hyper.specs.Shapes.{IsBelow, IsShape, as_inner}
-use Rattle.kf_hyper.specs.Joint.{Joint, IsJoint, mass}
+use Rattle.kf_hyper.specs.Shapes.{IsBelow, IsShape, as_inner, inner_of}
+use Rattle.kf_hyper.specs.Joint.{IsJoint, mass}
 use Rattle.kf_hyper.specs.Hypers.{Inner, IsInner, IsHyper, list_order, class_total}
-use Rattle.kf_hyper.specs.Classes.{key_order, ClassesOf, HasInner, keyed, total_in}
-use Rattle.kf_hyper.proofs.Gathering.{Key}
+use Rattle.kf_hyper.specs.Classes.{ClassesOf, AreAscending, HasInner, class_of, total_in}
 use Rattle.kf_hyper.proofs.Ordered.{Ordered, ordered, one_class, own_totals}
 use Rattle.kf_hyper.proofs.Scaling.{proportional_reduced, proportional_itself}
 
@@ -89,19 +88,11 @@ module _ (columns : List Column) (pairs : List Pair) (had : ClassesOf columns pa
     whole = sum-shown (λ (i : Inner). i.total) pairs ∙ had.mass ∙ whole;
   }
 
-module _ (joint : Joint) (columns : List Column) (scale : ℕ) (es : List (Key × ℕ)) (inners : List Inner) (columns_are : columns ≡ joint.columns) (scale_is : scale ≡ joint.scale)
-    (had : ClassesOf columns (keyed es)) (sorted : IsStrictlySortedBy key_order (keys_of es)) (listed : inners ≡ map as_inner (keyed es)) where
-  pub hyper_made : IsHyper joint.columns inners
-  hyper_made = rw listed (subst (λ (cs : List Column). IsHyper cs (map as_inner (keyed es))) columns_are (is_hyper columns (keyed es) had (ordered es sorted)))
+module _ (columns : List Column) (classes : List Class) (had : ClassesOf columns (map class_of classes)) (sorted : AreAscending (map class_of classes)) where
+  pub hyper_made : IsHyper columns (map inner_of classes)
+  hyper_made = subst (IsHyper columns) (map-map as_inner class_of classes) (is_hyper columns (map class_of classes) had (ordered (map class_of classes) sorted))
 
-  pub shape_made : (size : ℕ) → IsJoint joint → mass joint.columns ≡ joint.scale → All (IsBelow size) joint.columns → IsShape size scale inners
-  shape_made size is whole below =
-      rw listed (is_shape columns (keyed es) had (ordered es sorted) size scale (rw scale_is is.some) (rw scale_is is.narrow) (ap mass columns_are ∙ whole ∙ sym scale_is) (rw columns_are below))
-
--- no inner's sum passes what all columns sum to
-pub inners_fit : (columns : List Column) (es : List (Key × ℕ)) (bound : ℕ) → ClassesOf columns (keyed es) → mass columns < bound → All (λ (c : Pair). total c.0 < bound) (keyed es)
-inners_fit columns es bound had below k d within =
-    let c : Pair = get_or (keyed es) k d in
-    let divides : total c.0 ≤ c.1 = le_of_dvd (had.used k d within) (had.whole k d within) in
-    let part : c.1 ≤ sum_by (λ (c : Pair). c.1) (keyed es) = get_or-le-sum_by (λ (c : Pair). c.1) (keyed es) k d within in
-    omega (arith, divides, part, had.mass, below)
+  pub shape_made : (size scale : ℕ) → IsJoint (record { scale = scale; columns = columns }) → mass columns ≡ scale → All (IsBelow size) columns → IsShape size scale (map inner_of classes)
+  shape_made size scale is whole below =
+      subst (IsShape size scale) (map-map as_inner class_of classes)
+      (is_shape columns (map class_of classes) had (ordered (map class_of classes) sorted) size scale is.some is.narrow whole below)

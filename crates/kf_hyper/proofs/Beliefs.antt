@@ -1,26 +1,28 @@
 -- Columns of one posterior added up: there is one answer, and what it keeps.
-use Rattle.std.proofs.Common.{◌≡◌, ℕ, List, [], true, All, Contains, map, refl, sym, ◌∙◌, ap, subst}
+use Rattle.std.proofs.Common.{◌≡◌, ℕ, ◌*◌, ◌/◌, ◌<◌, ◌≤◌, arith, length, get_or, List, [], ◌∷◌, true, All, Contains, map, refl, sym, ◌∙◌, ap, subst}
 use Rattle.std.specs.List.{IsDistinct}
-use Rattle.std.specs.List.Sorted.{IsStrictlySortedBy}
-use Rattle.std.specs.Map.{keys_of}
+use Rattle.std.specs.declared.cmp.Ordering.TheVariants.{Less}
+use Rattle.std.proofs.Math.Nat.{mul_comm, mul-div_cancel_left}
+use Rattle.std.proofs.lemmas.List.Elements.{All-nil}
 use Rattle.std.proofs.lemmas.Simd.{map-map}
+use Rattle.kf_hyper.specs.declared.class.Class.{Class}
 use Rattle.kf_hyper.specs.declared.entry.Entry.{Entry}
-use Rattle.kf_hyper.specs.Columns.{IsColumn, weight_at, proportional}
-use Rattle.kf_hyper.specs.Hypers.{Inner, IsInner, IsHyper, class_total}
-use Rattle.kf_hyper.specs.Averages.{joint_column}
-use Rattle.kf_hyper.specs.Joint.{Joint, IsJoint, mass}
-use Rattle.kf_hyper.specs.Classes.{ClassesOf, keyed, key_order}
+use Rattle.kf_hyper.specs.Columns.{IsColumn, weight_at, total, proportional}
+use Rattle.kf_hyper.specs.Hypers.{Inner, IsInner, IsHyper, class_total, list_order}
+use Rattle.kf_hyper.specs.Averages.{scaled, joint_column}
+use Rattle.kf_hyper.specs.Joint.{IsJoint, mass}
+use Rattle.kf_hyper.specs.Classes.{HasInner, ClassesOf, AreAscending, class_of}
 use Rattle.kf_hyper.specs.Laws.{class_weight}
 use Rattle.kf_hyper.specs.Merged.{SameBeliefs, AreMerged}
-use Rattle.kf_hyper.specs.Shapes.{IsBelow, as_inner}
-use Rattle.kf_hyper.proofs.Abstraction.{is_hyper, hyper_by_totals}
+use Rattle.kf_hyper.specs.Shapes.{IsBelow, as_inner, inner_of}
+use Rattle.kf_hyper.proofs.Abstraction.{is_hyper, hyper_by_totals, hyper_made}
 use Rattle.kf_hyper.proofs.AtMostOne.{at_most_one}
 use Rattle.kf_hyper.proofs.ClassSums.{column_of, all_whole, sums_columns, sums_totals, sums_mass}
 use Rattle.kf_hyper.proofs.ClassSums.{sums_below, sums_classes, sums_weights, sums_has, sums_apart, sums_distinct}
-use Rattle.kf_hyper.proofs.Gathering.{Key}
 use Rattle.kf_hyper.proofs.Ordered.{ordered}
 use Rattle.kf_hyper.proofs.SomeHyper.{some_hyper, Classed, classed, inner_of_column}
-use Rattle.kf_hyper.proofs.Steps.{classes_none}
+use Rattle.kf_hyper.proofs.Scaling.{total_positive, total_reduced}
+use Rattle.kf_hyper.proofs.Steps.{classes_none, classes_more, itself, put_behind}
 
 pub some_merged : (columns : List (List Entry)) → All IsColumn columns → (merged : List (List Entry)) × AreMerged columns merged
 some_merged columns are = let h = some_hyper columns are in (map joint_column h.0, record { inners = h.0; is_hyper = h.1; sums = refl })
@@ -121,21 +123,45 @@ pub merged_beliefs : (columns merged : List (List Entry)) → All IsColumn colum
 merged_beliefs columns merged are m =
     totals_tell columns merged are (merged_columns columns merged are m) (λ inner is. sym (merged_totals columns merged are m inner is))
 
--- ---- classes in a map, and their sums
+-- ---- classes and their sums
 
-module _ (columns : List (List Entry)) (joint : Joint) (es : List (Key × ℕ)) (merged : List (List Entry)) (columns_are : columns ≡ joint.columns)
-    (is : IsJoint joint) (had : ClassesOf columns (keyed es)) (sorted : IsStrictlySortedBy key_order (keys_of es))
-    (sums : merged ≡ map joint_column (map as_inner (keyed es))) where
-  pub merged_made : AreMerged joint.columns merged
-  merged_made = record {
-    inners = map as_inner (keyed es);
-    is_hyper = subst (λ cs. IsHyper cs (map as_inner (keyed es))) columns_are (is_hyper columns (keyed es) had (ordered es sorted));
-    sums = sums;
-  }
+module _ (columns merged : List (List Entry)) (scale : ℕ) (classes : List Class) (is : IsJoint (record { scale = scale; columns = columns }))
+    (had : ClassesOf columns (map class_of classes)) (sorted : AreAscending (map class_of classes)) (sums : merged ≡ map joint_column (map inner_of classes)) where
+  pub merged_made : AreMerged columns merged
+  merged_made = record { inners = map inner_of classes; is_hyper = hyper_made columns classes had sorted; sums = sums }
 
   -- over the same scale they are a joint matrix again
-  pub joint_made : IsJoint (record { scale = joint.scale; columns = merged })
+  pub joint_made : IsJoint (record { scale = scale; columns = merged })
   joint_made =
-      let kept : mass merged ≡ mass joint.columns =
-      ap mass (sums ∙ map-map joint_column as_inner (keyed es)) ∙ sums_mass columns (keyed es) had (ordered es sorted) ∙ ap mass columns_are in
+      let shown : map joint_column (map inner_of classes) ≡ map column_of (map class_of classes) =
+      map-map joint_column inner_of classes ∙ sym (map-map column_of class_of classes) in
+      let kept : mass merged ≡ mass columns = ap mass (sums ∙ shown) ∙ sums_mass columns (map class_of classes) had (ordered (map class_of classes) sorted) in
       record { some = is.some; narrow = is.narrow; fits = rw kept is.fits }
+
+-- one column is merged already
+pub merged_one : (column : List Entry) → IsColumn column → AreMerged (column ∷ []) (column ∷ [])
+merged_one column is =
+    let h : HasInner column = inner_of_column column is in
+    let r : List Entry = h.inner in
+    let f : ℕ = h.is_reduced.factor in
+    let pairs : List (List Entry × ℕ) = (r, total column) ∷ [] in
+    let classes : ClassesOf (column ∷ []) pairs = classes_more itself [] column r h.is_reduced classes_none (put_behind r (total column) []) in
+    let sum : total column ≡ total r * f = total_reduced column r h.is_reduced ∙ mul_comm f (total r) in
+    let times : total column / total r ≡ f = ap (λ (n : ℕ). n / total r) sum ∙ mul-div_cancel_left' (total r) f (total_positive r h.is_reduced.is_inner.column) in
+    record {
+      inners = map as_inner pairs;
+      is_hyper = is_hyper (column ∷ []) pairs classes (All-nil (λ (q : List Entry × ℕ). list_order r q.0 ≡ Less), tt);
+      sums = ap (λ (c : List Entry). c ∷ []) (h.is_reduced.multiple ∙ ap (λ (n : ℕ). map (scaled n) r) (sym times));
+    }
+  where
+    mul-div_cancel_left' : (n m : ℕ) → 0 < n → n * m / n ≡ m
+    mul-div_cancel_left' n m some = mul-div_cancel_left m some
+
+pub merged_empty : (columns : List (List Entry)) → length columns < 1 → AreMerged columns columns
+merged_empty [] below = merged_none
+merged_empty (c ∷ cs) below = absurd (omega (arith, below))
+
+pub merged_alone : (columns : List (List Entry)) (column : List Entry) → 1 ≤ length columns → length columns < 2 → column ≡ get_or columns 0 column → IsColumn column → AreMerged columns columns
+merged_alone [] column some below is column' = absurd (omega (arith, some))
+merged_alone (c ∷ []) column some below is column' = merged_one c (subst IsColumn is column')
+merged_alone (c ∷ d ∷ cs) column some below is column' = absurd (omega (arith, below))

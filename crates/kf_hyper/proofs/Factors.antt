@@ -1,8 +1,8 @@
 -- A column divided by the greatest common divisor of its weights is an inner.
-use Rattle.std.proofs.Common.{◌≡◌, ℕ, ◌+◌, ◌*◌, ◌/◌, ◌<◌, ◌≤◌, List, [], ◌∷◌, ◌++◌, All, map, refl, sym, ap, ◌∙◌, subst, arith, suc, zero, length, get_or, take, Some}
-use Rattle.std.proofs.Math.Nat.{mul-dvd-mul_left, dvd_of_mul-dvd-mul_left, mul-div_cancel', pos_of_dvd_of_pos, eq-one_of_dvd-one}
+use Rattle.std.proofs.Common.{◌≡◌, ℕ, ◌+◌, ◌*◌, ◌/◌, ◌<◌, ◌≤◌, List, [], ◌∷◌, All, map, refl, sym, subst, arith, suc, zero, length, get_or, take, Some}
+use Rattle.std.proofs.Math.Nat.{mul-dvd-mul_left, dvd_of_mul-dvd-mul_left, mul-div_cancel', pos_of_dvd_of_pos, eq-one_of_dvd-one, one-dvd, div-one}
 use Rattle.std.proofs.lemmas.Nat.Gcd.{dvd_trans, dvd-zero}
-use Rattle.std.proofs.lemmas.List.Elements.{All-head, All-tail, All-nil, All-cons, All-weaker, All-more, All-pop}
+use Rattle.std.proofs.lemmas.List.Elements.{All-head, All-tail, All-nil, All-cons, All-weaker, All-more, All-pop, All-take}
 use Rattle.std.proofs.lemmas.List.{take_more, take_all}
 use Rattle.std.specs.List.Sorted.{IsStrictlyIncreasing}
 use Rattle.std.specs.Int.{IsGcd, ◌∣◌}
@@ -10,7 +10,7 @@ use Rattle.kf_frac.specs.Divisors.{gcd_of}
 use Rattle.kf_frac.proofs.CommonDivisors.{gcd_is}
 use Rattle.kf_hyper.specs.declared.entry.Entry.{Entry}
 use Rattle.kf_hyper.specs.Columns.{IsColumn}
-use Rattle.kf_hyper.specs.Classes.{IsCommonFactor, IsReduced, Appends}
+use Rattle.kf_hyper.specs.Classes.{IsCommonFactor, IsReduced}
 use Rattle.kf_hyper.specs.Averages.{scaled}
 
 pub factor_none : (entries : List Entry) → IsCommonFactor 0 (take 0 entries)
@@ -49,7 +49,7 @@ positive_quotient factor w divides some = by (w / factor) (mul-div_cancel' facto
     by zero e = omega arith
     by (suc q) e = omega arith
 
-multiplied : (factor : ℕ) (entries : List Entry) → All (λ (e : Entry). factor ∣ e.weight) entries → entries ≡ map (scaled factor) (map (quotient factor) entries)
+pub multiplied : (factor : ℕ) (entries : List Entry) → All (λ (e : Entry). factor ∣ e.weight) entries → entries ≡ map (scaled factor) (map (quotient factor) entries)
 multiplied factor [] divides = refl
 multiplied factor (e ∷ es) divides =
     let here : factor * (e.weight / factor) ≡ e.weight = mul-div_cancel' factor (All-head (λ (e : Entry). factor ∣ e.weight) e es divides) in
@@ -95,11 +95,19 @@ reduced_is factor entries is column =
       };
     }
 
--- all of a column's entries, divided and put behind the others
-pub reduced_behind : (factor : ℕ) (column entries old new : List Entry) (i : ℕ) → entries ≡ column → IsCommonFactor factor entries → IsColumn entries → length entries ≤ i
-    → new ≡ old ++ map (quotient factor) (take i entries) → Appends column old new
-reduced_behind factor column entries old new i same is column' past made = record {
-  inner = map (quotient factor) entries;
-  is_reduced = subst (λ (c : List Entry). IsReduced c (map (quotient factor) entries)) same (reduced_is factor entries is column');
-  appended = made ∙ ap (λ (l : List Entry). old ++ map (quotient factor) l) (take_all i entries past);
+-- where the first so many have no common factor, all have none
+pub factor_one : (entries : List Entry) (i factor : ℕ) → factor ≡ 1 → IsCommonFactor factor (take i entries) → IsCommonFactor factor entries
+factor_one entries i factor one had = record {
+  divides = λ k d within. subst (λ (n : ℕ). n ∣ (get_or entries k d).weight) (sym one) (one-dvd (get_or entries k d).weight);
+  greatest = λ d all. had.greatest d (All-take (λ (e : Entry). d ∣ e.weight) i entries all);
 }
+
+quotient_one : (entries : List Entry) → map (quotient 1) entries ≡ entries
+quotient_one [] = refl
+quotient_one (e ∷ es) = λ i. record { value = e.value; weight = div-one e.weight i } ∷ quotient_one es i
+
+-- a column without common factor is an inner
+pub already_reduced : (factor : ℕ) (column entries : List Entry) → entries ≡ column → factor ≡ 1 → IsCommonFactor factor entries → IsColumn column → IsReduced column column
+already_reduced factor column entries same one is column' =
+    let alone : IsCommonFactor 1 column = subst (λ (n : ℕ). IsCommonFactor n column) one (subst (IsCommonFactor factor) same is) in
+    subst (IsReduced column) (quotient_one column) (reduced_is 1 column alone column')

@@ -1,5 +1,5 @@
--- The order of inners, and of a map's keys.
-use Rattle.std.proofs.Common.{◌≡◌, ℕ, List, [], ◌∷◌, Bool, true, false, Bor, refl, nat_cmp, nat_lt, ◌==◌, cond}
+-- The order of inners.
+use Rattle.std.proofs.Common.{◌≡◌, ℕ, List, [], ◌∷◌, Bool, true, false, refl, nat_cmp, nat_lt, ◌==◌, cond}
 use Rattle.std.specs.declared.cmp.Ordering.{Ordering}
 use Rattle.std.specs.declared.cmp.Ordering.TheVariants.{Less, Equal, Greater}
 use Rattle.std.specs.Ordering.{ordering_then}
@@ -8,10 +8,6 @@ use Rattle.std.proofs.lemmas.Bool.{eqb-true}
 use Rattle.std.specs.Cmp.Lexicographic.{lists_total}
 use Rattle.kf_hyper.specs.declared.entry.Entry.{Entry}
 use Rattle.kf_hyper.specs.Hypers.{list_order, entry_order}
-use Rattle.kf_hyper.specs.Classes.{key_order}
-
-abbrev pub Key : Type 0
-Key = Bor (List Entry)
 
 then_equal : (a b : Ordering) → ordering_then a b ≡ Equal → (a ≡ Equal) × (b ≡ Equal)
 then_equal Less b e = absurd (cc)
@@ -46,13 +42,3 @@ same_list (x ∷ xs) (y ∷ ys) e =
 
 pub list_total : IsTotalOrder list_order
 list_total = lists_total (then_total (on_total (λ (e : Entry). e.value) nat_cmp_total) (on_total (λ (e : Entry). e.weight) nat_cmp_total))
-
--- what a key shows
-abbrev pub shown_key : Key → List Entry
-shown_key k = k.now
-
-pub key_total : IsTotalOrder key_order
-key_total = on_total shown_key list_total
-
-pub same_key : (a b : Key) → key_order a b ≡ Equal → shown_key a ≡ shown_key b
-same_key a b e = same_list a.now b.now e

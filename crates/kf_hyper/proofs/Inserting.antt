@@ -18,7 +18,7 @@ pub data Inserts {K V : Type 0} (shown : K → V) (key : K) (t : ℕ) : List (K 
   added : (k : K) (n : ℕ) (es : List (K × ℕ)) → shown k ≡ shown key → Inserts shown key t ((k, n) ∷ es) ((k, n + t) ∷ es)
   past : (e : K × ℕ) (es fs : List (K × ℕ)) → Inserts shown key t es fs → Inserts shown key t (e ∷ es) (e ∷ fs)
 
-orderings : (r : Ordering) → (r ≡ Less) ⊎ ((r ≡ Equal) ⊎ (r ≡ Greater))
+pub orderings : (r : Ordering) → (r ≡ Less) ⊎ ((r ≡ Equal) ⊎ (r ≡ Greater))
 orderings Less = inl refl
 orderings Equal = inr (inl refl)
 orderings Greater = inr (inr refl)

@@ -3,11 +3,13 @@ pub mod AtMostOne
 pub mod Averaging
 pub mod Beliefs
 pub mod ClassSums
-mod Cutting
 pub mod Factors
 pub mod Gathering
+pub mod InPlace
 pub mod Inserting
-pub mod Listing
+mod Joining
+mod Moving
+mod Neighbours
 mod Numbers
 pub mod Ordered
 pub mod Posteriors

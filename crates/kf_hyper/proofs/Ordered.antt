@@ -1,5 +1,5 @@
 -- Classes in strict order: no two are proportional.
-use Rattle.std.proofs.Common.{◌≡◌, ℕ, ◌+◌, ◌<◌, List, [], ◌∷◌, Bool, true, false, All, count_by, refl, sym, ◌∙◌, ap, subst, arith, zero-add, if◌then◌else◌, ⊎_elim, get_or}
+use Rattle.std.proofs.Common.{◌≡◌, ℕ, ◌+◌, ◌<◌, List, [], ◌∷◌, Bool, true, false, All, map, count_by, refl, sym, ◌∙◌, ap, subst, arith, zero-add, if◌then◌else◌, ⊎_elim, get_or}
 use Rattle.std.specs.declared.cmp.Ordering.{Ordering}
 use Rattle.std.specs.declared.cmp.Ordering.TheVariants.{Less}
 use Rattle.std.specs.Ordering.{ordering_reverse}
@@ -12,8 +12,8 @@ use Rattle.std.proofs.lemmas.List.Sums.{sum_by-cons}
 use Rattle.kf_hyper.specs.declared.entry.Entry.{Entry}
 use Rattle.kf_hyper.specs.Columns.{proportional, weight_at}
 use Rattle.kf_hyper.specs.Hypers.{IsInner, list_order}
-use Rattle.kf_hyper.specs.Classes.{key_order, keyed, total_in}
-use Rattle.kf_hyper.proofs.Gathering.{Key, shown_key, list_total}
+use Rattle.kf_hyper.specs.Classes.{AreAscending, total_in}
+use Rattle.kf_hyper.proofs.Gathering.{list_total}
 use Rattle.kf_hyper.proofs.Inserting.{paired}
 use Rattle.kf_hyper.proofs.Proportions.{proportional_all, all_proportional, bool_cases}
 use Rattle.kf_hyper.proofs.Posteriors.{same_inner}
@@ -40,8 +40,14 @@ module _ {K : Type 0} (shown : K → List Entry) where
   ordered_by [] sorted = tt
   ordered_by (e ∷ es) sorted = (rest_ordered e.0 es sorted.0, ordered_by es sorted.1)
 
-pub ordered : (es : List (Key × ℕ)) → IsStrictlySortedBy key_order (keys_of es) → Ordered (keyed es)
-ordered es sorted = ordered_by shown_key es sorted
+pub ordered : (ps : List Pair) → AreAscending ps → Ordered ps
+unfolding IsStrictlySortedBy
+ordered [] sorted = tt
+ordered (p ∷ ps) sorted = (rest_after p.0 ps sorted.0, ordered ps sorted.1)
+  where
+    rest_after : (key : List Entry) (ps : List Pair) → AllByRecursion (λ (k : List Entry). list_order key k ≡ Less) (map (λ (c : Pair). c.0) ps) → All (λ (q : Pair). list_order key q.0 ≡ Less) ps
+    rest_after key [] all = All-nil (λ (q : Pair). list_order key q.0 ≡ Less)
+    rest_after key (q ∷ ps) all = All-cons (λ (q : Pair). list_order key q.0 ≡ Less) q ps all.0 (rest_after key ps all.1)
 
 -- ---- the test is symmetric, and holds of inners only where they are the same
 

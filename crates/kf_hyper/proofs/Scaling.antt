@@ -1,6 +1,6 @@
 -- A column that is a multiple of an inner: its weights, its total, and what it is proportional to.
 use Rattle.std.proofs.Common.{◌≡◌, ℕ, ◌+◌, ◌*◌, ◌/◌, ◌<◌, ◌==◌, List, [], ◌∷◌, Bool, true, false, map, refl, sym, ◌∙◌, ap, arith, if◌then◌else◌, suc, zero}
-use Rattle.std.proofs.Math.Nat.{mul_assoc, mul_comm, mul-add, mul-zero, mul-div_cancel_left}
+use Rattle.std.proofs.Math.Nat.{mul_assoc, mul_comm, mul-add, mul-zero, mul-div_cancel_left, one-mul}
 use Rattle.std.proofs.lemmas.List.Sums.{sum_by-cons}
 use Rattle.kf_hyper.specs.declared.entry.Entry.{Entry}
 use Rattle.kf_hyper.specs.Columns.{weight_at, total, IsColumn, proportional}
@@ -70,3 +70,7 @@ proportional_itself column = all_proportional column column (λ x y. mul_comm (w
 
 pub total_reduced : (column inner : List Entry) (is : IsReduced column inner) → total column ≡ is.factor * total inner
 total_reduced column inner is = ap total is.multiple ∙ total-scaled is.factor inner
+
+pub scaled_one : (column : List Entry) → map (scaled 1) column ≡ column
+scaled_one [] = refl
+scaled_one (e ∷ es) = λ i. record { value = e.value; weight = one-mul e.weight i } ∷ scaled_one es i

@@ -1,25 +1,20 @@
 -- The classes of one more column, and what all of them make.
-use Rattle.std.proofs.Common.{◌≡◌, ℕ, ◌+◌, ◌<◌, ◌≤◌, List, [], ◌∷◌, ◌++◌, Bool, true, false, map, sum_by, refl, sym, ◌∙◌, ap, subst, arith, length, get_or, take, if◌then◌else◌, unwrap_or, Some}
+use Rattle.std.proofs.Common.{◌≡◌, ℕ, ◌+◌, ◌<◌, List, [], ◌∷◌, ◌++◌, Bool, true, false, map, sum_by, refl, sym, ◌∙◌, ap, subst, arith, if◌then◌else◌, Some}
 use Rattle.std.proofs.Math.Nat.{dvd-add, dvd-mul_left}
-use Rattle.std.proofs.lemmas.List.{take_more}
+use Rattle.std.proofs.lemmas.List.{map-append}
 use Rattle.std.proofs.lemmas.List.Elements.{All-head, All-tail, All-nil, All-cons, All-push, All-pop}
-use Rattle.std.proofs.lemmas.List.Sums.{sum_by-cons, sum_by_push}
-use Rattle.std.proofs.lemmas.List.Sums.{sum_by_more_le}
-use Rattle.std.proofs.lemmas.Map.Steps.{lookup-le-sum}
-use Rattle.std.specs.BTreeMap.{insert_entry, is_at}
-use Rattle.std.specs.Map.{lookup, keys_of, values_of}
-use Rattle.std.specs.List.Sorted.{IsStrictlySortedBy}
+use Rattle.std.proofs.lemmas.List.Sums.{sum_by_push}
 use Rattle.std.specs.Int.{◌∣◌}
 use Rattle.kf_hyper.specs.declared.entry.Entry.{Entry}
+use Rattle.kf_hyper.specs.declared.class.Class.{Class}
 use Rattle.kf_hyper.specs.declared.column.Column.{Column}
 use Rattle.kf_hyper.specs.Columns.{total, proportional}
 use Rattle.kf_hyper.specs.Shapes.{IsBelow}
 use Rattle.kf_hyper.specs.Joint.{mass}
 use Rattle.kf_hyper.specs.Hypers.{IsInner, class_total}
-use Rattle.kf_hyper.specs.Classes.{key_order, IsReduced, HasInner, ClassesOf, keyed, total_in}
+use Rattle.kf_hyper.specs.Classes.{IsReduced, HasInner, ClassesOf, class_of, total_in}
 use Rattle.kf_hyper.specs.Averages.{scaled}
-use Rattle.kf_hyper.proofs.Gathering.{Key, shown_key, key_total, same_key}
-use Rattle.kf_hyper.proofs.Inserting.{Inserts, inserted, paired, sum_inserts, all_inserts}
+use Rattle.kf_hyper.proofs.Inserting.{Inserts, fresh, past, paired, sum_inserts, all_inserts}
 use Rattle.kf_hyper.proofs.Scaling.{product_positive, total_positive, total_reduced, proportional_reduced}
 
 abbrev Pair : Type 0
@@ -83,21 +78,24 @@ module _ {K : Type 0} (shown : K → List Entry) where
             all_inserts shown key t (λ (c : Pair). IsBelow size c.0) (below_reduced size is.factor column (shown key) is.multiple parts.1) (λ n h. h) how (had.within size parts.0);
       }
 
-sum-keyed : (es : List (Key × ℕ)) → sum_by (λ (n : ℕ). n) (values_of es) ≡ sum_by (λ (c : Pair). c.1) (keyed es)
-sum-keyed [] = refl
-sum-keyed (e ∷ es) = omega (arith, sum_by-cons (λ (n : ℕ). n) e.1 (values_of es), sum_by-cons (λ (c : Pair). c.1) (e.0.now, e.1) (keyed es), sum-keyed es)
+-- ---- the class of one more column, put behind the others
 
--- what a class has before a column, and the column's total, fit into the sum of all
-pub class_fits : (columns : List Column) (i : ℕ) (column : Column) (test : Key → Bool) (es : List (Key × ℕ)) → i < length columns → column ≡ get_or columns i column
-    → ClassesOf (take i columns) (keyed es) → unwrap_or (lookup test es) 0 + total column ≤ mass columns
-class_fits columns i column test es within is had =
-    let before : unwrap_or (lookup test es) 0 ≤ sum_by (λ (n : ℕ). n) (values_of es) = lookup-le-sum test es in
-    let more : mass (take i columns) + total (get_or columns i column) ≤ mass columns = sum_by_more_le total columns i column within in
-    omega (arith, before, more, sum-keyed es, had.mass, ap total is)
+abbrev pub itself : List Entry → List Entry
+itself l = l
 
-pub classes_step : (columns : List Column) (i : ℕ) (column : Column) (key : Key) (es : List (Key × ℕ)) (n : ℕ) → i < length columns → column ≡ get_or columns i column → IsReduced column key.now
-    → ClassesOf (take i columns) (keyed es) → IsStrictlySortedBy key_order (keys_of es) → n ≡ unwrap_or (lookup (is_at (key_order key)) es) 0 + total column
-    → ClassesOf (take (i + 1) columns) (keyed (insert_entry key_order es key n))
-classes_step columns i column key es n within is reduced had sorted sum =
-    let end : take (i + 1) columns ≡ take i columns ++ column ∷ [] = take_more columns i column within ∙ ap (λ (c : Column). take i columns ++ c ∷ []) (sym is) in
-    rw (end, sum) (classes_more shown_key (take i columns) column key reduced had (inserted shown_key key_order key_total same_key key (total column) es sorted))
+pub paired_itself : (es : List Pair) → paired itself es ≡ es
+paired_itself [] = refl
+paired_itself (e ∷ es) = λ i. e ∷ paired_itself es i
+
+pub put_behind : (key : List Entry) (t : ℕ) (es : List Pair) → Inserts itself key t es (es ++ (key, t) ∷ [])
+put_behind key t [] = fresh []
+put_behind key t (e ∷ es) = past e es (es ++ (key, t) ∷ []) (put_behind key t es)
+
+pub classes_pushed : (columns : List Column) (column : Column) (class : Class) (classes : List Class) → IsReduced column class.inner → class.total ≡ total column → ClassesOf columns (map class_of classes)
+    → ClassesOf (columns ++ column ∷ []) (map class_of (classes ++ class ∷ []))
+classes_pushed columns column class classes is same had =
+    let es : List Pair = map class_of classes in
+    let more = classes_more itself columns column class.inner is (subst (ClassesOf columns) (sym (paired_itself es)) had) (put_behind class.inner (total column) es) in
+    subst (ClassesOf (columns ++ column ∷ []))
+    (paired_itself (es ++ (class.inner, total column) ∷ []) ∙ ap (λ (n : ℕ). es ++ (class.inner, n) ∷ []) (sym same) ∙ sym (map-append class_of classes (class ∷ [])))
+    more

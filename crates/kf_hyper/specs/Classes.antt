@@ -1,9 +1,9 @@
 -- For bodies: the classes of proportional columns while they are gathered.
-use Rattle.std.specs.Prelude.{◌≡◌, ℕ, ◌*◌, ◌/◌, ◌<◌, List, All, ◌++◌, map, sum_by, if◌then◌else◌}
-use Rattle.std.specs.Borrow.{Bor}
-use Rattle.std.specs.declared.cmp.Ordering.{Ordering}
+use Rattle.std.specs.Prelude.{◌≡◌, ℕ, ◌*◌, ◌/◌, ◌<◌, List, All, map, sum_by, if◌then◌else◌}
+use Rattle.std.specs.List.Sorted.{IsStrictlySortedBy}
 use Prim.Native.Nat.{◌∣◌}
 use Rattle.kf_hyper.specs.declared.entry.Entry.{Entry}
+use Rattle.kf_hyper.specs.declared.class.Class.{Class}
 use Rattle.kf_hyper.specs.Columns.{total, proportional}
 use Rattle.kf_hyper.specs.Shapes.{IsBelow}
 use Rattle.kf_hyper.specs.Joint.{mass}
@@ -22,24 +22,18 @@ pub record IsReduced (column inner : List Entry) : Type 0 where
   pub multiple : column ≡ map (scaled factor) inner
   pub is_inner : IsInner inner
 
--- what has been put behind the entries is an inner of the column
-pub record Appends (column old new : List Entry) : Type 0 where
-  pub inner : List Entry
-  pub is_reduced : IsReduced column inner
-  pub appended : new ≡ old ++ inner
-
 -- the column has an inner
 pub record HasInner (column : List Entry) : Type 0 where
   pub inner : List Entry
   pub is_reduced : IsReduced column inner
 
--- the entries of a map from inners to totals
-abbrev pub keyed : List (Bor (List Entry) × ℕ) → List (List Entry × ℕ)
-keyed entries = map (λ e. (e.0.now, e.1)) entries
+-- a class by its inner and its total
+abbrev pub class_of : Class → List Entry × ℕ
+class_of c = (c.inner, c.total)
 
--- the order of the map's keys is that of the inners
-abbrev pub key_order : Bor (List Entry) → Bor (List Entry) → Ordering
-key_order a b = list_order a.now b.now
+-- each inner is before all that follow
+abbrev pub AreAscending : List (List Entry × ℕ) → Type 0
+AreAscending classes = IsStrictlySortedBy list_order (map (λ c. c.0) classes)
 
 -- a class's inner goes whole, and at least once, into its total
 pub record IsWhole (class : List Entry × ℕ) : Type 0 where

@@ -7,7 +7,6 @@ pub mod Traces
 pub mod Classes
 pub mod Joint
 pub mod Laws
-pub mod Lists
 pub mod Merged
 pub mod Projection
 pub mod Shapes

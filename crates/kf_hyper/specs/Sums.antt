@@ -1,7 +1,8 @@
 -- For bodies: weights of values, added up.
-use Rattle.std.specs.Prelude.{◌≡◌, ℕ, ◌+◌, ◌<◌, ◌==◌, List, All, map, if◌then◌else◌}
+use Rattle.std.specs.Prelude.{◌≡◌, ℕ, ◌+◌, ◌<◌, ◌==◌, List, Bool, All, map, sum_by, if◌then◌else◌}
 use Rattle.kf_hyper.specs.declared.entry.Entry.{Entry}
 use Rattle.kf_hyper.specs.Columns.{weight_at, total}
+use Rattle.kf_hyper.specs.Shapes.{IsBelow}
 
 -- the entries of a map from values to weights
 abbrev pub summed : List (ℕ × ℕ) → List Entry
@@ -19,3 +20,13 @@ pub record Gains (gained : ℕ → ℕ) (sum : ℕ) (old new : List Entry) : Typ
 -- a weight at one value
 abbrev pub weight_alone : ℕ → ℕ → ℕ → ℕ
 weight_alone value weight x = if value == x then weight else 0
+
+-- what the values that are asked for weigh together
+abbrev pub asked_weight : (ℕ → Bool) → List Entry → ℕ
+asked_weight asked entries = sum_by (λ e. if asked e.value then e.weight else 0) entries
+
+-- the sums give to all values that may be asked for what the entries give to them
+pub record Gathers (entries sums : List Entry) : Type 0 where
+  pub weights : (asked : ℕ → Bool) → asked_weight asked sums ≡ asked_weight asked entries
+  pub total : total sums ≡ total entries
+  pub below : (size : ℕ) → IsBelow size entries → IsBelow size sums

@@ -1,8 +1,8 @@
 ghost use Rattle.std.specs.Prelude.{◌≡◌, ◌<◌, ◌^◌, IfOk};
 ghost use Rattle.kf_hyper.specs.Columns.{IsColumn, weight_at, total};
 
-use crate::EntryList;
 use crate::entry::total_of;
+use crate::{Entry, EntryList};
 use kf_value::Mem;
 use std::alloc::Global;
 use std::marker::Model;
@@ -40,6 +40,13 @@ impl Column {
         ensures column { IsColumn result.now }
     {
         &self.entries
+    }
+
+    pub(crate) fn into_entries(self) -> Vec<Entry>
+        ensures kept { result.items ≡ self }
+        ensures column { IsColumn self }
+    {
+        self.entries.into_items()
     }
 
     /// The weight of a value: 0 where the column doesn't name it.

@@ -1,7 +1,7 @@
 ghost use Rattle.std.specs.Prelude.{◌≡◌, ◌≤◌, ◌<◌, ◌+◌, ◌^◌, ◌++◌, IfOk};
 ghost use Rattle.kf_hyper.specs.Joint.{IsJoint, mass};
 
-use crate::ColumnList;
+use crate::{Column, ColumnList};
 use kf_value::Mem;
 use std::alloc::Global;
 use std::marker::Model;
@@ -45,6 +45,25 @@ impl Columns {
         ensures joint { IsJoint self.now }
     {
         &self.columns
+    }
+
+    pub(crate) fn into_parts(self) -> (u128, Vec<Column>)
+        ensures scale { result.0 ≡ self.scale }
+        ensures columns { result.1.items ≡ self.columns }
+        ensures joint { IsJoint self }
+    {
+        (self.scale, self.columns.into_items())
+    }
+
+    /// An equal list of columns over the same scale.
+    pub fn copy(&self, alloc: Global) -> Result<Columns, Mem>
+        ensures { IfOk result (λ copied. copied ≡ self.now) }
+    {
+        let mut columns = Vec::with_capacity(alloc, self.columns.as_slice().len())?;
+        for column in self.columns.as_slice() {
+            columns.push(column.copy(alloc)?)?;
+        }
+        Ok(Columns::new(self.scale, ColumnList::new(columns)))
     }
 }
 

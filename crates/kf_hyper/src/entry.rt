@@ -42,6 +42,12 @@ impl EntryList {
         EntryList { items }
     }
 
+    pub(crate) fn into_items(self) -> Vec<Entry>
+        ensures { result.items ≡ self }
+    {
+        self.items
+    }
+
     pub fn as_slice(&self) -> &[Entry]
         ensures { result.now ≡ self.now }
     {

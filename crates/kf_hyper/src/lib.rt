@@ -1,6 +1,7 @@
 //! Columns of whole weights, the hyper-distribution of a list of columns, and tables of traces.
 #![tactic(auto)]
 
+mod adding;
 mod class;
 mod classes;
 mod column;
@@ -9,12 +10,13 @@ mod counts;
 mod entry;
 mod hyper;
 mod law;
-mod lists;
 mod merging;
 mod projection;
+mod reducing;
 mod sums;
 mod traces;
 
+pub use adding::gathered;
 pub use column::{Column, ColumnList};
 pub use columns::{Columns, join};
 pub use counts::CountList;

@@ -1,43 +1,52 @@
 //! Columns of one posterior added up.
 
-ghost use Rattle.std.specs.Prelude.{◌≡◌, All, IfOk, map};
+ghost use Rattle.std.specs.Prelude.{◌≡◌, true, All, IfOk, map};
 ghost use Rattle.kf_hyper.specs.Averages.{joint_column};
-ghost use Rattle.kf_hyper.specs.Shapes.{as_inner};
-ghost use Rattle.kf_hyper.specs.Classes.{IsWhole, keyed};
+ghost use Rattle.kf_hyper.specs.Shapes.{inner_of};
+ghost use Rattle.kf_hyper.specs.Classes.{IsWhole, class_of};
 ghost use Rattle.kf_hyper.specs.Merged.{AreMerged};
 
+use crate::class::Class;
 use crate::classes::classes_of;
-use crate::entry::total_of;
-use crate::lists::Lists;
-use crate::{Column, ColumnList, Columns, Entry, EntryList};
+use crate::{Column, ColumnList, Columns, EntryList};
 use kf_value::Mem;
 use std::alloc::Global;
-use std::collections::BTreeMap;
+
+// Whether there is at most one column, and so nothing to merge. Each column has an entry.
+fn is_alone(columns: &[Column]) -> bool
+    ensures { result ≡ true → AreMerged columns.now columns.now }
+{
+    match columns {
+        [] => true,
+        [column] => !column.entries().as_slice().is_empty(),
+        _ => false,
+    }
+}
 
 // The list of a class, multiplied up to the class's total.
-fn multiplied(alloc: Global, list: &[Entry], total: u128) -> Result<Column, Mem>
-    requires { IsWhole (list.now, total) }
-    ensures { IfOk result (λ column. column ≡ joint_column (as_inner (list.now, total))) }
+fn multiplied(class: Class) -> Column
+    requires { IsWhole (class_of class) }
+    ensures { result ≡ joint_column (inner_of class) }
 {
-    let times = total / total_of(list);
-    let mut entries = Vec::new(alloc);
-    for entry in list {
-        entries.push(Entry {
-            value: entry.value,
-            weight: times * entry.weight,
-        })?;
+    let times = class.total / class.whole;
+    if times == 1 {
+        return class.inner;
     }
-    Ok(Column::new(EntryList::new(entries)))
+    let mut entries = class.inner.into_entries();
+    for i in 0..entries.len() {
+        entries[i].weight *= times;
+    }
+    Column::new(EntryList::new(entries))
 }
 
 // One column for each class.
-fn summed(alloc: Global, classes: BTreeMap<&[Entry], u128>) -> Result<Vec<Column>, Mem>
-    requires { All IsWhole (keyed classes.entries) }
-    ensures { IfOk result (λ columns. columns.items ≡ map joint_column (map as_inner (keyed classes.entry.entries))) }
+fn summed(alloc: Global, classes: Vec<Class>) -> Result<Vec<Column>, Mem>
+    requires { All IsWhole (map class_of classes.items) }
+    ensures { IfOk result (λ columns. columns.items ≡ map joint_column (map inner_of classes.items)) }
 {
-    let mut columns = Vec::new(alloc);
-    for (list, total) in classes {
-        columns.push(multiplied(alloc, list, total)?)?;
+    let mut columns = Vec::with_capacity(alloc, classes.len())?;
+    for class in classes {
+        columns.push(multiplied(class))?;
     }
     Ok(columns)
 }
@@ -45,13 +54,15 @@ fn summed(alloc: Global, classes: BTreeMap<&[Entry], u128>) -> Result<Vec<Column
 /// One column for each class of proportional columns: the sum of the class, over the same scale.
 ///
 /// They ascend by their lists without common factor. The one error is want of memory.
-pub fn merge(alloc: Global, columns: &Columns) -> Result<Columns, Mem>
-    ensures merged { IfOk result (λ merged. AreMerged columns.now.columns merged.columns) }
-    ensures scale { IfOk result (λ merged. merged.scale ≡ columns.now.scale) }
+pub fn merge(alloc: Global, columns: Columns) -> Result<Columns, Mem>
+    ensures merged { IfOk result (λ merged. AreMerged columns.columns merged.columns) }
+    ensures scale { IfOk result (λ merged. merged.scale ≡ columns.scale) }
 {
-    let whole = columns.columns().as_slice();
-    let lists = Lists::reduced(alloc, whole)?;
-    let classes = classes_of(alloc, whole, &lists)?;
+    let (scale, list) = columns.into_parts();
+    if is_alone(list.as_slice()) {
+        return Ok(Columns::new(scale, ColumnList::new(list)));
+    }
+    let classes = classes_of(alloc, list)?;
     let merged = summed(alloc, classes)?;
-    Ok(Columns::new(columns.scale(), ColumnList::new(merged)))
+    Ok(Columns::new(scale, ColumnList::new(merged)))
 }

@@ -7,11 +7,10 @@ ghost use Rattle.kf_hyper.specs.Shapes.{IsBelow};
 ghost use Rattle.kf_hyper.specs.Joint.{mass};
 ghost use Rattle.kf_hyper.specs.Projection.{at_places, projected as projected_store, weight_through};
 
-use crate::sums::{add, column_of};
-use crate::{Column, ColumnList, Columns};
+use crate::adding::gathered;
+use crate::{Column, ColumnList, Columns, Entry};
 use kf_value::{Mem, Shape, SlotList};
 use std::alloc::Global;
-use std::collections::BTreeMap;
 
 // The number of a store's values at the slots.
 fn projected(shape: &Shape, slots: &[u8], store: u64) -> u64
@@ -44,15 +43,15 @@ fn projected_column(
     ensures below { IfOk result (λ new. IsBelow (product (at_places slots.now (shape_sizes shape.now))) new) }
     ensures total { IfOk result (λ new. total new ≡ total column.now) }
 {
-    let mut sums = BTreeMap::new(alloc);
-    for entry in column.entries().as_slice() {
-        add(
-            &mut sums,
-            projected(shape, slots, entry.value),
-            entry.weight,
-        )?;
+    let whole = column.entries().as_slice();
+    let mut entries = Vec::with_capacity(alloc, whole.len())?;
+    for entry in whole {
+        entries.push(Entry {
+            value: projected(shape, slots, entry.value),
+            weight: entry.weight,
+        })?;
     }
-    column_of(alloc, sums)
+    Ok(gathered(entries))
 }
 
 /// The joint matrix about the variables at `slots` alone.
@@ -74,8 +73,9 @@ pub fn project(
     ensures below { IfOk result (λ joint. All (IsBelow (product (at_places slots.now (shape_sizes shape.now)))) joint.columns) }
     ensures mass { IfOk result (λ joint. mass joint.columns ≡ mass columns.now.columns) }
 {
-    let mut list = Vec::new(alloc);
-    for column in columns.columns().as_slice() {
+    let whole = columns.columns().as_slice();
+    let mut list = Vec::with_capacity(alloc, whole.len())?;
+    for column in whole {
         list.push(projected_column(alloc, column, shape, slots.as_slice())?)?;
     }
     Ok(Columns::new(columns.scale(), ColumnList::new(list)))

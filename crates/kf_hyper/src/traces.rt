@@ -5,10 +5,9 @@ ghost use Rattle.kf_value.specs.TypeViews.{item_of};
 ghost use Rattle.kf_hyper.specs.Tables.{IsTable, table_row};
 
 use crate::Column;
-use crate::sums::{add_all, column_of};
+use crate::adding::{gathered, push_times};
 use kf_value::{Mem, Target, ValueList};
 use std::alloc::Global;
-use std::collections::BTreeMap;
 use std::marker::Model;
 
 /// What an observer sees of a run, and how much each value weighs among the runs that show it.
@@ -107,10 +106,10 @@ impl TraceTable {
         ensures total { IfOk result (λ column. total column ≡ self.now.scale) }
         ensures below { IfOk result (IsBelow (target_size (items_of self.now.target))) }
     {
-        let mut sums = BTreeMap::new(alloc);
+        let mut entries = Vec::new(alloc);
         for row in self.rows.as_slice() {
-            add_all(&mut sums, row.column.entries().as_slice(), 1)?;
+            push_times(&mut entries, row.column.entries().as_slice(), 1)?;
         }
-        column_of(alloc, sums)
+        Ok(gathered(entries))
     }
 }

@@ -1,17 +1,15 @@
-ghost use Rattle.std.specs.Prelude.{◌≡◌, ◌≤◌, ◌<◌, ◌*◌, ◌+◌, ◌^◌, ◌-◌, ℕ, All, IfOk, length, map, sum_by};
+ghost use Rattle.std.specs.Prelude.{◌≡◌, ◌<◌, ℕ, IfOk, length};
 ghost use Rattle.kf_value.specs.Numbers.{target_size};
 ghost use Rattle.kf_hyper.specs.Columns.{weight_at, total};
-ghost use Rattle.kf_hyper.specs.Sums.{summed, ArePositive};
 ghost use Rattle.kf_hyper.specs.Averages.{joint_weight, average_weight};
 ghost use Rattle.kf_hyper.specs.Shapes.{IsBelow};
 ghost use Rattle.kf_hyper.specs.Views.{inners_of, inner_at, scale_of, target_of};
 
 use super::Hyper;
 use crate::Column;
-use crate::sums::{add_all, column_of};
+use crate::adding::{gathered, push_times};
 use kf_value::Mem;
 use std::alloc::Global;
-use std::collections::BTreeMap;
 
 impl Hyper {
     /// The joint weight of the posterior `i` and the value `x`, over the hyper's scale: 0 where the posterior
@@ -31,11 +29,11 @@ impl Hyper {
         ensures total { IfOk result (λ column. total column ≡ scale_of self.now) }
         ensures below { IfOk result (IsBelow (target_size (target_of self.now))) }
     {
-        let mut sums = BTreeMap::new(alloc);
+        let mut entries = Vec::new(alloc);
         for class in &self.classes {
             let times = class.total / class.whole;
-            add_all(&mut sums, class.inner.entries().as_slice(), times)?;
+            push_times(&mut entries, class.inner.entries().as_slice(), times)?;
         }
-        column_of(alloc, sums)
+        Ok(gathered(entries))
     }
 }

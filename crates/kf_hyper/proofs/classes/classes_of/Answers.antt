@@ -1,34 +1,21 @@
-use Rattle.std.proofs.Common.{◌+◌, ◌≤◌, ◌∙◌, ap, arith, unwrap_or}
-use Rattle.std.specs.BTreeMap.{is_at}
-use Rattle.kf_hyper.specs.Classes.{key_order, IsReduced}
-use Rattle.kf_hyper.specs.Columns.{total}
-use Rattle.kf_hyper.specs.Joint.{mass}
-use Rattle.kf_hyper.proofs.Steps.{classes_none, class_fits, classes_step}
-use Rattle.kf_hyper.proofs.Cutting.{reduced_at}
+use Rattle.std.proofs.Common.{rules, arith}
+use Rattle.std.proofs.lemmas.List.MinMax.{ranks_by}
+use Rattle.std.proofs.lemmas.List.Sorted.{answers_always}
+use Rattle.kf_hyper.specs.declared.class.Class.{Class}
+use Rattle.kf_hyper.proofs.Gathering.{list_total}
+use Rattle.kf_hyper.proofs.Joining.{before, classes_permuted, totals_sum}
 use Rattle.kf_hyper.proofs.classes.classes_of.Goals as goal
 
-pub loop-i-init : goal.loop-i-init
-loop-i-init c = record { classes = rw c.new-classes.ensures.empty classes_none; ordered = c.new-classes.ensures.ordered }
-
-pub overflow_add-before : goal.overflow_add-before
-overflow_add-before c =
-    let before = c.unwrap_or-before.ensures ∙ ap (λ o. unwrap_or o 0) (c.copied.ensures ∙ c.get.ensures.value) in
-    let fits : c.unwrap_or-before.result + total c.index-columns-i.result ≤ mass c.args.columns.now =
-    rw before
-    (class_fits c.args.columns.now c.loop-i.i c.index-columns-i.result (is_at (key_order c.get-list.result)) c.loop-i.classes.entries c.loop-i-test.true
-    c.index-columns-i.is c.loop-i.invariant.classes) in
-    omega (arith, fits, c.requires.fits, c.total.ensures)
-
-pub loop-i-preserved : goal.loop-i-preserved
-loop-i-preserved c =
-    let before = c.unwrap_or-before.ensures ∙ ap (λ o. unwrap_or o 0) (c.copied.ensures ∙ c.get.ensures.value) in
-    let reduced : IsReduced c.index-columns-i.result c.get-list.result.now =
-    reduced_at c.args.columns.now c.args.lists.now c.loop-i.i c.index-columns-i.result c.get-list.result.now c.requires.reduced c.loop-i-test.true
-    c.index-columns-i.is c.get-list.ensures in
+pub join_equals-requires : goal.join_equals-requires
+join_equals-requires c =
+    let sorted = c.sort_unstable_by.new.self.items in
+    let are = classes_permuted c.args.columns.items c.in_ok-classes.classes.items sorted c.sort_unstable_by.ensures.permutation c.in_ok-classes.ensures in
     record {
-      classes = rw c.in_ok-insert.ensures.entries
-          (classes_step c.args.columns.now c.loop-i.i c.index-columns-i.result c.get-list.result c.loop-i.classes.entries _ c.loop-i-test.true
-          c.index-columns-i.is reduced
-          c.loop-i.invariant.classes c.loop-i.invariant.ordered (λ i. before i + c.total.ensures i));
-      ordered = c.in_ok-insert.ensures.ordered;
+      fits = omega (arith, totals_sum c.args.columns.items sorted are, c.requires.fits);
+      sorted = c.sort_unstable_by.ensures.sorted before (ranks_by list_total (λ (a : Class). a.inner)) (answers_always _ _ _ (λ f a r g called. search rules));
     }
+
+pub returns-clause-classes : goal.returns-clause-classes
+returns-clause-classes c =
+    c.join_equals.ensures.kept c.args.columns.items
+    (classes_permuted c.args.columns.items c.in_ok-classes.classes.items c.sort_unstable_by.new.self.items c.sort_unstable_by.ensures.permutation c.in_ok-classes.ensures)

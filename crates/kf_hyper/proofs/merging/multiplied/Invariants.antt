@@ -1,6 +1,7 @@
-use Rattle.std.proofs.Common.{◌≡◌, map, take}
+use Rattle.std.proofs.Common.{◌≡◌}
 use Rattle.kf_hyper.specs.Averages.{scaled}
+use Rattle.kf_hyper.proofs.InPlace.{part_mapped}
 use Rattle.kf_hyper.proofs.merging.multiplied.Given as goal
 
-abbrev pub invariant-loop-entry : goal.invariant-loop-entry
-invariant-loop-entry l = l.entries.items ≡ map (scaled l.times) (take l.entry-index l.list)
+abbrev pub invariant-loop-i : goal.invariant-loop-i
+invariant-loop-i l = l.entries.items ≡ part_mapped (scaled l.times) l.i l.initial.entries.items

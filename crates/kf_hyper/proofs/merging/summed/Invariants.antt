@@ -1,11 +1,12 @@
 use Rattle.std.proofs.Common.{◌≡◌, ◌++◌, All, map}
+use Rattle.std.specs.Vec.Iter.{into_iter_items}
 use Rattle.kf_hyper.specs.Averages.{joint_column}
-use Rattle.kf_hyper.specs.Shapes.{as_inner}
-use Rattle.kf_hyper.specs.Classes.{IsWhole, keyed}
+use Rattle.kf_hyper.specs.Shapes.{inner_of}
+use Rattle.kf_hyper.specs.Classes.{IsWhole, class_of}
 use Rattle.kf_hyper.proofs.merging.summed.Given as goal
 
-abbrev pub invariant-loop-list : goal.invariant-loop-list
-invariant-loop-list l = record {
-  whole : All IsWhole (keyed l.list-iterator);
-  summed : l.columns.items ++ map joint_column (map as_inner (keyed l.list-iterator)) ≡ map joint_column (map as_inner (keyed l.fn.classes.entries));
+abbrev pub invariant-loop-class : goal.invariant-loop-class
+invariant-loop-class l = record {
+  whole : All IsWhole (map class_of (into_iter_items l.class-iterator));
+  summed : l.columns.items ++ map joint_column (map inner_of (into_iter_items l.class-iterator)) ≡ map joint_column (map inner_of l.fn.classes.items);
 }

@@ -1,12 +1,27 @@
-use Rattle.std.proofs.Common.{◌≡◌, ◌∙◌, arith, ap, take}
-use Rattle.std.proofs.lemmas.List.{take_all}
-use Rattle.kf_hyper.specs.Columns.{total}
+use Rattle.std.proofs.Common.{ℕ, ◌==◌, List, ◌∙◌, ap, subst, sym, arith}
+use Rattle.kf_value.specs.Shapes.{shape_sizes}
+use Rattle.kf_hyper.specs.declared.entry.Entry.{Entry}
+use Rattle.kf_hyper.specs.Columns.{IsColumn, total, weight_at}
+use Rattle.kf_hyper.specs.Projection.{projected}
+use Rattle.kf_hyper.specs.Sums.{ArePositive}
+use Rattle.kf_hyper.proofs.Moving.{all_moved, moved_total, moved_positive, moved_weights}
 use Rattle.kf_hyper.proofs.Scaling.{total_positive}
 use Rattle.kf_hyper.proofs.projection.projected_column.Goals as goal
 
-pub column_of-requires-clause-some : goal.column_of-requires-clause-some
-column_of-requires-clause-some c =
-    let column : c.as_slice-entry-items.result.now ≡ c.args.column.now = c.as_slice-entry-items.ensures ∙ c.entries.ensures.kept in
-    let all : total (take c.loop-entry.entry-index c.args.column.now) ≡ total c.args.column.now =
-    ap total (take_all c.loop-entry.entry-index c.args.column.now (rw column at c.loop-entry-test.false)) in
-    omega (arith, c.loop-entry.invariant.total, all, total_positive c.entries.result.now c.entries.ensures.column, ap total c.entries.ensures.kept)
+pub gathered-requires-clause-some : goal.gathered-requires-clause-some
+gathered-requires-clause-some c =
+    let become : ℕ → ℕ = projected (shape_sizes c.args.shape.now) c.args.slots.now in
+    let all = all_moved become c.args.column.now c.as_slice-whole.result.now c.loop-entry.entries.items c.loop-entry.entry-index (c.as_slice-whole.ensures ∙ c.entries.ensures.kept) c.loop-entry-test.false c.loop-entry.invariant.moved in
+    omega (arith, ap total all, moved_total become c.args.column.now, total_positive c.entries.result.now c.entries.ensures.column, ap total c.entries.ensures.kept)
+
+pub gathered-requires-clause-positive : goal.gathered-requires-clause-positive
+gathered-requires-clause-positive c =
+    let become : ℕ → ℕ = projected (shape_sizes c.args.shape.now) c.args.slots.now in
+    let all = all_moved become c.args.column.now c.as_slice-whole.result.now c.loop-entry.entries.items c.loop-entry.entry-index (c.as_slice-whole.ensures ∙ c.entries.ensures.kept) c.loop-entry-test.false c.loop-entry.invariant.moved in
+    subst ArePositive (sym all) (moved_positive become c.args.column.now (subst IsColumn c.entries.ensures.kept c.entries.ensures.column).positive)
+
+pub returns-clause-weights : goal.returns-clause-weights
+returns-clause-weights c =
+    let become : ℕ → ℕ = projected (shape_sizes c.args.shape.now) c.args.slots.now in
+    let all = all_moved become c.args.column.now c.as_slice-whole.result.now c.loop-entry.entries.items c.loop-entry.entry-index (c.as_slice-whole.ensures ∙ c.entries.ensures.kept) c.loop-entry-test.false c.loop-entry.invariant.moved in
+    λ i x. (c.gathered.ensures.weights (λ v. v == x) ∙ ap (λ (es : List Entry). weight_at es x) all ∙ moved_weights become c.args.column.now x) i

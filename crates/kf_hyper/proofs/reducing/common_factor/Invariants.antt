@@ -1,6 +1,6 @@
 use Rattle.std.proofs.Common.{take}
 use Rattle.kf_hyper.specs.Classes.{IsCommonFactor}
-use Rattle.kf_hyper.proofs.lists.common_factor.Given as goal
+use Rattle.kf_hyper.proofs.reducing.common_factor.Given as goal
 
 abbrev pub invariant-loop-entry : goal.invariant-loop-entry
 invariant-loop-entry l = IsCommonFactor l.factor (take l.entry-index l.entries)

@@ -64,18 +64,18 @@ below_scaled size k (e ∷ es) below =
     All-cons (λ (e : Entry). e.value < size) (scaled k e) (map (scaled k) es) (All-head (λ (e : Entry). e.value < size) e es below)
     (below_scaled size k es (All-tail (λ (e : Entry). e.value < size) e es below))
 
-below_more : (size bound : ℕ) (c : List Entry) → size ≤ bound → IsBelow size c → IsBelow bound c
+pub below_more : (size bound : ℕ) (c : List Entry) → size ≤ bound → IsBelow size c → IsBelow bound c
 below_more size bound [] more below = All-nil (λ (e : Entry). e.value < bound)
 below_more size bound (e ∷ es) more below =
     All-cons (λ (e : Entry). e.value < bound) e es (omega (arith, more, All-head (λ (e : Entry). e.value < size) e es below))
     (below_more size bound es more (All-tail (λ (e : Entry). e.value < size) e es below))
 
 -- the i-th inner, as the joint weights see it
-abbrev inner_at : HyperTree → ℕ → Inner
+abbrev pub inner_at : HyperTree → ℕ → Inner
 inner_at h i = get_or h.inners i (record { entries = []; total = 0 })
 
 -- all values are below this
-abbrev Bounds : ℕ → HyperTree → Type 0
+abbrev pub Bounds : ℕ → HyperTree → Type 0
 Bounds size h = (i : ℕ) → i < count h → IsBelow size (inner_at h i).entries
 
 bounds : (h : HyperTree) (bound : ℕ) → target_size h.target ≤ bound → IsProper h → Bounds bound h
@@ -94,17 +94,17 @@ gained_joint h size rest gains i below =
 -- ---- a posterior vulnerability as a sum over the inners
 
 -- each inner's vulnerability, and their sum
-record Parts (t : TableTree) (inners : List Inner) (z : ℤ) : Type 0 where
-  worth : ℕ → ℤ
-  each : (i : ℕ) → i < length inners → IsVulnerability (Table t) (joint_column (get_or inners i (record { entries = []; total = 0 }))) (worth i)
-  whole : z ≡ total (length inners) worth
+pub record Parts (t : TableTree) (inners : List Inner) (z : ℤ) : Type 0 where
+  pub worth : ℕ → ℤ
+  pub each : (i : ℕ) → i < length inners → IsVulnerability (Table t) (joint_column (get_or inners i (record { entries = []; total = 0 }))) (worth i)
+  pub whole : z ≡ total (length inners) worth
 
 -- a number before all others
 abbrev before : ℤ → (ℕ → ℤ) → ℕ → ℤ
 before z f zero = z
 before z f (suc k) = f k
 
-parts : (t : TableTree) (inners : List Inner) (z : ℤ) → IsPosterior (Table t) inners z → Parts t inners z
+pub parts : (t : TableTree) (inners : List Inner) (z : ℤ) → IsPosterior (Table t) inners z → Parts t inners z
 parts t [] z is = record { worth = λ i. pos 0; each = λ i l. absurd (omega (arith, l)); whole = is }
 parts t (i ∷ inners) z (first, others, v, p, is) =
     let r : Parts t inners others = parts t inners others p in
@@ -166,7 +166,7 @@ module _ (a b : HyperTree) (t : TableTree) (size d : ℕ) (r : ℕ → ℕ → �
       product_right : (u v c : ℤ) → pos 0 ≤ℤ c → u ≤ℤ v → (u *ℤ c) ≤ℤ (v *ℤ c)
       product_right u v c some less = omega (arith, ints, product_monotone u v c some less)
 
-  no_better : ((i : ℕ) → i < count a → total (count b) (r i) ≡ pos d) → 0 < d → (pos a.scale *ℤ of_b) ≤ℤ (pos b.scale *ℤ of_a)
+  pub no_better : ((i : ℕ) → i < count a → total (count b) (r i) ≡ pos d) → 0 < d → (pos a.scale *ℤ of_b) ≤ℤ (pos b.scale *ℤ of_a)
   no_better rows some =
       let m = count a in
       let n = count b in

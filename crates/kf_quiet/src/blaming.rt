@@ -1,0 +1,76 @@
+//! How much is left of what is seen where each outermost statement in turn is quiet.
+
+ghost use Rattle.std.specs.Prelude.{◌≡◌, ℤ, List, IfOk, length};
+ghost use Rattle.kf_frac.specs.Parts.{IsFraction};
+ghost use Rattle.kf_hyper.specs.Views.{inners_of, scale_of};
+ghost use Rattle.kf_core.specs.Joint.{joint_of};
+ghost use Rattle.kf_core.specs.Rows.{IsHyperOf};
+ghost use Rattle.kf_gain.specs.Gains.{Bayes};
+ghost use Rattle.kf_gain.specs.Vulnerabilities.{IsPosterior};
+ghost use Rattle.kf_quiet.specs.Blames.{BlameTree, AreBlames};
+ghost use Rattle.kf_quiet.specs.Views.{ShowBlames};
+
+use crate::finishing::about_target;
+use crate::quiet::quiet_hyper;
+use crate::{Blame, BlameList, Pusher};
+use kf_core::{choice_laws, run_laws};
+use kf_frac::Frac;
+use kf_gain::{Gain, GainFault, posterior};
+use kf_hyper::Hyper;
+use kf_value::Mem;
+use std::alloc::Global;
+
+/// The hyper of the whole program.
+fn whole_hyper<P: Pusher>(alloc: Global, p: &P) -> Result<Hyper, Mem>
+    ensures hyper { IfOk result (λ h. IsHyperOf (joint_of (P.meaning p.now).turns (P.meaning p.now).program) (inners_of h)) }
+    ensures scale { IfOk result (λ h. scale_of h ≡ (P.meaning p.now).scale) }
+{
+    choice_laws();
+    run_laws();
+    let program = p.program();
+    let start = p.start(alloc)?;
+    let after = p.push(alloc, 0, program.body.as_slice().len(), &start)?;
+    let hyper = about_target(alloc, program, &after)?;
+    Ok(hyper)
+}
+
+/// The posterior Bayes vulnerability of a hyper.
+fn bayes_of(alloc: Global, h: &Hyper) -> Result<Frac, Mem>
+    ensures { IfOk result (λ f. (z : ℤ) × IsPosterior Bayes (inners_of h.now) z × IsFraction f z (scale_of h.now)) }
+{
+    let _scale = h.scale();
+    match posterior(alloc, h, &Gain::Bayes) {
+        Ok(bayes) => Ok(bayes),
+        Err(GainFault::Mem) => Err(Mem),
+        Err(GainFault::Wide) => unreachable!(),
+    }
+}
+
+/// How many inners a hyper has, and its posterior Bayes vulnerability.
+fn blame_at(alloc: Global, h: &Hyper) -> Result<Blame, Mem>
+    ensures inners { IfOk result (λ b. b.inners ≡ length (inners_of h.now)) }
+    ensures bayes { IfOk result (λ b. (z : ℤ) × IsPosterior Bayes (inners_of h.now) z × IsFraction b.bayes z (scale_of h.now)) }
+{
+    let bayes = bayes_of(alloc, h)?;
+    Ok(Blame {
+        inners: h.count() as u64,
+        bayes,
+    })
+}
+
+/// The blames of a program: the number of inners and the posterior Bayes vulnerability of its hyper, and then of its hyper where each
+/// outermost statement in turn is quiet.
+pub fn blame_of<P: Pusher>(alloc: Global, p: &P) -> Result<BlameList, Mem>
+    ensures { IfOk result (λ blames. (trees : List BlameTree) × AreBlames (P.meaning p.now).turns (P.meaning p.now).program trees
+        × ShowBlames (P.meaning p.now).scale trees blames) }
+{
+    let count = p.program().body.as_slice().len();
+    let whole = whole_hyper(alloc, p)?;
+    let mut blames = Vec::new(alloc);
+    blames.push(blame_at(alloc, &whole)?)?;
+    for i in 0..count {
+        let quiet = quiet_hyper(alloc, p, i, i + 1)?;
+        blames.push(blame_at(alloc, &quiet)?)?;
+    }
+    Ok(BlameList::new(blames))
+}

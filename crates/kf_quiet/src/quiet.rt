@@ -1,0 +1,93 @@
+//! The hyper of a program with a quiet block.
+
+ghost use Rattle.std.specs.Prelude.{◌≡◌, ◌≤◌, ◌<◌, [], ◌∷◌, All, length, drop, IfOk};
+ghost use Rattle.kf_hyper.specs.Columns.{total};
+ghost use Rattle.kf_hyper.specs.Joint.{mass};
+ghost use Rattle.kf_hyper.specs.Shapes.{IsBelow};
+ghost use Rattle.kf_core.specs.Pushing.{AreBehind};
+ghost use Rattle.kf_core.specs.Ready.{IsReady};
+ghost use Rattle.kf_core.specs.Rows.{IsHyperOf};
+ghost use Rattle.kf_hyper.specs.Views.{inners_of, scale_of, target_of};
+ghost use Rattle.kf_quiet.specs.Meanings.{runs_between, store_count};
+ghost use Rattle.kf_quiet.specs.Quiet.{hushed, quiet_joint};
+
+use crate::Pusher;
+use crate::erasing::{alone, sum_of};
+use crate::finishing::{about_target, are_columns};
+use kf_core::{choice_laws, run_laws};
+use kf_hyper::{Column, ColumnList, Columns, Hyper};
+use kf_value::Mem;
+use std::alloc::Global;
+
+/// What one column becomes in a quiet block: the sum of all that stands behind the block.
+fn hush_one<P: Pusher>(
+    alloc: Global,
+    p: &P,
+    from: usize,
+    to: usize,
+    column: &Column,
+) -> Result<Column, Mem>
+    requires order { from ≤ to }
+    requires within { to ≤ length (P.meaning p.now).program.body }
+    requires fits { total column.now ≤ (P.meaning p.now).scale }
+    requires below { IsBelow (store_count (P.meaning p.now)) column.now }
+    requires ready { IsReady (P.meaning p.now).program.types (P.meaning p.now).turns (drop from (P.meaning p.now).program.body) (column.now ∷ []) }
+    ensures behind { IfOk result (λ after. AreBehind (λ n. hushed (runs_between (P.meaning p.now) from to n)) (column.now ∷ []) (after ∷ [])) }
+    ensures below { IfOk result (λ after. IsBelow (store_count (P.meaning p.now)) after) }
+    ensures total { IfOk result (λ after. total after ≡ total column.now) }
+{
+    p.program();
+    column.entries();
+    let one = alone(alloc, p.scale(), column.copy(alloc)?)?;
+    let after = p.push(alloc, from, to, &one)?;
+    let erased = sum_of(alloc, &after)?;
+    erased.entries();
+    Ok(erased)
+}
+
+/// What columns become in a quiet block: each goes through it alone, and is erased behind it.
+fn hush_all<P: Pusher>(
+    alloc: Global,
+    p: &P,
+    from: usize,
+    to: usize,
+    columns: &Columns,
+) -> Result<Columns, Mem>
+    requires order { from ≤ to }
+    requires within { to ≤ length (P.meaning p.now).program.body }
+    requires scale { columns.now.scale ≡ (P.meaning p.now).scale }
+    requires below { All (IsBelow (store_count (P.meaning p.now))) columns.now.columns }
+    requires ready { IsReady (P.meaning p.now).program.types (P.meaning p.now).turns (drop from (P.meaning p.now).program.body) columns.now.columns }
+    ensures behind { IfOk result (λ after. AreBehind (λ n. hushed (runs_between (P.meaning p.now) from to n)) columns.now.columns after.columns) }
+    ensures scale { IfOk result (λ after. after.scale ≡ (P.meaning p.now).scale) }
+    ensures below { IfOk result (λ after. All (IsBelow (store_count (P.meaning p.now))) after.columns) }
+    ensures mass { IfOk result (λ after. mass after.columns ≡ mass columns.now.columns) }
+{
+    run_laws();
+    are_columns(columns);
+    let mut list = Vec::new(alloc);
+    for column in columns.columns().as_slice() {
+        list.push(hush_one(alloc, p, from, to, column)?)?;
+    }
+    Ok(Columns::new(columns.scale(), ColumnList::new(list)))
+}
+
+/// The hyper of a program whose outermost statements from the one at `from` on, counted from 0, up to but not with the one at `to`,
+/// are quiet: what is seen of them together is nothing. They do what they do.
+pub fn quiet_hyper<P: Pusher>(alloc: Global, p: &P, from: usize, to: usize) -> Result<Hyper, Mem>
+    requires some { from < to }
+    requires within { to ≤ length (P.meaning p.now).program.body }
+    ensures hyper { IfOk result (λ h. IsHyperOf (quiet_joint (P.meaning p.now).turns (P.meaning p.now).program from to) (inners_of h)) }
+    ensures scale { IfOk result (λ h. scale_of h ≡ (P.meaning p.now).scale) }
+    ensures target { IfOk result (λ h. target_of h ≡ (P.meaning p.now).program.target) }
+{
+    choice_laws();
+    run_laws();
+    let program = p.program();
+    let start = p.start(alloc)?;
+    let before = p.push(alloc, 0, from, &start)?;
+    let hushed = hush_all(alloc, p, from, to, &before)?;
+    let after = p.push(alloc, to, program.body.as_slice().len(), &hushed)?;
+    let hyper = about_target(alloc, program, &after)?;
+    Ok(hyper)
+}

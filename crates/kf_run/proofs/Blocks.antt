@@ -19,11 +19,11 @@ use Rattle.kf_core.proofs.Measures.{Full}
 use Rattle.kf_core.proofs.Solid.{all_solid, dist_filled, solid}
 use Rattle.kf_core.proofs.SoundParts.{sound_first}
 use Rattle.kf_eval.specs.Kinds.{shape_kinds}
-use Rattle.kf_run.specs.Following.{Goes, observed, side}
+use Rattle.kf_quiet.specs.Following.{Goes, observed, side}
 use Rattle.kf_run.specs.Going.{CanGo, HasGone}
 use Rattle.kf_hyper.proofs.Beliefs.{merged_below}
-use Rattle.kf_run.proofs.Carrying.{Runner, Matrix, goes_behind, pushed_again, pushed_chain, pushed_columns, pushed_stay}
-use Rattle.kf_run.proofs.Statements.{block_mass, goes_first, goes_guard, goes_left, goes_taken, pushed_guarded, runs_split, statement_mass}
+use Rattle.kf_quiet.proofs.Carrying.{Runner, Matrix, goes_behind, pushed_again, pushed_chain, pushed_columns, pushed_stay}
+use Rattle.kf_quiet.proofs.Statements.{block_mass, goes_first, goes_guard, goes_left, goes_taken, pushed_guarded, runs_split, statement_mass}
 
 -- the weight of two lists of columns
 pub mass_both : (xs ys : Matrix) → mass (xs ++ ys) ≡ mass xs + mass ys

@@ -1,6 +1,8 @@
 -- The ways that choices make.
-use Rattle.std.proofs.Common.{◌≡◌, ℕ, ◌≤◌, ◌<◌, List, [], ◌∷◌, ◌++◌, All, IsOk, Ok, Err, true≢false, refl, sym, ap, subst, ◌∙◌, append_assoc, append-nil, length, drop, arith}
+use Rattle.std.proofs.Common.{◌≡◌, ℕ, zero, suc, Some, ◌*◌, ◌≤◌, ◌<◌, List, [], ◌∷◌, ◌++◌, All, IsOk, Ok, Err, true≢false, refl, sym, ap, subst, ◌∙◌, append_assoc, append-nil, length, drop, arith}
+use Rattle.std.specs.Prelude.{slice_get}
 use Rattle.std.specs.List.{flat_map}
+use Rattle.std.proofs.Math.Nat.{mul-le-mul_left}
 use Rattle.std.proofs.lemmas.List.{drop_all}
 use Rattle.std.proofs.lemmas.List.Elements.{All-from_recursion, All-push}
 use Rattle.std.proofs.lemmas.List.Sums.{sum_by-cons}
@@ -48,3 +50,12 @@ no_fault at defined error.NoWeight is clear other = stopped_at at defined _ is c
 no_fault at defined error.NegativeWeight is clear other = stopped_at at defined _ is clear
 no_fault at defined error.RangeLong is clear other = stopped_at at defined _ is clear
 no_fault at defined error.Mem is clear other = other refl
+
+-- a choice weighs no more than all
+at_most : (ws : List Weighted) (i : ℕ) (w : Weighted) → slice_get ws i ≡ Some w → w.weight ≤ total ws
+at_most [] i w at = absurd (cc)
+at_most (u ∷ ws) zero w at = let same : u ≡ w = (cc) in omega (arith, ap (λ (v : Weighted). v.weight) same, sum_by-cons (λ (v : Weighted). v.weight) u ws)
+at_most (u ∷ ws) (suc i) w at = omega (arith, at_most ws i w at, sum_by-cons (λ (v : Weighted). v.weight) u ws)
+
+pub product_fits : (share bound : ℕ) (ws : List Weighted) (i : ℕ) (w : Weighted) → slice_get ws i ≡ Some w → share * total ws < bound → share * w.weight < bound
+product_fits share bound ws i w at fits = let most : share * w.weight ≤ share * total ws = mul-le-mul_left share (at_most ws i w at) in omega (arith, most, fits)

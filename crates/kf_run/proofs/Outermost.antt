@@ -29,13 +29,13 @@ use Rattle.kf_core.specs.ChoiceLaws.{ChoicesAreShares}
 use Rattle.kf_core.specs.SupportLaws.{CommonScaleIsLeast, ProgramAgrees, RunsChain, ScalesArePositive}
 use Rattle.kf_core.proofs.Filled.{all_full}
 use Rattle.kf_core.proofs.Solid.{all_solid}
-use Rattle.kf_run.specs.Following.{Goes}
-use Rattle.kf_run.specs.Stages.{AreApart, IsFinished, IsMeaning, Meaning, runs_between, store_count}
+use Rattle.kf_quiet.specs.Following.{Goes}
+use Rattle.kf_quiet.specs.Meanings.{AreApart, IsFinished, IsMeaning, Meaning, runs_between, store_count}
 use Rattle.kf_hyper.proofs.Beliefs.{merged_columns, merged_distinct, merged_has, merged_weights, some_merged}
-use Rattle.kf_run.proofs.Carrying.{Matrix, Runner, pushed_again, pushed_chain, pushed_columns, pushed_stay}
+use Rattle.kf_quiet.proofs.Carrying.{Matrix, Runner, pushed_again, pushed_chain, pushed_columns, pushed_stay}
 use Rattle.kf_run.proofs.Parts.{part, sound_behind}
-use Rattle.kf_run.proofs.Programs.{begun_rows, program_hyper, start_goes}
-use Rattle.kf_run.proofs.Statements.{blocks_split, goes_first}
+use Rattle.kf_quiet.proofs.Programs.{begun_rows, program_hyper, start_goes}
+use Rattle.kf_quiet.proofs.Statements.{blocks_split, goes_first}
 
 -- ---- one column
 
@@ -95,10 +95,10 @@ as_many from columns now n p same = record {
 -- ---- statements
 
 -- so many statements and the next one are one more
-front_more : {X : Type 0} (at : ℕ) (xs : List X) → take (at + 1) xs ≡ take at xs ++ part at (at + 1) xs
-front_more at xs =
-    let more : at + 1 ≡ at + ((at + 1) - at) = omega arith in
-    ap (λ n. take n xs) more ∙ take-add at ((at + 1) - at) xs
+front_more : {X : Type 0} (at to : ℕ) (xs : List X) → at ≤ to → take to xs ≡ take at xs ++ part at to xs
+front_more at to xs order =
+    let more : to ≡ at + (to - at) = omega (arith, order) in
+    ap (λ n. take n xs) more ∙ take-add at (to - at) xs
 
 -- a meaning's runs of the first statements, so many
 abbrev pub front : Meaning → ℕ → Runner
@@ -156,17 +156,17 @@ module _ (m : Meaning) (is : IsMeaning m) (shares : ChoicesAreShares) (agrees : 
       (all_full m.program.types m.turns (sts (drop at m.program.body)) (all_solid m.program.types (declared_kinds m.program) (rest_sound at)))
       (subst (λ f. Goes f (column ∷ [])) (chain_of (take at m.program.body) (drop at m.program.body) m.program.body (sym (take-append-drop at m.program.body))) (start_goes m.turns m.program is.checked is.clear shares agrees chains scales least column start))
 
-  pub behind_more : (at : ℕ) (now next : Joint) → Behind m at column now → IsPushed (runs_between m at (at + 1)) now.columns next.columns → next.scale ≡ m.scale
-      → All (IsBelow (store_count m)) next.columns → mass next.columns ≡ m.scale → IsReady m.program.types m.turns (drop (at + 1) m.program.body) next.columns → Behind m (at + 1) column next
-  behind_more at now next b step scale below whole ready =
-      let same : front m (at + 1) ≡ (λ n. chain (front m at n) (runs_between m at (at + 1))) =
-      chain_of (take at m.program.body) (part at (at + 1) m.program.body) (take (at + 1) m.program.body) (front_more at m.program.body) in
+  pub behind_more : (at to : ℕ) → at ≤ to → (now next : Joint) → Behind m at column now → IsPushed (runs_between m at to) now.columns next.columns → next.scale ≡ m.scale
+      → All (IsBelow (store_count m)) next.columns → mass next.columns ≡ m.scale → IsReady m.program.types m.turns (drop to m.program.body) next.columns → Behind m to column next
+  behind_more at to order now next b step scale below whole ready =
+      let same : front m to ≡ (λ n. chain (front m at n) (runs_between m at to)) =
+      chain_of (take at m.program.body) (part at to m.program.body) (take to m.program.body) (front_more at to m.program.body order) in
       record {
         start = b.start;
         pushed =
             subst (λ f. IsPushed f (column ∷ []) next.columns) (sym same)
-            (pushed_chain (front m at) (runs_between m at (at + 1)) (column ∷ []) now.columns next.columns (blocks_split m.program.types m.turns (sts (take at m.program.body)))
-            (lone_are column b.start.is_column) (front_goes at b.start) (subst (λ f. Goes f (column ∷ [])) same (front_goes (at + 1) b.start)) b.pushed step);
+            (pushed_chain (front m at) (runs_between m at to) (column ∷ []) now.columns next.columns (blocks_split m.program.types m.turns (sts (take at m.program.body)))
+            (lone_are column b.start.is_column) (front_goes at b.start) (subst (λ f. Goes f (column ∷ [])) same (front_goes to b.start)) b.pushed step);
         scale = scale;
         below = below;
         whole = whole;

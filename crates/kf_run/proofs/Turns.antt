@@ -15,13 +15,13 @@ use Rattle.kf_core.specs.Sts.{StTree, sts}
 use Rattle.kf_core.proofs.Filled.{Filled, chain_full, looped_full}
 use Rattle.kf_core.proofs.Solid.{all_solid, dist_filled}
 use Rattle.kf_eval.specs.Kinds.{shape_kinds}
-use Rattle.kf_run.specs.Following.{Goes, observed, side}
+use Rattle.kf_quiet.specs.Following.{Goes, observed, side}
 use Rattle.kf_run.specs.Going.{CanGo, HasGone}
-use Rattle.kf_run.specs.Laws.{SplitsOnce}
+use Rattle.kf_quiet.specs.Merging.{SplitsOnce}
 use Rattle.kf_hyper.proofs.Beliefs.{merged_again, merged_below, merged_columns, merged_mass, merged_none}
 use Rattle.kf_run.proofs.Blocks.{AreSides, block_full, mass_both}
-use Rattle.kf_run.proofs.Carrying.{Runner, Matrix, pushed_again, pushed_columns}
-use Rattle.kf_run.proofs.Statements.{ComesTo, all_turned, block_mass, blocks_split, goes_body, goes_guard, goes_next, turned, turned_last, turned_none}
+use Rattle.kf_quiet.proofs.Carrying.{Runner, Matrix, pushed_again, pushed_columns}
+use Rattle.kf_quiet.proofs.Statements.{ComesTo, all_turned, block_mass, blocks_split, goes_body, goes_guard, goes_next, turned, turned_last, turned_none}
 
 module _ (shape : Shape) (turns : ℕ) (test : DxTree) (xs : List StTree) (kinded : DistKinded (shape_kinds shape) test TruthKind)
     (sound : AreSound (shape_kinds shape) xs) where

@@ -6,7 +6,7 @@ use Rattle.kf_hyper.specs.Merged.{AreMerged}
 use Rattle.kf_hyper.specs.Shapes.{IsBelow}
 use Rattle.kf_core.specs.Ready.{IsPushed}
 use Rattle.kf_core.specs.Runs.{Run}
-use Rattle.kf_run.specs.Following.{Goes}
+use Rattle.kf_quiet.specs.Following.{Goes}
 
 -- merged columns of so many stores, whose weights go whole along the runs
 pub record CanGo (from : ℕ → List Run) (size : ℕ) (now : Joint) : Type 0 where

@@ -4,5 +4,4 @@ pub mod Following
 pub mod Going
 pub mod Ways
 pub mod Spreading
-pub mod Tables
-pub mod Stages
+pub mod Pushings

@@ -3,19 +3,23 @@
 
 mod choosing;
 mod cleared_stages;
-mod labels;
 mod laws;
+mod moving;
 mod pushes;
+mod pushing;
+mod showing;
+mod siding;
 mod spreading;
 mod stages;
 mod starting;
 mod steps;
-mod tables;
 mod ways;
 
 pub use kf_hyper::CountList;
-pub use laws::{merge_law, trail_laws};
+pub use kf_quiet::merge_law;
+pub use laws::trail_laws;
 pub use pushes::push;
+pub use pushing::Pushing;
 pub use stages::{Stages, hyper_of, trail};
 pub use starting::start;
 

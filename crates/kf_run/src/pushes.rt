@@ -19,6 +19,7 @@ ghost use Rattle.kf_run.specs.Going.{CanGo, HasGone};
 use crate::steps::{assignment, guard, show};
 use kf_core::{Dx, St, run_laws};
 use kf_hyper::{ColumnList, Columns, join, merge};
+use kf_quiet::are_columns;
 use kf_support::Cleared;
 use kf_value::{Mem, Shape};
 use std::alloc::Global;
@@ -30,16 +31,6 @@ fn none_of(alloc: Global, columns: &Columns) -> Columns
     Columns::new(columns.scale(), ColumnList::new(Vec::new(alloc)))
 }
 
-/// That each of them is a column, as its own type says. It goes through them, and changes nothing.
-pub fn are_columns(columns: &Columns)
-    ensures are { All IsColumn columns.now.columns }
-    ensures fits { mass columns.now.columns ≤ columns.now.scale }
-{
-    for column in columns.columns().as_slice() {
-        column.entries();
-    }
-}
-
 /// Both lists as one, with those of one posterior added up.
 fn merge_both(alloc: Global, one: Columns, other: Columns) -> Result<Columns, Mem>
     requires one_scale { one.scale ≡ other.scale }
@@ -48,7 +39,7 @@ fn merge_both(alloc: Global, one: Columns, other: Columns) -> Result<Columns, Me
     ensures scale { IfOk result (λ after. after.scale ≡ one.scale) }
 {
     let joined = join(alloc, one, other)?;
-    let merged = merge(alloc, &joined)?;
+    let merged = merge(alloc, joined)?;
     Ok(merged)
 }
 
@@ -148,6 +139,33 @@ fn push_all(
 ///
 /// Columns of one posterior are added up behind each statement, also inside branches and loops, so that no more is kept
 /// than one column for each belief that an observer may hold. Weights are over the program's scale, before and behind.
+pub fn push_owned(
+    alloc: Global,
+    c: &Cleared,
+    from: usize,
+    to: usize,
+    columns: Columns,
+) -> Result<Columns, Mem>
+    requires order { from ≤ to }
+    requires within { to ≤ length (program_tree (program_of c.now)).body }
+    requires scale { columns.scale ≡ whole_scale c.now }
+    requires below { All (IsBelow (shape_size (program_of c.now).shape)) columns.columns }
+    requires ready { IsReady (program_tree (program_of c.now)).types (turns_of c.now) (drop from (program_tree (program_of c.now)).body) columns.columns }
+    ensures pushed { IfOk result (λ after. IsPushed (all_runs (program_tree (program_of c.now)).types (turns_of c.now) (sts (take (to - from) (drop from (program_tree (program_of c.now)).body)))) columns.columns after.columns) }
+    ensures scale { IfOk result (λ after. after.scale ≡ whole_scale c.now) }
+    ensures below { IfOk result (λ after. All (IsBelow (shape_size (program_of c.now).shape)) after.columns) }
+    ensures ready { IfOk result (λ after. IsReady (program_tree (program_of c.now)).types (turns_of c.now) (drop to (program_tree (program_of c.now)).body) after.columns) }
+{
+    run_laws();
+    are_columns(&columns);
+    let merged = merge(alloc, columns)?;
+    let program = c.program();
+    let statements = &program.body.as_slice()[from..to];
+    let after = push_all(alloc, &program.shape, c.turns(), statements, merged)?;
+    Ok(after)
+}
+
+/// What `push_owned` makes of a copy of the columns.
 pub fn push(
     alloc: Global,
     c: &Cleared,
@@ -165,11 +183,7 @@ pub fn push(
     ensures below { IfOk result (λ after. All (IsBelow (shape_size (program_of c.now).shape)) after.columns) }
     ensures ready { IfOk result (λ after. IsReady (program_tree (program_of c.now)).types (turns_of c.now) (drop to (program_tree (program_of c.now)).body) after.columns) }
 {
-    run_laws();
-    are_columns(columns);
-    let merged = merge(alloc, columns)?;
-    let program = c.program();
-    let statements = &program.body.as_slice()[from..to];
-    let after = push_all(alloc, &program.shape, c.turns(), statements, merged)?;
+    let owned = columns.copy(alloc)?;
+    let after = push_owned(alloc, c, from, to, owned)?;
     Ok(after)
 }

@@ -1,109 +1,91 @@
-//! Columns spread along the ways from their stores.
+//! What goes from a column's stores, as columns.
 
-ghost use Rattle.std.specs.Prelude.{◌≡◌, ◌<◌, ◌+◌, ◌*◌, ◌^◌, ◌++◌, ℕ, List, All, IfOk, OnOk, if◌then◌else◌};
-ghost use Rattle.std.specs.List.Sorted.{IsStrictlySortedBy};
-ghost use Rattle.std.specs.Map.{keys_of};
+ghost use Rattle.std.specs.Prelude.{◌≡◌, ◌<◌, ◌≤◌, ◌^◌, ℕ, List, All, Bool, map, length, IfOk, OnOk};
 ghost use Rattle.kf_value.specs.Values.{ValueTree};
-ghost use Rattle.kf_hyper.specs.Columns.{total};
+ghost use Rattle.kf_hyper.specs.declared.entry.Entry.{Entry as EntryTree};
+ghost use Rattle.kf_hyper.specs.Columns.{IsColumn, total};
 ghost use Rattle.kf_hyper.specs.Shapes.{IsBelow};
-ghost use Rattle.kf_core.specs.Pushing.{AreBehind};
 ghost use Rattle.kf_core.specs.Runs.{Run};
-ghost use Rattle.kf_run.specs.Ways.{LabelsAscend, Leads, way_total};
-ghost use Rattle.kf_run.specs.Spreading.{AreSolid, Asked, HasWays, IsAlongWays, LabelsBelow, LeadBelow, brought, cut_columns, everywhere, held, place_order, spread_weight};
+ghost use Rattle.kf_run.specs.Spreading.{IsFront, Rise};
+ghost use Rattle.kf_run.specs.Ways.{HasRows, IsShared, along, leaked, way_total};
 
-use crate::ways::Ways;
-use kf_hyper::{Column, ColumnList, Columns, Entry, EntryList};
-use kf_value::Mem;
+use crate::ways::Leak;
+use kf_hyper::{Column, Entry, gathered};
+use kf_value::{Mem, compare};
 use std::alloc::Global;
-use std::collections::BTreeMap;
+use std::cmp::Ordering;
 
-/// Adds a weight at a label and a store.
-fn add(
-    sums: &mut BTreeMap<(usize, u64), u128>,
-    label: usize,
-    store: u64,
-    weight: u128,
-) -> Result<(), Mem>
-    requires some { 0 < weight }
-    requires fits { held everywhere sums.old.entries + weight < 2 ^ 128 }
-    ensures held { OnOk result ((asked : Asked) → held asked sums.new.entries ≡ held asked sums.old.entries + (if asked label store then weight else 0)) }
-    ensures solid { OnOk result (AreSolid sums.old.entries → AreSolid sums.new.entries) }
+/// A column names each of its values once, in ascending order and with a weight.
+fn is_column(column: &Column)
+    ensures { IsColumn column.now }
 {
-    let before = sums.get(&(label, store)).copied().unwrap_or(0);
-    sums.insert((label, store), before + weight)?;
-    Ok(())
+    column.entries();
 }
 
-/// Adds what the ways bring, so many times as each weighs.
-fn share_out(sums: &mut BTreeMap<(usize, u64), u128>, ways: &Ways, share: u128) -> Result<(), Mem>
-    requires some { 0 < share }
-    requires fits { held everywhere sums.old.entries + share * way_total ways.now < 2 ^ 128 }
-    ensures held { OnOk result ((asked : Asked) → held asked sums.new.entries ≡ held asked sums.old.entries + brought asked share ways.now.items.items) }
-    ensures solid { OnOk result (AreSolid sums.old.entries → AreSolid sums.new.entries) }
+/// Adds the column of these weights, where there are any.
+pub fn add_column(entries: Vec<Entry>, list: &mut Vec<Column>) -> Result<(), Mem>
+    requires positive { All (λ e. 0 < e.weight) entries.items }
+    requires fits { total entries.items < 2 ^ 128 }
+    ensures { OnOk result ((from : ℕ → List Run) (size : ℕ) (column : List EntryTree) (trace : List ValueTree)
+        → IsShared from column (map (along trace) entries.items) → IsBelow size entries.items → HasRows from size column list.old.items list.new.items) }
 {
-    for way in &ways.items {
-        if way.weight > 0 {
-            add(sums, way.label, way.to, share * way.weight)?;
-        }
-    }
-    Ok(())
-}
-
-/// What the ways from a column's stores bring, by label and then by store.
-fn sums_of(
-    alloc: Global,
-    table: &BTreeMap<u64, Ways>,
-    column: &Column,
-) -> Result<BTreeMap<(usize, u64), u128>, Mem>
-    requires along { All (HasWays table.now.entries) column.now }
-    requires fits { total column.now < 2 ^ 128 }
-    ensures held { IfOk result (λ sums. (asked : Asked) → held asked sums.entries ≡ spread_weight asked table.now.entries column.now) }
-    ensures solid { IfOk result (λ sums. AreSolid sums.entries) }
-{
-    let mut sums = BTreeMap::new(alloc);
-    for entry in column.entries().as_slice() {
-        if let Some(ways) = table.get(&entry.value) {
-            share_out(&mut sums, ways, entry.weight / ways.total)?;
-        }
-    }
-    Ok(sums)
-}
-
-/// Adds one column for each label, in order.
-fn cut(alloc: Global, list: &mut Vec<Column>, sums: BTreeMap<(usize, u64), u128>) -> Result<(), Mem>
-    requires solid { AreSolid sums.entries }
-    ensures columns { OnOk result (list.new.items ≡ list.old.items ++ cut_columns sums.entries) }
-    ensures sorted { OnOk result (IsStrictlySortedBy place_order (keys_of sums.entries)) }
-{
-    let mut entries = Vec::new(alloc);
-    let mut last = 0;
-    for ((label, value), weight) in sums {
-        if label != last && !entries.is_empty() {
-            list.push(Column::new(EntryList::new(entries)))?;
-            entries = Vec::new(alloc);
-        }
-        last = label;
-        entries.push(Entry { value, weight })?;
-    }
     if !entries.is_empty() {
-        list.push(Column::new(EntryList::new(entries)))?;
+        let column = gathered(entries);
+        is_column(&column);
+        list.push(column)?;
     }
     Ok(())
 }
 
-/// One column for each column and each label on a way from one of its stores: what the ways with this label bring.
-pub fn spread(alloc: Global, table: &BTreeMap<u64, Ways>, columns: &Columns) -> Result<Columns, Mem>
-    requires along { IsAlongWays table.now.entries columns.now.columns }
-    ensures behind { IfOk result (λ after. (count : ℕ) (trace : ℕ → List ValueTree) (from : ℕ → List Run)
-        → LabelsBelow count table.now.entries → LabelsAscend trace count → Leads trace from table.now.entries
-        → AreBehind from columns.now.columns after.columns) }
-    ensures scale { IfOk result (λ after. after.scale ≡ columns.now.scale) }
-    ensures below { IfOk result (λ after. (size : ℕ) → LeadBelow size table.now.entries → All (IsBelow size) after.columns) }
+/// How many at the front leak the first one's value.
+fn front_of(leaks: &[Leak]) -> usize
+    requires some { 0 < length leaks.now }
+    requires sorted { Rise leaks.now }
+    ensures some { 0 < result }
+    ensures within { result ≤ length leaks.now }
+    ensures front { IsFront leaks.now result }
 {
-    let mut list = Vec::new(alloc);
-    for column in columns.columns().as_slice() {
-        let sums = sums_of(alloc, table, column)?;
-        cut(alloc, &mut list, sums)?;
+    let first = &leaks[0].value;
+    for (i, leak) in leaks.iter().enumerate() {
+        if compare(first, &leak.value) != Ordering::Equal {
+            return i;
+        }
     }
-    Ok(Columns::new(columns.scale(), ColumnList::new(list)))
+    leaks.len()
+}
+
+/// The stores with their weights.
+fn entries_of(alloc: Global, leaks: &[Leak]) -> Result<Vec<Entry>, Mem>
+    ensures { IfOk result (λ entries. entries.items ≡ map (λ l. record { value = l.to; weight = l.weight }) leaks.now) }
+{
+    let mut entries = Vec::with_capacity(alloc, leaks.len())?;
+    for leak in leaks {
+        entries.push(Entry {
+            value: leak.to,
+            weight: leak.weight,
+        })?;
+    }
+    Ok(entries)
+}
+
+/// Adds one column for each value that is leaked, in order.
+pub fn add_columns(alloc: Global, mut leaks: Vec<Leak>, list: &mut Vec<Column>) -> Result<(), Mem>
+    requires positive { All (λ l. 0 < l.weight) leaks.items }
+    requires fits { way_total (map leaked leaks.items) < 2 ^ 128 }
+    ensures { OnOk result ((from : ℕ → List Run) (size : ℕ) (column : List EntryTree)
+        → IsShared from column (map leaked leaks.items) → All (λ l. l.to < size) leaks.items → HasRows from size column list.old.items list.new.items) }
+{
+    leaks.sort_unstable_by(|a, b| compare(&a.value, &b.value));
+    let sorted = leaks.as_slice();
+    let mut at = 0;
+    while at < sorted.len() {
+        let left = &sorted[at..];
+        let count = front_of(left);
+        let entries = entries_of(alloc, &left[..count])?;
+        let column = gathered(entries);
+        is_column(&column);
+        list.push(column)?;
+        at += count;
+    }
+    Ok(())
 }

@@ -14,7 +14,7 @@ ghost use Rattle.kf_core.specs.Rows.{IsHyperOf};
 ghost use Rattle.kf_core.specs.Runs.{all_runs};
 ghost use Rattle.kf_core.specs.Sts.{sts};
 ghost use Rattle.kf_core.specs.Views.{program_tree};
-ghost use Rattle.kf_run.specs.Stages.{Meaning, IsMeaning, AreApart, IsFinished, runs_between, store_count};
+ghost use Rattle.kf_quiet.specs.Meanings.{Meaning, IsMeaning, AreApart, IsFinished, runs_between, store_count};
 
 use kf_core::{choice_laws, run_laws};
 use kf_hyper::{Columns, CountList, Hyper};
@@ -41,19 +41,21 @@ pub trait Stages {
         ensures mass { IfOk result (λ first. mass first.columns ≡ (meaning self.now).scale) }
         ensures ready { IfOk result (λ first. IsReady (meaning self.now).program.types (meaning self.now).turns (meaning self.now).program.body first.columns) };
 
-    /// What the columns become in the outermost statement `at`, from 0, with those of one posterior added up.
-    fn pass(&self, alloc: Global, at: usize, columns: &Columns) -> Result<Columns, Mem>
-        requires within { at < length (meaning self.now).program.body }
-        requires scale { columns.now.scale ≡ (meaning self.now).scale }
-        requires below { All (IsBelow (store_count (meaning self.now))) columns.now.columns }
-        requires apart { AreApart columns.now.columns }
-        requires mass { mass columns.now.columns ≡ (meaning self.now).scale }
-        requires ready { IsReady (meaning self.now).program.types (meaning self.now).turns (drop at (meaning self.now).program.body) columns.now.columns }
-        ensures pushed { IfOk result (λ after. IsPushed (runs_between (meaning self.now) at (at + 1)) columns.now.columns after.columns) }
+    /// What the columns become in the outermost statements from the one at `from`, from 0, up to but not with the one at
+    /// `to`, with those of one posterior added up behind each.
+    fn pass(&self, alloc: Global, from: usize, to: usize, columns: Columns) -> Result<Columns, Mem>
+        requires order { from ≤ to }
+        requires within { to ≤ length (meaning self.now).program.body }
+        requires scale { columns.scale ≡ (meaning self.now).scale }
+        requires below { All (IsBelow (store_count (meaning self.now))) columns.columns }
+        requires apart { AreApart columns.columns }
+        requires mass { mass columns.columns ≡ (meaning self.now).scale }
+        requires ready { IsReady (meaning self.now).program.types (meaning self.now).turns (drop from (meaning self.now).program.body) columns.columns }
+        ensures pushed { IfOk result (λ after. IsPushed (runs_between (meaning self.now) from to) columns.columns after.columns) }
         ensures scale { IfOk result (λ after. after.scale ≡ (meaning self.now).scale) }
         ensures below { IfOk result (λ after. All (IsBelow (store_count (meaning self.now))) after.columns) }
         ensures mass { IfOk result (λ after. mass after.columns ≡ (meaning self.now).scale) }
-        ensures ready { IfOk result (λ after. IsReady (meaning self.now).program.types (meaning self.now).turns (drop (at + 1) (meaning self.now).program.body) after.columns) };
+        ensures ready { IfOk result (λ after. IsReady (meaning self.now).program.types (meaning self.now).turns (drop to (meaning self.now).program.body) after.columns) };
 
     /// The hyper of the columns, about the program's target.
     fn finish(&self, alloc: Global, columns: &Columns) -> Result<Hyper, Mem>
@@ -74,10 +76,8 @@ pub fn hyper_of<S: Stages>(alloc: Global, s: &S) -> Result<Hyper, Mem>
     choice_laws();
     run_laws();
     let count = s.count();
-    let mut now = s.start(alloc)?;
-    for at in 0..count {
-        now = s.pass(alloc, at, &now)?;
-    }
+    let start = s.start(alloc)?;
+    let now = s.pass(alloc, 0, count, start)?;
     let hyper = s.finish(alloc, &now)?;
     Ok(hyper)
 }
@@ -101,7 +101,7 @@ pub fn trail<S: Stages>(alloc: Global, s: &S) -> Result<CountList, Mem>
     counts.push(number_of(&start))?;
     let mut now = start;
     for at in 0..s.count() {
-        now = s.pass(alloc, at, &now)?;
+        now = s.pass(alloc, at, at + 1, now)?;
         counts.push(number_of(&now))?;
     }
     Ok(CountList::new(counts))

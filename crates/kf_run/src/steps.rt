@@ -2,42 +2,50 @@
 
 ghost use Rattle.std.specs.Prelude.{◌≡◌, ◌<◌, ◌+◌, ℕ, true, false, length, List, All, IfOk, IfSome};
 ghost use Rattle.kf_value.specs.Kinds.{KindTree, TruthKind};
-ghost use Rattle.kf_value.specs.Values.{ValueTree};
 ghost use Rattle.kf_value.specs.Shapes.{shape_size, shape_types};
-ghost use Rattle.kf_hyper.specs.Joint.{mass};
+ghost use Rattle.kf_hyper.specs.declared.entry.Entry.{Entry as EntryTree};
+ghost use Rattle.kf_hyper.specs.Joint.{IsJoint, mass};
 ghost use Rattle.kf_hyper.specs.Shapes.{IsBelow};
 ghost use Rattle.kf_core.specs.Checked.{DistKinded, IsChecked};
 ghost use Rattle.kf_core.specs.Ready.{IsPushed};
 ghost use Rattle.kf_core.specs.Runs.{Run, assigned, copied, leaks, silent, stay, tried};
 ghost use Rattle.kf_core.specs.Views.{dx_tree, program_tree};
 ghost use Rattle.kf_eval.specs.Kinds.{shape_kinds};
-ghost use Rattle.kf_run.specs.Following.{Goes, observed, shown_to, side};
-ghost use Rattle.kf_run.specs.Spreading.{IsAlongWays, LabelsBelow, LeadBelow};
-ghost use Rattle.kf_run.specs.Ways.{LabelsAscend, Leads};
+ghost use Rattle.kf_eval.specs.Memos.{IsMemoOf};
+ghost use Rattle.kf_quiet.specs.Following.{Goes, observed, side};
+ghost use Rattle.kf_run.specs.Following.{shown_to};
+ghost use Rattle.kf_run.specs.Spreading.{AreSpread};
 
-use crate::choosing::{choices_in, stores_of};
-use crate::labels::{labels_table, values_of};
-use crate::spreading::spread;
-use crate::tables::{copies_table, moves_table, sides_table};
-use crate::ways::Ways;
+use crate::moving::{copy_column, move_column};
+use crate::showing::show_column;
+use crate::siding::side_column;
 use kf_core::{Dx, Program};
-use kf_hyper::{Columns, merge};
+use kf_eval::Memo;
+use kf_hyper::{Column, ColumnList, Columns, merge};
 use kf_value::{Mem, Shape};
 use std::alloc::Global;
-use std::collections::BTreeMap;
 
-/// What columns become along the ways in a table, with those of one posterior added up.
-fn push_along(alloc: Global, table: &BTreeMap<u64, Ways>, columns: &Columns) -> Result<Columns, Mem>
-    requires along { IsAlongWays table.now.entries columns.now.columns }
-    ensures pushed { IfOk result (λ after. (count : ℕ) (trace : ℕ → List ValueTree) (from : ℕ → List Run)
-        → LabelsBelow count table.now.entries → LabelsAscend trace count → Leads trace from table.now.entries
-        → IsPushed from columns.now.columns after.columns
-        × ((size : ℕ) → LeadBelow size table.now.entries → All (IsBelow size) after.columns)) }
-    ensures scale { IfOk result (λ after. after.scale ≡ columns.now.scale) }
+/// The columns over this scale, with those of one posterior added up.
+fn merged(alloc: Global, scale: u128, list: Vec<Column>) -> Result<Columns, Mem>
+    requires joint { IsJoint (record { scale = scale; columns = list.items }) }
+    ensures { IfOk result (λ after. (from : ℕ → List Run) (size : ℕ) (columns : List (List EntryTree)) → AreSpread from size columns list.items
+        → IsPushed from columns after.columns × (after.scale ≡ scale) × All (IsBelow size) after.columns) }
 {
-    let behind = spread(alloc, table, columns)?;
-    let merged = merge(alloc, &behind)?;
+    let behind = Columns::new(scale, ColumnList::new(list));
+    let merged = merge(alloc, behind)?;
     Ok(merged)
+}
+
+/// A memo for the stores of all columns.
+fn memo_for(alloc: Global, shape: &Shape, dist: &Dx, columns: &Columns) -> Result<Memo, Mem>
+    ensures { IfOk result (λ memo. IsMemoOf shape.now (dx_tree dist.now) memo) }
+{
+    let mut asked: usize = 0;
+    for column in columns.columns().as_slice() {
+        asked = asked.saturating_add(column.entries().as_slice().len());
+    }
+    let memo = Memo::new(alloc, shape, dist, asked)?;
+    Ok(memo)
 }
 
 /// What columns become where the variable at `slot` takes a value that isn't leaked, with those of one posterior added up.
@@ -56,10 +64,12 @@ pub fn assign(
     ensures scale { IfOk result (λ after. after.scale ≡ columns.now.scale) }
     ensures below { IfOk result (λ after. All (IsBelow (shape_size shape.now)) after.columns) }
 {
-    let stores = stores_of(alloc, columns)?;
-    let choices = choices_in(alloc, shape, dist, stores.as_slice())?;
-    let table = moves_table(alloc, shape, slot, &choices)?;
-    let after = push_along(alloc, &table, columns)?;
+    let mut memo = memo_for(alloc, shape, dist, columns)?;
+    let mut list = Vec::new(alloc);
+    for column in columns.columns().as_slice() {
+        move_column(alloc, shape, slot, dist, &mut memo, column, &mut list)?;
+    }
+    let after = merged(alloc, columns.scale(), list)?;
     Ok(after)
 }
 
@@ -79,11 +89,12 @@ pub fn show(
     ensures scale { IfOk result (λ after. after.scale ≡ columns.now.scale) }
     ensures below { IfOk result (λ after. All (IsBelow (shape_size shape.now)) after.columns) }
 {
-    let stores = stores_of(alloc, columns)?;
-    let choices = choices_in(alloc, shape, dist, stores.as_slice())?;
-    let values = values_of(alloc, &choices)?;
-    let table = labels_table(alloc, shape, into, values.as_slice(), &choices)?;
-    let after = push_along(alloc, &table, columns)?;
+    let mut memo = memo_for(alloc, shape, dist, columns)?;
+    let mut list = Vec::new(alloc);
+    for column in columns.columns().as_slice() {
+        show_column(alloc, shape, into, dist, &mut memo, column, &mut list)?;
+    }
+    let after = merged(alloc, columns.scale(), list)?;
     Ok(after)
 }
 
@@ -133,12 +144,22 @@ pub fn guard(alloc: Global, shape: &Shape, dist: &Dx, columns: &Columns) -> Resu
     ensures below_left { IfOk result (λ sides. All (IsBelow (shape_size shape.now)) sides.left.columns) }
     ensures mass { IfOk result (λ sides. mass sides.taken.columns + mass sides.left.columns ≡ mass columns.now.columns) }
 {
-    let stores = stores_of(alloc, columns)?;
-    let choices = choices_in(alloc, shape, dist, stores.as_slice())?;
-    let held = sides_table(alloc, true, &choices)?;
-    let taken = push_along(alloc, &held, columns)?;
-    let failed = sides_table(alloc, false, &choices)?;
-    let left = push_along(alloc, &failed, columns)?;
+    let mut memo = memo_for(alloc, shape, dist, columns)?;
+    let mut held = Vec::new(alloc);
+    let mut failed = Vec::new(alloc);
+    for column in columns.columns().as_slice() {
+        side_column(
+            alloc,
+            shape,
+            dist,
+            &mut memo,
+            column,
+            &mut held,
+            &mut failed,
+        )?;
+    }
+    let taken = merged(alloc, columns.scale(), held)?;
+    let left = merged(alloc, columns.scale(), failed)?;
     Ok(Sides { taken, left })
 }
 
@@ -150,8 +171,10 @@ pub fn copy(alloc: Global, program: &Program, columns: &Columns) -> Result<Colum
     ensures scale { IfOk result (λ after. after.scale ≡ columns.now.scale) }
     ensures below { IfOk result (λ after. All (IsBelow (shape_size program.now.shape)) after.columns) }
 {
-    let stores = stores_of(alloc, columns)?;
-    let table = copies_table(alloc, program, stores.as_slice())?;
-    let after = push_along(alloc, &table, columns)?;
+    let mut list = Vec::new(alloc);
+    for column in columns.columns().as_slice() {
+        copy_column(alloc, program, column, &mut list)?;
+    }
+    let after = merged(alloc, columns.scale(), list)?;
     Ok(after)
 }

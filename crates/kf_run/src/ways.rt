@@ -1,21 +1,11 @@
-//! The ways of a statement from each store, worked out once.
+//! Where the weight of stores goes.
 
-use std::collections::BTreeMap;
+use kf_value::Value;
 
-/// A way from a store.
-#[derive(Clone, Copy)]
-pub struct Way {
-    /// What is leaked on it, as a number: a greater one for a later trace.
-    pub label: usize,
-    /// The store to which it leads.
+/// A value that is leaked, the store behind it, and the weight that goes there.
+#[derive(Drop)]
+pub struct Leak {
+    pub value: Value,
     pub to: u64,
     pub weight: u128,
-}
-
-/// The ways from a store.
-#[derive(Drop)]
-pub struct Ways {
-    pub items: Vec<Way>,
-    /// What each weight is divided by to give a probability.
-    pub total: u128,
 }

@@ -1,35 +1,13 @@
-use Rattle.std.proofs.Common.{◌≡◌, ◌≤◌, sym, ap, subst, Ok}
 use Rattle.kf_value.specs.Shapes.{shape_types}
 use Rattle.kf_core.specs.Choices.{choices}
-use Rattle.kf_core.specs.Views.{dx_shape, dx_tree}
-use Rattle.kf_core.specs.Runs.{store_at, placed_at, tried}
-use Rattle.kf_core.proofs.Scales.{weighty}
-use Rattle.kf_core.proofs.Solid.{dist_filled}
+use Rattle.kf_core.specs.Views.{dx_shape}
+use Rattle.kf_core.specs.Runs.{store_at}
 use Rattle.kf_core.proofs.Stores.{store_is}
-use Rattle.kf_eval.specs.Choices.{weighted_trees}
-use Rattle.kf_run.proofs.Making.{total_some, all_weigh, no_fault}
+use Rattle.kf_run.proofs.Making.{no_fault}
 use Rattle.kf_run.proofs.choosing.chosen_in.Goals as goal
-
-pub returns-in-Ok : goal.returns-in-Ok
-returns-in-Ok c =
-    let ts = shape_types c.args.shape.now in
-    let d = dx_tree c.args.dist.now in
-    let ws = weighted_trees c.in-Ok.choice in
-    let known = c.in-Ok.ensures.choice (store_at ts c.args.store) (store_is ts c.args.store c.requires.store) in
-    let chosen : tried ts d c.args.store ≡ Ok ws = ap (placed_at c.args.dist.now.at) known.0 in
-    let weighs = weighty c.choice_laws.ensures.shares ts d c.args.store in
-    record {
-      below = c.requires.store;
-      chosen = chosen;
-      total_is = known.1;
-      some = subst (λ n. 1 ≤ n) (sym known.1) (total_some (tried ts d c.args.store) ws chosen (dist_filled ts d c.requires.kinded.1 c.args.store) weighs);
-      weigh = all_weigh (tried ts d c.args.store) ws chosen weighs;
-      formed = λ i w within. (c.in-Ok.ensures.kind c.requires.kinded.0 c.requires.kinded.1 i w within).1;
-      kinded = λ k is i w within. (c.in-Ok.ensures.kind k is i w within).0;
-    }
 
 pub unreachable-requires : goal.unreachable-requires
 unreachable-requires c =
     let ts = shape_types c.args.shape.now in
-    let known = c.in-Err.ensures.choice (store_at ts c.args.store) (store_is ts c.args.store c.requires.store) in
+    let known = c.in-Err.ensures.fault (store_at ts c.args.store) (store_is ts c.args.store c.requires.store) in
     no_fault c.args.dist.now.at (choices (store_at ts c.args.store) (dx_shape c.args.dist.now.node)) c.in-Err.error known c.requires.clear c.in_default.not-Mem

@@ -6,10 +6,10 @@ use Rattle.kf_core.specs.declared.st.St.{the_lemmas}
 use Rattle.kf_core.specs.Views.{dx_tree, st_tree, st_items}
 use Rattle.kf_eval.specs.Kinds.{shape_kinds}
 use Rattle.kf_core.proofs.SoundParts as sound
-use Rattle.kf_run.specs.Following.{Goes}
+use Rattle.kf_quiet.specs.Following.{Goes}
 use Rattle.kf_run.specs.Going.{CanGo, HasGone}
 use Rattle.kf_run.proofs.Blocks as blocks
-use Rattle.kf_run.proofs.Carrying.{pushed_stay}
+use Rattle.kf_quiet.proofs.Carrying.{pushed_stay}
 use Rattle.kf_run.proofs.Forms as form
 use Rattle.kf_run.proofs.Turns as loop
 use Rattle.kf_run.proofs.pushes.+push.Goals as goal

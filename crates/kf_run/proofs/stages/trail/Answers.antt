@@ -1,4 +1,4 @@
-use Rattle.std.proofs.Common.{sym, subst, arith}
+use Rattle.std.proofs.Common.{◌+◌, ◌≤◌, sym, subst, arith}
 use Rattle.kf_core.specs.Pushing.{IsTrail}
 use Rattle.kf_run.proofs.Outermost as outermost
 use Rattle.kf_run.proofs.stages.trail.Goals as goal
@@ -30,7 +30,7 @@ pass-requires-clause-ready g c = c.loop-at.invariant.1.ready
 pub loop-at-preserved : goal.loop-at-preserved
 loop-at-preserved g c =
     let before = c.loop-at.invariant in
-    let behind = outermost.behind_more (g.S.Stages.meaning c.args.s.now) c.count-at-end.ensures.meaning c.choice_laws.ensures.shares c.run_laws.ensures.program c.run_laws.ensures.sequence c.run_laws.ensures.positive c.run_laws.ensures.least before.0 c.loop-at.at c.loop-at.now c.in_ok-now.now before.1
+    let behind = outermost.behind_more (g.S.Stages.meaning c.args.s.now) c.count-at-end.ensures.meaning c.choice_laws.ensures.shares c.run_laws.ensures.program c.run_laws.ensures.sequence c.run_laws.ensures.positive c.run_laws.ensures.least before.0 c.loop-at.at (c.loop-at.at + 1) (omega arith) c.loop-at.now c.in_ok-now.now before.1
     c.in_ok-now.ensures.pushed c.in_ok-now.ensures.scale c.in_ok-now.ensures.below c.in_ok-now.ensures.mass c.in_ok-now.ensures.ready in (
       before.0,
       behind,

@@ -1,5 +1,6 @@
 pub mod Printing
 mod Attacking
+mod Blaming
 mod Reporting
 mod Rows
 mod Summaries

@@ -2,8 +2,11 @@
 pub mod Texts
 pub mod ReportTexts
 pub mod AttackTexts
+pub mod BlameTexts
 pub mod CapacityTexts
 pub mod VerdictTexts
 -- For bodies
 pub mod Views
+pub mod Endings
 pub mod AttackViews
+pub mod BlameViews

@@ -1,11 +1,15 @@
-ghost use Rattle.std.specs.Prelude.{◌≡◌, ◌<◌, ◌++◌, IfOk, OnOk, flat_map, length};
+ghost use Rattle.std.specs.Prelude.{◌≡◌, ◌<◌, ◌++◌, IfOk, OnOk, codes, flat_map, length, string_bytes};
+ghost use Rattle.kf_value.specs.Numbers.{target_size};
+ghost use Rattle.kf_value.specs.Targets.{target_value_text};
+ghost use Rattle.kf_value.specs.Views.{items_of};
 ghost use Rattle.kf_hyper.specs.Columns.{total};
 ghost use Rattle.kf_hyper.specs.Views.{entry_at, inner_at, inners_of, scale_of, target_of};
+ghost use Rattle.kf_text.specs.Endings.{line_end};
 ghost use Rattle.kf_text.specs.Texts.{head_lines, size_lines, entry_line, inner_lines, hyper_text as text_of_hyper};
 
 use crate::items::print_about;
 use kf_hyper::Hyper;
-use kf_value::{Mem, print_target};
+use kf_value::{Mem, Target, write_target};
 use std::alloc::Global;
 
 // Appends the scale, and how many inners there are.
@@ -28,35 +32,48 @@ fn print_head(alloc: Global, hyper: &Hyper, out: &mut Vec<u8>) -> Result<(), Mem
     Ok(())
 }
 
-// Appends the line of the `k`-th value of the inner `i`.
-fn print_entry(
-    alloc: Global,
-    hyper: &Hyper,
-    i: usize,
-    k: usize,
-    out: &mut Vec<u8>,
-) -> Result<(), Mem>
+// The end of the line of the `k`-th value of the inner `i`: its chance.
+fn chance_text(alloc: Global, hyper: &Hyper, i: usize, k: usize) -> Result<String, Mem>
     requires inner { i < length (inners_of hyper.now) }
     requires entry { k < length (inner_at hyper.now i).entries }
-    ensures { OnOk result (out.new.items ≡ out.old.items ++ entry_line (target_of hyper.now) (total (inner_at hyper.now i).entries) (entry_at (inner_at hyper.now i).entries k)) }
+    ensures { IfOk result (λ text. string_bytes text ≡ line_end (total (inner_at hyper.now i).entries) (entry_at (inner_at hyper.now i).entries k).weight) }
 {
-    let value = hyper.inner(i).entries().as_slice()[k].value;
     let chance = hyper.chance(i, k);
+    Ok(format!(in alloc; " {chance}\n")?)
+}
+
+// Appends the line of a value, with its end.
+fn print_entry(
+    alloc: Global,
+    target: &Target,
+    value: u64,
+    end: &str,
+    out: &mut Vec<u8>,
+) -> Result<(), Mem>
+    requires { value < target_size (items_of target.now) }
+    ensures { OnOk result (out.new.items ≡ out.old.items ++ (codes "  " ++ (target_value_text (items_of target.now) value ++ end.now))) }
+{
     out.extend_from_slice(b"  ")?;
-    print_target(alloc, hyper.target(), value, out)?;
-    let text = format!(in alloc; " {chance}\n")?;
-    out.extend_from_slice(text.as_bytes())?;
+    write_target(alloc, target, value, out)?;
+    out.extend_from_slice(end.as_bytes())?;
     Ok(())
 }
 
-// Appends the lines of all values of the inner `i`.
+// Appends the lines of all values of the inner `i`. For values of one weight in a row the text of their chance is worked out once.
 fn print_entries(alloc: Global, hyper: &Hyper, i: usize, out: &mut Vec<u8>) -> Result<(), Mem>
     requires { i < length (inners_of hyper.now) }
     ensures { OnOk result (out.new.items ≡ out.old.items ++ flat_map (entry_line (target_of hyper.now) (total (inner_at hyper.now i).entries)) (inner_at hyper.now i).entries) }
 {
-    let count = hyper.inner(i).entries().as_slice().len();
-    for k in 0..count {
-        print_entry(alloc, hyper, i, k, out)?;
+    let entries = hyper.inner(i).entries().as_slice();
+    let mut weight = None;
+    let mut end = String::new(alloc);
+    for k in 0..entries.len() {
+        let entry = entries[k];
+        if weight != Some(entry.weight) {
+            weight = Some(entry.weight);
+            end = chance_text(alloc, hyper, i, k)?;
+        }
+        print_entry(alloc, hyper.target(), entry.value, &end, out)?;
     }
     Ok(())
 }

@@ -1,7 +1,8 @@
-//! Printed texts: attacks, hypers, tables of traces, channels, capacities, leakage reports, trails, verdicts and marks.
+//! Printed texts: attacks, blames, hypers, tables of traces, channels, capacities, leakage reports, trails, verdicts and marks.
 #![tactic(auto)]
 
 mod attack;
+mod blame;
 mod capacity;
 mod channel;
 mod hyper;
@@ -14,6 +15,7 @@ mod trail;
 mod verdict;
 
 pub use attack::{attack_text, reach_text};
+pub use blame::blame_text;
 pub use capacity::{algebra_text, capacity_text};
 pub use channel::channel_text;
 pub use hyper::hyper_text;

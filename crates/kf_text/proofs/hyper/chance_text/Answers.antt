@@ -1,6 +1,6 @@
 use Rattle.std.proofs.Common.{rules, append_assoc}
 use Rattle.kf_text.proofs.Printing.{share_text}
-use Rattle.kf_text.proofs.hyper.print_entry.Goals as goal
+use Rattle.kf_text.proofs.hyper.chance_text.Goals as goal
 
 pub returns : goal.returns
 returns c =

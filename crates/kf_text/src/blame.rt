@@ -1,0 +1,57 @@
+ghost use Rattle.std.specs.Prelude.{◌≡◌, ◌++◌, ℕ, List, IfOk, OnOk, flat_map};
+ghost use Rattle.std.specs.List.{enumerate_from};
+ghost use Rattle.kf_quiet.specs.Blames.{BlameTree};
+ghost use Rattle.kf_quiet.specs.Views.{ShowBlames};
+ghost use Rattle.kf_text.specs.BlameTexts.{blame_text as text_of_blame};
+ghost use Rattle.kf_text.specs.BlameViews.{own_blame_line, own_without_line};
+
+use crate::items::print_fraction;
+use kf_quiet::{Blame, BlameList};
+use kf_value::Mem;
+use std::alloc::Global;
+
+// Appends the line of a blame, behind what it is a blame of.
+fn print_blame(alloc: Global, name: &[u8], blame: Blame, out: &mut Vec<u8>) -> Result<(), Mem>
+    ensures { OnOk result (out.new.items ≡ out.old.items ++ own_blame_line name.now blame) }
+{
+    let inners = blame.inners;
+    out.extend_from_slice(name)?;
+    let text = format!(in alloc; " inners {inners}")?;
+    out.extend_from_slice(text.as_bytes())?;
+    print_fraction(alloc, b" bayes ", blame.bayes, out)?;
+    Ok(())
+}
+
+// Appends the line where the outermost statement of this number is quiet.
+fn print_without(alloc: Global, i: usize, blame: Blame, out: &mut Vec<u8>) -> Result<(), Mem>
+    ensures { OnOk result (out.new.items ≡ out.old.items ++ own_without_line (i, blame)) }
+{
+    let name = format!(in alloc; "without {i}")?;
+    print_blame(alloc, name.as_bytes(), blame, out)?;
+    Ok(())
+}
+
+// Appends the lines of the outermost statements, numbered from 0.
+fn print_others(alloc: Global, others: &[Blame], out: &mut Vec<u8>) -> Result<(), Mem>
+    ensures { OnOk result (out.new.items ≡ out.old.items ++ flat_map own_without_line (enumerate_from 0 others.now)) }
+{
+    for i in 0..others.len() {
+        print_without(alloc, i, others[i], out)?;
+    }
+    Ok(())
+}
+
+/// The printed blames: a line for the whole program, and one for each outermost statement, numbered from 0, with how many inners
+/// there are and the posterior Bayes vulnerability.
+pub fn blame_text(alloc: Global, b: &BlameList) -> Result<Vec<u8>, Mem>
+    ensures { (scale : ℕ) (trees : List BlameTree) → ShowBlames scale trees b.now
+        → IfOk result (λ text. text.items ≡ text_of_blame scale trees) }
+{
+    let mut out = Vec::new(alloc);
+    let [all, others @ ..] = b.as_slice() else {
+        return Ok(out);
+    };
+    print_blame(alloc, b"all", *all, &mut out)?;
+    print_others(alloc, others, &mut out)?;
+    Ok(out)
+}

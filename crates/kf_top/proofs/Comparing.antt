@@ -1,5 +1,5 @@
 -- The hypers of two programs, and what stops a verdict on them.
-use Rattle.std.proofs.Common.{◌≡◌, ◌≢◌, ℕ, Bool, List, if◌then◌else◌, Ok, Err, inl, inr, refl, sym, ap, subst, ◌∙◌}
+use Rattle.std.proofs.Common.{◌≡◌, ◌≢◌, ℕ, Bool, List, if◌then◌else◌, Ok, Err, Result, IfOk, IfErr, inl, inr, refl, sym, ap, subst, ◌∙◌}
 use Rattle.kf_value.specs.Targets.{Item}
 use Rattle.kf_core.specs.Joint.{joint_of}
 use Rattle.kf_core.specs.Programs.{ProgramTree}
@@ -9,8 +9,10 @@ use Rattle.kf_core.specs.Views.{program_tree}
 use Rattle.kf_hyper.specs.Views.{inners_of, scale_of, target_of}
 use Rattle.kf_hyper.specs.declared.hyper.Hyper.{Hyper}
 use Rattle.kf_refine.specs.Refinements.{HyperTree}
-use Rattle.kf_refine.specs.Verdicts.{IsVerdict, VerdictTree}
-use Rattle.kf_refine.specs.Views.{hyper_tree}
+use Rattle.kf_refine.specs.Shapes.{IsWritable}
+use Rattle.kf_refine.specs.Verdicts.{IsVerdict, Proves, VerdictTree}
+use Rattle.kf_refine.specs.Views.{hyper_tree, verdict_tree}
+use Rattle.kf_refine.specs.declared.verdict.Verdict.{Verdict}
 use Rattle.kf_refine.specs.declared.verdict.RefineError.{RefineError}
 use Rattle.kf_refine.specs.declared.verdict.RefineError.TheVariants as error
 use Rattle.kf_cert.specs.Certificates.{CertTree, cert_of}
@@ -27,7 +29,12 @@ use Rattle.kf_support.specs.Cleared.{program_of, turns_of, whole_scale}
 use Rattle.kf_support.specs.declared.cleared.Cleared.{Cleared}
 use Rattle.kf_top.specs.Answer.{Refused, BadCert, MarkOf, OtherTarget, WideCert}
 use Rattle.kf_top.specs.Outcome.{AreHypers, CertIn, Gives, IsHyperTree, RefineOutcome, cert_read, cert_word, most_pivots, source_of, verdict_stated}
-use Rattle.kf_top.specs.Stops.{Answers, is_cert, MarkOn}
+use Rattle.kf_top.specs.Stops.{Answers, is_cert, IsToldOf, MarkOn, VerdictIn}
+use Rattle.kf_top.specs.Views.{ShowsStatement}
+use Rattle.kf_top.specs.declared.refining.Hypers.{Hypers}
+use Rattle.kf_top.specs.declared.stops.Done.{Done}
+use Rattle.kf_top.specs.declared.stops.Stop.{Stop}
+use Rattle.kf_top.proofs.Steps.{answers_by}
 
 -- the hyper of a cleared program
 pub is_hyper_tree : (turns : ℕ) (cleared : Cleared) → turns_of cleared ≡ turns → (h : Hyper)
@@ -40,10 +47,38 @@ is_hyper_tree turns cleared often h hyper scale target = record {
 }
 
 -- an error that isn't want of memory is what is told of it
-pub no_verdict : (json : Bool) (turns : ℕ) (p q : ProgramTree) (a b : HyperTree) → AreHypers turns p q a b → (e k : RefineError) → e ≡ k → k ≢ error.Mem
-    → (e ≢ error.Mem → IsVerdict a b most_pivots (Err e)) → (r : Refused) → Err r ≡ verdict_stated json a b (Err k) → RefineOutcome json turns p q (Err r)
-no_verdict json turns p q a b hypers e k same some is r told =
-    (a, b, hypers, (Err k, subst (λ (f : RefineError). IsVerdict a b most_pivots (Err f)) same (is (λ mem. some (sym same ∙ mem))), told))
+pub no_verdict : (json : Bool) (a b : HyperTree) (e k : RefineError) → e ≡ k → k ≢ error.Mem
+    → (e ≢ error.Mem → IsVerdict a b most_pivots (Err e)) → (r : Refused) → Err r ≡ verdict_stated json a b (Err k) → VerdictIn json a b (Err r)
+no_verdict json a b e k same some is r told =
+    (Err k, subst (λ (f : RefineError). IsVerdict a b most_pivots (Err f)) same (is (λ mem. some (sym same ∙ mem))), told)
+
+-- why there is none
+pub its_error : (a b : HyperTree) (told : Result Verdict RefineError) (e : RefineError) → told ≡ Err e
+    → IfErr told (λ e. e ≢ error.Mem → IsVerdict a b most_pivots (Err e)) → e ≢ error.Mem → IsVerdict a b most_pivots (Err e)
+its_error a b told e same is = subst (λ (t : Result Verdict RefineError). IfErr t (λ f. f ≢ error.Mem → IsVerdict a b most_pivots (Err f))) same is
+
+-- what is told of a verdict
+pub its_verdict : (hypers : Hypers) (told : Result Verdict RefineError) (v : Verdict) → told ≡ Ok v → IfOk told (IsToldOf hypers) → IsToldOf hypers v
+its_verdict hypers told v same is = subst (λ (t : Result Verdict RefineError). IfOk t (IsToldOf hypers)) same is
+
+-- what is told of two hypers is all that is asked of it
+pub is_told : (hypers : Hypers) (told : Result Verdict RefineError)
+    → IfOk told (λ v. IsVerdict (hyper_tree hypers.a) (hyper_tree hypers.b) most_pivots (Ok (verdict_tree v)))
+    → IfOk told (λ v. Proves (hyper_tree hypers.a) (hyper_tree hypers.b) (verdict_tree v))
+    → IfOk told (λ v. IsWritable (target_of hypers.a) (verdict_tree v)) → IfOk told (IsToldOf hypers)
+is_told hypers (Ok v) is proves writable = record { is = is; proves = proves; writable = writable }
+is_told hypers (Err e) is proves writable = tt
+
+-- what is said of the hypers of two programs is said of them
+pub on_hypers : (json : Bool) (turns : ℕ) (p q : ProgramTree) (a b : HyperTree) → AreHypers turns p q a b → (r : Result Done Stop)
+    → Answers ShowsStatement r (VerdictIn json a b) → Answers ShowsStatement r (RefineOutcome json turns p q)
+on_hypers json turns p q a b hypers r answer =
+    answers_by ShowsStatement (VerdictIn json a b) (RefineOutcome json turns p q) (λ result h. (a, b, hypers, h)) r answer
+
+-- hypers that are about different things have no verdict
+pub different : (json : Bool) (turns : ℕ) (p q : ProgramTree) (a b : HyperTree) → AreHypers turns p q a b → a.target ≢ b.target
+    → RefineOutcome json turns p q (Err OtherTarget)
+different json turns p q a b hypers differ = (a, b, hypers, (Err error.Targets, differ, refl))
 
 -- the text of a verdict about the same target
 pub text_of : (json : Bool) (v : VerdictTree) {target about : List Item} → target ≡ about → {bytes : List ℕ}

@@ -45,6 +45,8 @@ refused_high refusal.OtherRows = omega arith
 refused_high refusal.NoFit = omega arith
 refused_high (refusal.ManyChannelCells cells) = omega arith
 refused_high refusal.WideChannel = omega arith
+refused_high (refusal.ManyStores name count) = omega arith
+refused_high (refusal.FewStatements name count) = omega arith
 
 pub refused_other : (r : Refusal) → status_of (refused r) ≢ 12
 refused_other (refusal.TooLong name) = λ e. omega arith
@@ -64,6 +66,8 @@ refused_other refusal.OtherRows = λ e. omega arith
 refused_other refusal.NoFit = λ e. omega arith
 refused_other (refusal.ManyChannelCells cells) = λ e. omega arith
 refused_other refusal.WideChannel = λ e. omega arith
+refused_other (refusal.ManyStores name count) = λ e. omega arith
+refused_other (refusal.FewStatements name count) = λ e. omega arith
 
 answered_refused : (words : List (List ℕ)) (contents : List ℕ → List ℕ) (r : Refused) (out err : Sunk) (status : ℕ) → Outcome words contents (Err r) → status ≡ status_of r → TookNothing out → TookLine err (line_of r)
     → Answered words contents out err status

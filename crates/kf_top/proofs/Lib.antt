@@ -15,6 +15,9 @@ mod ProperHypers
 mod ClearedPrograms
 mod WrittenCertificates
 mod Comparing
+mod CoveringAll
+mod Filling
+mod Hushing
 mod Measuring
 mod OneComposed
 mod Reaching

@@ -2,7 +2,7 @@
 use Rattle.std.proofs.Common.{◌≡◌, ℕ, List, [], ◌++◌, codes, arith}
 use Rattle.std.specs.Fmt.{decimal}
 use Rattle.std.proofs.lemmas.Grind.{common_steps}
-use Rattle.kf_top.specs.Answer.{line_of, BadText, ManyCells, ManyChannelCells, WideTableau}
+use Rattle.kf_top.specs.Answer.{line_of, BadText, FewStatements, ManyCells, ManyChannelCells, ManyStores, WideTableau}
 
 pub bad_line : (name word l c : List ℕ) (line column : ℕ) → l ≡ decimal line → c ≡ decimal column
     → codes "kuifje: " ++ (name ++ (codes ":" ++ (l ++ (codes ":" ++ (c ++ (codes ": " ++ (word ++ (codes "\n" ++ [])))))))) ≡ line_of (BadText name line column word)
@@ -17,3 +17,11 @@ channel_cells_line digits cells p = rw p (grind (arith, common_steps))
 pub pivots_line : (digits : List ℕ) (pivots : ℕ) → digits ≡ decimal pivots
     → codes "kuifje: tableau passes 2^62 after " ++ (digits ++ (codes " pivots\n" ++ [])) ≡ line_of (WideTableau pivots)
 pivots_line digits pivots p = rw p (grind (arith, common_steps))
+
+pub stores_line : (name digits : List ℕ) (stores : ℕ) → digits ≡ decimal stores
+    → codes "kuifje: " ++ (name ++ (codes ": " ++ (digits ++ (codes " stores\n" ++ [])))) ≡ line_of (ManyStores name stores)
+stores_line name digits stores p = rw p (grind (arith, common_steps))
+
+pub statements_line : (name digits : List ℕ) (statements : ℕ) → digits ≡ decimal statements
+    → codes "kuifje: " ++ (name ++ (codes ": " ++ (digits ++ (codes " statements\n" ++ [])))) ≡ line_of (FewStatements name statements)
+statements_line name digits statements p = rw p (grind (arith, common_steps))

@@ -17,5 +17,5 @@ unfolding TypedOf
 made_outcome parsed typed turns count clear few =
     let p = made_program count in
     let read = parsed count in
-    let t : Text = record { name = []; bytes = make_source count; program = p } in
-    (p, (read.0, read.1, (made_tree count, read.2, typed count)), (p, fits turns t clear few, refl))
+    let t : Text = record { name = []; bytes = make_source count; source = made_tree count; program = p } in
+    (t, (read.0, read.1, (made_tree count, read.2, (p, typed count, refl))), (p, fits turns t clear few, refl))

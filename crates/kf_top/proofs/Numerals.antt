@@ -1,14 +1,18 @@
--- Numerals: one that does not fit 16 bits says no number from 1 to 65,535, one of nine digits fits 32 bits, and two may stand around a slash.
-use Rattle.std.proofs.Common.{◌≡◌, ◌≢◌, ℕ, suc, ◌<◌, ◌≤◌, ◌^◌, ◌+◌, ◌==◌, List, [], ◌∷◌, ◌++◌, length, get_or, Bool, true, false, ◌&&◌, nat_le, None, Some, Option, Result, refl, sym, ◌∙◌, ap, subst, arith, true≢false, le-leb, leb-true, if◌then◌else◌}
+-- Numerals: one that does not fit 16 bits says no number from 1 to 65,535, one of nine digits fits 32 bits, and two may stand around a mark.
+use Rattle.std.proofs.Common.{◌≡◌, ◌≢◌, ℕ, suc, ◌<◌, ◌≤◌, ◌^◌, ◌+◌, List, [], ◌∷◌, ◌++◌, length, drop, get_or, nat_eq, ⊎_elim, Bool, true, false, ◌&&◌, nat_le, None, Some, Option, Result, refl, sym, ◌∙◌, ap, subst, arith, true≢false, le-leb, leb-true, if◌then◌else◌}
 use Rattle.std.specs.Char.{is_ascii_digit, digit_value}
-use Rattle.std.specs.List.{list_all}
+use Rattle.std.specs.List.{list_all, starts_with}
 use Rattle.std.specs.Prelude.{option_and_then, option_map}
 use Rattle.std.specs.Result.{result_ok}
 use Rattle.std.specs.Str.Parse.{AllDigits, IsNumeral, ParsesUnsigned, digits_value, without_leading_plus}
 use Rattle.std.proofs.lemmas.Str.{digit_value_digit}
 use Rattle.std.proofs.lemmas.Str.Parse.{IsNumeralModel, numerals_by_value, tells_digits, digits_value_short, parse_gives, without_leading_plus_none}
-use Rattle.std.proofs.lemmas.Bool.{lt-leb, ne_eqb}
-use Rattle.kf_top.specs.Numerals.{around_slash, ratio_said, is_numeral, long_number_said, some_number, number_said}
+use Rattle.std.proofs.lemmas.Bool.{cases_Bool, lt-leb}
+use Rattle.std.proofs.lemmas.Bool.Decides.{Decides-eqb}
+use Rattle.std.proofs.lemmas.List.{drop_at}
+use Rattle.std.proofs.lemmas.Slice.Eq.{starts_is}
+use Rattle.std.specs.Str.Pattern.{FindsText, LacksTextAt}
+use Rattle.kf_top.specs.Numerals.{around, two_said, is_numeral, digits_said, some_number, number_said}
 
 pub both : (a b : Bool) → (a && b) ≡ true → (a ≡ true) × (b ≡ true)
 both true true h = (refl, refl)
@@ -67,55 +71,63 @@ module _ (word : List ℕ) (numeral : is_numeral 5 word ≡ true) where
   unread none = is ∙ past (digits_value 10 word) (many none)
 
 -- one of at most nine digits fits 32 bits
-pub read_long : {E : Type 0} (word : List ℕ) (r : Result ℕ E) → is_numeral 9 word ≡ true → ParsesUnsigned 32 10 word r → result_ok r ≡ long_number_said word
-read_long word r numeral parsed =
-    let digits = all_digits word (short_and_digits 9 word numeral).1 in
+pub read_long : {E : Type 0} (most : ℕ) (word : List ℕ) (r : Result ℕ E) → most ≤ 9 → is_numeral most word ≡ true → ParsesUnsigned 32 10 word r → result_ok r ≡ digits_said most word
+read_long most word r few numeral parsed =
+    let digits = all_digits word (short_and_digits most word numeral).1 in
     let own : IsNumeralModel (AllDigits 10) (digits_value 10) = numerals_by_value (AllDigits 10) tells_digits in
-    let low = digits_value_short own word 9 digits (short 9 word numeral) in
+    let within = short most word numeral in
+    let low = digits_value_short own word 9 digits (omega (arith, few, within)) in
     let fits : digits_value 10 word < 2 ^ 32 = omega (arith, low) in
-    ap result_ok (parse_gives own 32 word r parsed digits (long 9 word numeral) fits) ∙ sym (ap (λ b. if b then Some (digits_value 10 word) else None) numeral)
+    ap result_ok (parse_gives own 32 word r parsed digits (long most word numeral) fits) ∙ sym (ap (λ b. if b then Some (digits_value 10 word) else None) numeral)
 
-pub no_numeral : (word : List ℕ) → is_numeral 9 word ≡ false → long_number_said word ≡ None
-no_numeral word no' = ap (λ b. if b then Some (digits_value 10 word) else None) no'
+-- ---- around a mark
 
--- ---- around a slash
+stands : (bs mark rest : List ℕ) → bs ≡ mark ++ rest → starts_with nat_eq bs mark ≡ true
+stands bs mark rest is = (starts_is Decides-eqb bs mark (starts_with nat_eq bs mark) refl).1 rest is
 
--- it has no slash
-abbrev pub LacksSlash : List ℕ → Type 0
-LacksSlash bs = (i : ℕ) → i < length bs → get_or bs i 0 ≢ 47
+no_start : (bs mark : List ℕ) → LacksTextAt mark bs 0 → starts_with nat_eq bs mark ≡ false
+no_start bs mark lacks =
+    ⊎_elim (λ (e : starts_with nat_eq bs mark ≡ true). absurd (lacks (drop (length mark) bs) ((starts_is Decides-eqb bs mark (starts_with nat_eq bs mark) refl).0 e))) (λ e. e)
+    (cases_Bool (starts_with nat_eq bs mark))
 
-first_other : (b : ℕ) (bs : List ℕ) → LacksSlash (b ∷ bs) → (b == 47) ≡ false
-first_other b bs lacks = ne_eqb b 47 (lacks 0 (omega arith))
+-- a mark that isn't empty
+module _ (m : ℕ) (ms : List ℕ) where
+  -- what stands around the mark behind a byte at which it doesn't begin
+  behind : (b : ℕ) (bs : List ℕ) → starts_with nat_eq (b ∷ bs) (m ∷ ms) ≡ false → around (m ∷ ms) (b ∷ bs) ≡ option_map (λ p. (b ∷ p.0, p.1)) (around (m ∷ ms) bs)
+  behind b bs other = ap (λ t. if t then Some ([], drop (length (m ∷ ms)) (b ∷ bs)) else option_map (λ p. (b ∷ p.0, p.1)) (around (m ∷ ms) bs)) other
 
-others_lack : (b : ℕ) (bs : List ℕ) → LacksSlash (b ∷ bs) → LacksSlash bs
-others_lack b bs lacks i within = lacks (suc i) (omega arith)
+  without : (bs : List ℕ) → ((i : ℕ) → i ≤ length bs → LacksTextAt (m ∷ ms) bs i) → around (m ∷ ms) bs ≡ None
+  without [] lacks = refl
+  without (b ∷ bs) lacks =
+      behind b bs (no_start (b ∷ bs) (m ∷ ms) (lacks 0 (omega arith)))
+      ∙ ap (option_map (λ p. (b ∷ p.0, p.1))) (without bs (λ i within. lacks (suc i) (omega (arith, within))))
 
--- what stands around the slash behind a byte that is none
-behind : (b : ℕ) (bs : List ℕ) → (b == 47) ≡ false → around_slash (b ∷ bs) ≡ option_map (λ p. (b ∷ p.0, p.1)) (around_slash bs)
-behind b bs other = ap (λ t. if t then Some ([], bs) else option_map (λ p. (b ∷ p.0, p.1)) (around_slash bs)) other
+  at_mark : (xs ys : List ℕ) → ((i : ℕ) → i < length xs → LacksTextAt (m ∷ ms) (xs ++ (m ∷ (ms ++ ys))) i) → around (m ∷ ms) (xs ++ (m ∷ (ms ++ ys))) ≡ Some (xs, ys)
+  at_mark [] ys lacks =
+      ap (λ t. if t then Some ([], drop (length (m ∷ ms)) (m ∷ (ms ++ ys))) else option_map (λ p. (m ∷ p.0, p.1)) (around (m ∷ ms) (ms ++ ys)))
+      (stands (m ∷ (ms ++ ys)) (m ∷ ms) ys refl)
+      ∙ ap (λ (rest : List ℕ). Some ([], rest)) (drop_at (m ∷ ms) ys (length (m ∷ ms)) refl)
+  at_mark (b ∷ xs) ys lacks =
+      behind b (xs ++ (m ∷ (ms ++ ys))) (no_start (b ∷ (xs ++ (m ∷ (ms ++ ys)))) (m ∷ ms) (lacks 0 (omega arith)))
+      ∙ ap (option_map (λ p. (b ∷ p.0, p.1))) (at_mark xs ys (λ i within. lacks (suc i) (omega (arith, within))))
 
-pub without_slash : (bs : List ℕ) → LacksSlash bs → around_slash bs ≡ None
-without_slash [] lacks = refl
-without_slash (b ∷ bs) lacks =
-    behind b bs (first_other b bs lacks) ∙ ap (option_map (λ p. (b ∷ p.0, p.1))) (without_slash bs (others_lack b bs lacks))
-
-pub at_slash : (xs ys : List ℕ) → LacksSlash xs → around_slash (xs ++ 47 ∷ ys) ≡ Some (xs, ys)
-at_slash [] ys lacks = refl
-at_slash (b ∷ xs) ys lacks =
-    behind b (xs ++ 47 ∷ ys) (first_other b xs lacks) ∙ ap (option_map (λ p. (b ∷ p.0, p.1))) (at_slash xs ys (others_lack b xs lacks))
-
--- ---- two numbers around a slash
+-- ---- two numbers around a mark
 
 -- two numbers, where both are there
 abbrev pub both_numbers : Option ℕ → Option ℕ → Option (ℕ × ℕ)
 both_numbers a b = option_and_then (λ n. option_map (λ d. (n, d)) b) a
 
--- what a word says by what stands around its slash
-abbrev by_parts : Option (List ℕ × List ℕ) → Option (ℕ × ℕ)
-by_parts parts = option_and_then (λ p. both_numbers (long_number_said p.0) (long_number_said p.1)) parts
+-- what a word says by what stands around its mark
+abbrev by_parts : ℕ → Option (List ℕ × List ℕ) → Option (ℕ × ℕ)
+by_parts most parts = option_and_then (λ p. both_numbers (digits_said most p.0) (digits_said most p.1)) parts
 
-pub no_parts : (word : List ℕ) → LacksSlash word → ratio_said word ≡ None
-no_parts word lacks = ap by_parts (without_slash word lacks)
+pub no_parts : (most : ℕ) (mark word : List ℕ) → 0 < length mark → FindsText mark word None → two_said most mark word ≡ None
+no_parts most [] word some lacks = absurd (omega (arith, some))
+no_parts most (m ∷ ms) word some lacks = ap (by_parts most) (without m ms word lacks)
 
-pub with_parts : (word first second : List ℕ) → word ≡ first ++ 47 ∷ second → LacksSlash first → ratio_said word ≡ both_numbers (long_number_said first) (long_number_said second)
-with_parts word first second is lacks = ap ratio_said is ∙ ap by_parts (at_slash first second lacks)
+pub with_parts : (most : ℕ) (mark word first second : List ℕ) → 0 < length mark → word ≡ first ++ (mark ++ second)
+    → ((i : ℕ) → i < length first → LacksTextAt mark word i) → two_said most mark word ≡ both_numbers (digits_said most first) (digits_said most second)
+with_parts most [] word first second some is lacks = absurd (omega (arith, some))
+with_parts most (m ∷ ms) word first second some is lacks =
+    ap (two_said most (m ∷ ms)) is
+    ∙ ap (by_parts most) (at_mark m ms first second (λ i within. subst (λ (w : List ℕ). LacksTextAt (m ∷ ms) w i) is (lacks i within)))

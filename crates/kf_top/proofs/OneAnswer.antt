@@ -1,5 +1,5 @@
 -- Words and files have at most one defined answer.
-use Rattle.std.proofs.Common.{◌≡◌, ◌≢◌, ℕ, ◌<◌, ◌≤◌, Bool, ◌*◌, refl, arith, nat_le, if◌then◌else◌, List, [], ◌∷◌, length, None, Some, Option, Result, Ok, Err, sym, ◌∙◌, ap, subst, ⊎_elim}
+use Rattle.std.proofs.Common.{◌≡◌, ◌≢◌, ℕ, ◌<◌, ◌≤◌, Bool, false, ◌*◌, refl, arith, nat_le, if◌then◌else◌, List, [], ◌∷◌, length, None, Some, Option, Result, Ok, Err, sym, ◌∙◌, ap, subst, ⊎_elim}
 use Rattle.std.specs.declared.cmp.Ordering.TheVariants.{Less}
 use Rattle.std.specs.List.{AllByRecursion as Every}
 use Rattle.std.specs.Ordering.{nat_cmp, ordering_reverse}
@@ -23,6 +23,7 @@ use Rattle.kf_capacity.specs.Grids.{ChannelTree, GridTree, channel_grid}
 use Rattle.kf_text.specs.Texts.{hyper_text, trace_text, channel_text, trail_text, make_text}
 use Rattle.kf_text.specs.ReportTexts.{report_text}
 use Rattle.kf_text.specs.AttackTexts.{attack_text, reach_text}
+use Rattle.kf_text.specs.BlameTexts.{blame_text}
 use Rattle.kf_frac.specs.Fractions.{limit}
 use Rattle.kf_value.specs.Targets.{Item}
 use Rattle.kf_hyper.specs.declared.entry.Entry.{Entry}
@@ -43,10 +44,13 @@ use Rattle.kf_refine.specs.Verdicts.{IsVerdict}
 use Rattle.kf_refine.specs.Laws.{OneVerdict}
 use Rattle.kf_cert.specs.Certificates.{CertTree, cert_of}
 use Rattle.kf_cert.specs.Laws.{OneMark}
+use Rattle.kf_prior.specs.FullSources.{full_source}
+use Rattle.kf_quiet.specs.Laws.{OnlyOneBlames}
+use Rattle.kf_quiet.specs.Quiet.{quiet_joint}
 use Rattle.kf_run.specs.Laws.{OnlyOneTrail}
-use Rattle.kf_top.specs.Task.{Command, Composition, Hyper, Traces, Channel, Trail, Capacity, Compose, Leak, Attack, Reach, Make, Refine, Check, Task, task_of}
-use Rattle.kf_top.specs.Answer.{Shown, Statement, HyperOf, TracesOf, ChannelOf, ReportOf, AttackOf, ReachOf, TrailOf, MadeOf, VerdictOn, MarkOf, CapacityOf, AlgebraOf, IsText, States, Refused, Usage, BadTable, WideGain, OtherTarget, WideChannel}
-use Rattle.kf_top.specs.Outcome.{Step, After, Gives, Each, Fault, Text, bad_text, token_fault, syntax_fault, type_fault, IsBad, TokensOf, SourceOf, ProgramOf, TypedOf, TextOf, cleared, ClearedOf, table_word, TableOf, TableIn, GainIn, HasWidth, ReportIn, AttackIn, channel_statement, IsChannelTree, initial, is_narrow, CapacityIn, Composed, algebra_stated, ComposedIn, IsHyperTree, AreHypers, most_pivots, verdict_stated, RefineOutcome, cert_read, CertIn, mark_stated, MarkIn, CheckOutcome, MadeOutcome, CommandOutcome, TaskOutcome, SomeOutcome, Outcome, source_of}
+use Rattle.kf_top.specs.Task.{Command, Composition, Hyper, Traces, Channel, Trail, Capacity, Compose, Leak, Attack, Reach, Make, Refine, Check, Covers, Quiet, Blame, Task, task_of}
+use Rattle.kf_top.specs.Answer.{Shown, Statement, HyperOf, TracesOf, ChannelOf, ReportOf, AttackOf, ReachOf, TrailOf, MadeOf, VerdictOn, MarkOf, CapacityOf, AlgebraOf, BlameOf, IsText, States, Refused, Usage, BadTable, WideGain, OtherTarget, WideChannel}
+use Rattle.kf_top.specs.Outcome.{Step, After, Gives, Each, Fault, Text, bad_text, token_fault, syntax_fault, type_fault, IsBad, TokensOf, SourceOf, ProgramOf, TextWith, TypedOf, TextOf, cleared, few_stores, FullOf, FullTexts, long_enough, LongCleared, ReadyOf, ClearedOf, table_word, TableOf, TableIn, GainIn, HasWidth, ReportIn, AttackIn, channel_statement, IsChannelTree, initial, is_narrow, CapacityIn, Composed, algebra_stated, ComposedIn, IsHyperTree, AreHypers, most_pivots, verdict_stated, RefineOutcome, cert_read, CertIn, mark_stated, MarkIn, CheckOutcome, MadeOutcome, CommandOutcome, TaskOutcome, SomeOutcome, Outcome, source_of}
 use Rattle.kf_top.specs.Ends.{Answer, Settled, IsAnswer, showing}
 use Rattle.kf_top.proofs.ClearedPrograms.{AreClear}
 use Rattle.kf_top.proofs.ProperHypers.{AreProper, IsClear}
@@ -78,7 +82,7 @@ one_leakage one g scale inners l m p q =
     λ i. record { prior = prior i; posterior = posterior i; whole = whole i }
 
 module _ (rows_are_one : RowsAreOne) (hypers_are_one : HypersAreOne) (reports_are_one : OneReport) (trails_are_one : OnlyOneTrail)
-    (attacks_are_one : OneAttacks) (reaches_are_one : OneReach) where
+    (attacks_are_one : OneAttacks) (reaches_are_one : OneReach) (blames_are_one : OnlyOneBlames) where
   one_text : (statement : Statement) → HasText statement → (xs ys : List ℕ) → IsText statement xs → IsText statement ys → xs ≡ ys
   one_text (HyperOf target scale joint) has xs ys p q = p.2 ∙ ap (hyper_text target scale) (hypers_are_one joint p.0 q.0 p.1 q.1) ∙ sym q.2
   one_text (TracesOf target scale joint) has xs ys p q = p.2 ∙ ap (trace_text target scale) (rows_are_one joint p.0 q.0 p.1 q.1) ∙ sym q.2
@@ -103,6 +107,7 @@ module _ (rows_are_one : RowsAreOne) (hypers_are_one : HypersAreOne) (reports_ar
       p.2.2 ∙ ap (reach_text scale) reach ∙ sym q.2.2
   one_text (MadeOf count scale joint) has xs ys p q = p.2 ∙ ap (make_text count scale) (hypers_are_one joint p.0 q.0 p.1 q.1) ∙ sym q.2
   one_text (TrailOf turns p) has xs ys a b = a.2 ∙ ap trail_text (trails_are_one turns p a.0 b.0 a.1 b.1) ∙ sym b.2
+  one_text (BlameOf turns p) has xs ys a b = a.2 ∙ ap (blame_text (run_scale turns p)) (blames_are_one turns p a.0 b.0 a.1 b.1) ∙ sym b.2
   one_text (VerdictOn json a b v) has xs ys p q = p.1 ∙ sym q.1
   one_text (MarkOf mark) has xs ys p q = p ∙ sym q
   one_text (CapacityOf g) has xs ys p q = p ∙ sym q
@@ -164,8 +169,8 @@ module _ {A B : Type 0} (step : A → Step B) (one_step : (x : A) → HasOne (st
   one_each (x ∷ xs) = one_after (step x) (λ y. After (Each step xs) (λ ys. Gives (Ok (y ∷ ys)))) (one_step x)
       (λ y _. one_after (Each step xs) (λ ys. Gives (Ok (y ∷ ys))) (one_each xs) (λ ys _. one_given (Ok (y ∷ ys))))
 
-abbrev text : List ℕ → List ℕ → ProgramTree → Text
-text name bytes p = record { name = name; bytes = bytes; program = p }
+abbrev text : List ℕ → List ℕ → SourceTree → ProgramTree → Text
+text name bytes tree p = record { name = name; bytes = bytes; source = tree; program = p }
 
 -- faults of a text that have one error have one refusal
 one_bad : {E : Type 0} (IsError : E → Type 0) (fault_of : E → Option Fault) (name bytes : List ℕ) → ((e f : E) (x y : Fault) → fault_of e ≡ Some x → fault_of f ≡ Some y → IsError e → IsError f → e ≡ f)
@@ -315,6 +320,9 @@ module _ (made_are_one : (count turns : ℕ) → HasOne (MadeOutcome count turns
   one_command (Reach num den) (p ∷ []) clear = one_given (Ok (ReachOf num den (run_scale turns p) (joint_of turns p)))
   one_command (Refine json) (p ∷ q ∷ []) clear = one_refine hypers_are_one verdicts_are_one are_proper json turns p q clear.0 clear.1.0
   one_command (Check name) (p ∷ q ∷ []) clear = one_check hypers_are_one marks_are_one contents name turns p q
+  one_command Covers (p ∷ q ∷ []) clear = one_refine hypers_are_one verdicts_are_one are_proper false turns p q clear.0 clear.1.0
+  one_command (Quiet from to) (p ∷ []) clear = one_given (Ok (HyperOf p.target (run_scale turns p) (quiet_joint turns p from to)))
+  one_command Blame (p ∷ []) clear = one_given (Ok (BlameOf turns p))
   one_command command ps clear = one_given (Err Usage)
 
 -- ---- texts
@@ -346,27 +354,45 @@ module _ (reading : IsOneReading) (one : OneProgram) (both : NotBoth) (refusal :
   one_checked name bytes tree (Err r) (Ok q) h k = absurd (not_broken tree h.error k.judged h.is_error)
   one_checked name bytes tree (Err r) (Err s) h k = ap Err (one_bad (IsBroken tree) type_fault name bytes (λ e f x y _ _. same_rule tree e f) r s h k)
 
+  one_with : (name bytes : List ℕ) (tree : SourceTree) → HasOne (TextWith name bytes tree)
+  one_with name bytes tree =
+      one_after (ProgramOf name bytes tree) (λ p. Gives (Ok (text name bytes tree p))) (one_checked name bytes tree) (λ p _. one_given (Ok (text name bytes tree p)))
+
   one_typed : (name bytes : List ℕ) → HasOne (TypedOf name bytes)
   unfolding TypedOf
-  one_typed name bytes = one_after (TokensOf name bytes) (λ tokens. After (SourceOf name bytes tokens) (ProgramOf name bytes)) (one_tokens name bytes)
-      (λ tokens _. one_after (SourceOf name bytes tokens) (ProgramOf name bytes) (one_source name bytes tokens) (λ tree _. one_checked name bytes tree))
+  one_typed name bytes = one_after (TokensOf name bytes) (λ tokens. After (SourceOf name bytes tokens) (TextWith name bytes)) (one_tokens name bytes)
+      (λ tokens _. one_after (SourceOf name bytes tokens) (TextWith name bytes) (one_source name bytes tokens) (λ tree _. one_with name bytes tree))
 
   one_made : (count turns : ℕ) → HasOne (MadeOutcome count turns)
   one_made count turns =
-      one_after (TypedOf [] (make_source count)) (λ p. After (Gives (cleared turns (text [] (make_source count) p))) (λ q. Gives (Ok (MadeOf count (run_scale turns q) (joint_of turns q)))))
+      one_after (TypedOf [] (make_source count)) (λ t. After (Gives (cleared turns t)) (λ q. Gives (Ok (MadeOf count (run_scale turns q) (joint_of turns q)))))
       (one_typed [] (make_source count))
-      (λ p _. one_after (Gives (cleared turns (text [] (make_source count) p))) (λ q. Gives (Ok (MadeOf count (run_scale turns q) (joint_of turns q))))
-      (one_given (cleared turns (text [] (make_source count) p))) (λ q _. one_given (Ok (MadeOf count (run_scale turns q) (joint_of turns q)))))
+      (λ t _. one_after (Gives (cleared turns t)) (λ q. Gives (Ok (MadeOf count (run_scale turns q) (joint_of turns q))))
+      (one_given (cleared turns t)) (λ q _. one_given (Ok (MadeOf count (run_scale turns q) (joint_of turns q)))))
 
-  one_read : (contents : List ℕ → List ℕ) (name : List ℕ) → HasOne (TextOf contents name)
+  pub one_read : (contents : List ℕ → List ℕ) (name : List ℕ) → HasOne (TextOf contents name)
   one_read contents name =
-      one_after (Gives (source_of contents name)) (λ bytes. After (TypedOf name bytes) (λ p. Gives (Ok (text name bytes p)))) (one_given (source_of contents name))
-      (λ bytes _. one_after (TypedOf name bytes) (λ p. Gives (Ok (text name bytes p))) (one_typed name bytes) (λ p _. one_given (Ok (text name bytes p))))
+      one_after (Gives (source_of contents name)) (TypedOf name) (one_given (source_of contents name)) (λ bytes _. one_typed name bytes)
+
+  one_full : (ts : List Text) → HasOne (FullTexts ts)
+  one_full ts =
+      one_after (Each (λ t. Gives (few_stores t)) ts) (Each FullOf) (one_each (λ t. Gives (few_stores t)) (λ t. one_given (few_stores t)) ts)
+      (λ us _. one_each FullOf (λ t. one_with t.name t.bytes (full_source t.program.types t.source)) us)
+
+  one_long : (turns most : ℕ) (t : Text) → HasOne (LongCleared turns most t)
+  one_long turns most t =
+      one_after (Gives (cleared turns t)) (λ p. Gives (long_enough t.name most p)) (one_given (cleared turns t)) (λ p _. one_given (long_enough t.name most p))
+
+  one_ready : (command : Command) (turns : ℕ) (ts : List Text) → HasOne (ReadyOf command turns ts)
+  one_ready Covers turns ts =
+      one_after (FullTexts ts) (Each (λ t. Gives (cleared turns t))) (one_full ts) (λ us _. one_each (λ t. Gives (cleared turns t)) (λ t. one_given (cleared turns t)) us)
+  one_ready (Quiet from to) turns ts = one_each (LongCleared turns to) (one_long turns to) ts
+  one_ready command turns ts = one_each (λ t. Gives (cleared turns t)) (λ t. one_given (cleared turns t)) ts
 
   pub one_cleared : (contents : List ℕ → List ℕ) (task : Task) → HasOne (ClearedOf contents task)
   one_cleared contents task =
-      one_after (Each (TextOf contents) task.files) (Each (λ t. Gives (cleared task.turns t)))
-      (one_each (TextOf contents) (one_read contents) task.files) (λ ts _. one_each (λ t. Gives (cleared task.turns t)) (λ t. one_given (cleared task.turns t)) ts)
+      one_after (Each (TextOf contents) task.files) (ReadyOf task.command task.turns)
+      (one_each (TextOf contents) (one_read contents) task.files) (λ ts _. one_ready task.command task.turns ts)
 
   module _ (tables_are_one : OneTable) (rows_are_one : RowsAreOne) (hypers_are_one : HypersAreOne) (averages_are_one : OneAverage) (verdicts_are_one : OneVerdict) (marks_are_one : OneMark)
       (are_clear : AreClear) (are_proper : AreProper) where
@@ -379,12 +405,12 @@ module _ (reading : IsOneReading) (one : OneProgram) (both : NotBoth) (refusal :
     one_outcome contents None = one_given (Err Usage)
     one_outcome contents (Some task) = one_task contents task
 
-    pub one_answer : OneReport → OnlyOneTrail → OneAttacks → OneReach → (words : List (List ℕ)) (contents : List ℕ → List ℕ)
+    pub one_answer : OneReport → OnlyOneTrail → OneAttacks → OneReach → OnlyOneBlames → (words : List (List ℕ)) (contents : List ℕ → List ℕ)
         → ((statement : Statement) → Outcome words contents (Ok statement) → HasText statement)
         → (a b : Answer) → IsAnswer words contents a → IsAnswer words contents b → a ≡ b
-    one_answer reports_are_one trails_are_one attacks_are_one reaches_are_one words contents texts a b p q =
+    one_answer reports_are_one trails_are_one attacks_are_one reaches_are_one blames_are_one words contents texts a b p q =
         let results : p.result ≡ q.result = one_outcome contents (task_of words) p.result q.result p.outcome q.outcome in
         let has : (statement : Statement) → q.result ≡ Ok statement → HasText statement =
         λ statement is. texts statement (subst (λ (r : Result Statement Refused). Outcome words contents r) is q.outcome) in
-        one_settled rows_are_one hypers_are_one reports_are_one trails_are_one attacks_are_one reaches_are_one q.result has a b
+        one_settled rows_are_one hypers_are_one reports_are_one trails_are_one attacks_are_one reaches_are_one blames_are_one q.result has a b
         (subst (λ (r : Result Statement Refused). Settled r a) results p.settled) q.settled

@@ -36,6 +36,10 @@ use Rattle.kf_gain.specs.Vulnerabilities.{width}
 use Rattle.kf_report.specs.Reports.{Leakage}
 use Rattle.kf_attack.specs.Laws.{SomeAttacks, SomeReach}
 use Rattle.kf_make.specs.Making.{make_source}
+use Rattle.kf_prior.specs.FullSources.{full_source}
+use Rattle.kf_prior.specs.Laws.{FullIsBuilt}
+use Rattle.kf_quiet.specs.Laws.{SomeBlames}
+use Rattle.kf_quiet.specs.Quiet.{quiet_joint}
 use Rattle.kf_run.specs.Laws.{SomeTrail}
 use Rattle.kf_refine.specs.Refinements.{HyperTree}
 use Rattle.kf_refine.specs.Verdicts.{VerdictTree, IsVerdict, Proves}
@@ -52,11 +56,11 @@ use Rattle.kf_cert.specs.declared.cert.CertError.{CertError}
 use Rattle.kf_cert.specs.declared.mark.Mark.{Mark}
 use Rattle.kf_cert.specs.declared.mark.CheckError.{CheckError}
 use Rattle.kf_cert.specs.declared.mark.CheckError.TheVariants as check
-use Rattle.kf_top.specs.Answer.{Statement, HyperOf, TracesOf, ChannelOf, ReportOf, AttackOf, ReachOf, TrailOf, MadeOf, VerdictOn, MarkOf, CapacityOf, AlgebraOf, IsText, says_yes, Shown, Refused, Usage, NotInitial, BadTable, WideGain, OtherTarget, WideChannel}
+use Rattle.kf_top.specs.Answer.{Statement, HyperOf, TracesOf, ChannelOf, ReportOf, AttackOf, ReachOf, TrailOf, MadeOf, VerdictOn, MarkOf, CapacityOf, AlgebraOf, BlameOf, IsText, says_yes, Shown, Refused, Usage, NotInitial, BadTable, WideGain, OtherTarget, WideChannel}
 use Rattle.kf_top.specs.Ends.{Answer, Settled, IsAnswer, showing, refusing}
-use Rattle.kf_top.specs.Outcome.{Step, After, Gives, Each, Text, Fault, fault, bad_text, token_fault, syntax_fault, type_fault, IsBad, TokensOf, SourceOf, ProgramOf, TypedOf, TextOf, cleared, ClearedOf, table_word, TableOf, TableIn, GainIn, HasWidth, ReportIn, AttackIn, channel_statement, IsChannelTree, initial, is_narrow, CapacityIn, Composed, algebra_stated, ComposedIn, IsHyperTree, AreHypers, most_pivots, verdict_stated, RefineOutcome, cert_read, CertIn, mark_stated, MarkIn, CheckOutcome, MadeOutcome, CommandOutcome, TaskOutcome, SomeOutcome, Outcome, source_of}
-use Rattle.kf_top.specs.Task.{Command, Composition, Hyper, Traces, Channel, Trail, Capacity, Compose, Leak, Attack, Reach, Make, Refine, Check, Task, task_of}
-use Rattle.kf_top.proofs.ClearedPrograms.{AreClear}
+use Rattle.kf_top.specs.Outcome.{Step, After, Gives, Each, Text, Fault, fault, bad_text, token_fault, syntax_fault, type_fault, IsBad, TokensOf, SourceOf, ProgramOf, TextWith, TypedOf, TextOf, cleared, few_stores, FullOf, FullTexts, long_enough, LongCleared, ReadyOf, ClearedOf, table_word, TableOf, TableIn, GainIn, HasWidth, ReportIn, AttackIn, channel_statement, IsChannelTree, initial, is_narrow, CapacityIn, Composed, algebra_stated, ComposedIn, IsHyperTree, AreHypers, most_pivots, verdict_stated, RefineOutcome, cert_read, CertIn, mark_stated, MarkIn, CheckOutcome, MadeOutcome, CommandOutcome, TaskOutcome, SomeOutcome, Outcome, source_of}
+use Rattle.kf_top.specs.Task.{Command, Composition, Hyper, Traces, Channel, Trail, Capacity, Compose, Leak, Attack, Reach, Make, Refine, Check, Covers, Quiet, Blame, Task, task_of}
+use Rattle.kf_top.proofs.ClearedPrograms.{AreClear, IsTyped, every_done, every_one, few_typed, texts_typed}
 use Rattle.kf_top.proofs.OneComposed.{some_composed}
 use Rattle.kf_top.proofs.ProperHypers.{AreProper, IsClear}
 use Rattle.kf_top.proofs.Wanting.{IsWanted, wanted_task}
@@ -64,6 +68,7 @@ use Rattle.kf_text.specs.Texts.{line, hyper_text, trace_text, channel_text, trai
 use Rattle.kf_text.specs.CapacityTexts.{capacity_text, algebra_text}
 use Rattle.kf_text.specs.ReportTexts.{report_text}
 use Rattle.kf_text.specs.AttackTexts.{attack_text, reach_text}
+use Rattle.kf_text.specs.BlameTexts.{blame_text}
 use Rattle.kf_text.specs.VerdictTexts.{verdict_text, mark_text}
 
 -- ---- steps
@@ -87,12 +92,16 @@ module _ {A B : Type 0} (first : Step A) (next : A → Step B) where
     some_after : HasSome first → HasSome (After first next)
     some_after s = from_first s.0 s.1
 
-module _ {A B : Type 0} (step : A → Step B) (some_step : (x : A) → HasSome (step x)) where
-  some_each : (xs : List A) → HasSome (Each step xs)
-  some_each [] = some_given (Ok [])
-  some_each (x ∷ xs) = some_after (step x) (λ y. After (Each step xs) (λ ys. Gives (Ok (y ∷ ys))))
-      (λ y _. some_after (Each step xs) (λ ys. Gives (Ok (y ∷ ys))) (λ ys _. some_given (Ok (y ∷ ys))) (some_each xs))
-      (some_step x)
+module _ {A B : Type 0} (step : A → Step B) (P : A → Type 0) (some_step : (x : A) → P x → HasSome (step x)) where
+  some_each : (xs : List A) → Every P xs → HasSome (Each step xs)
+  some_each [] all = some_given (Ok [])
+  some_each (x ∷ xs) all = some_after (step x) (λ y. After (Each step xs) (λ ys. Gives (Ok (y ∷ ys))))
+      (λ y _. some_after (Each step xs) (λ ys. Gives (Ok (y ∷ ys))) (λ ys _. some_given (Ok (y ∷ ys))) (some_each xs all.1))
+      (some_step x all.0)
+
+-- the results of a function
+all_given : {A B : Type 0} (f : A → Result B Refused) (xs : List A) → HasSome (Each (λ x. Gives (f x)) xs)
+all_given f xs = some_each (λ x. Gives (f x)) (λ x. Unit {0}) (λ x any. some_given (f x)) xs (every_one xs)
 
 -- ---- refusals of a text
 
@@ -129,8 +138,8 @@ module _ (name bytes : List ℕ) where
     bad_program (typing.BadFlip at) other is = told (typing.BadFlip at) (fault (codes "BadFlip") at) is refl
     bad_program typing.Mem other is = absurd (other refl)
 
-abbrev text : List ℕ → List ℕ → ProgramTree → Text
-text name bytes p = record { name = name; bytes = bytes; program = p }
+abbrev text : List ℕ → List ℕ → SourceTree → ProgramTree → Text
+text name bytes tree p = record { name = name; bytes = bytes; source = tree; program = p }
 
 -- ---- what is stated
 
@@ -148,7 +157,7 @@ HasText (VerdictOn json a b v) = Proves a b v
 HasText statement = Unit {0}
 
 module _ (rows_exist : RowsExist) (hypers_exist : HypersExist) (secrets_exist : SomeSecrets) (reports_exist : SomeReport) (trails_exist : SomeTrail)
-    (attacks_exist : SomeAttacks) (reaches_exist : SomeReach) where
+    (attacks_exist : SomeAttacks) (reaches_exist : SomeReach) (blames_exist : SomeBlames) where
   some_text : (statement : Statement) → HasText statement → (bytes : List ℕ) × IsText statement bytes
   some_text (HyperOf target scale joint) has = let h = hypers_exist joint in (hyper_text target scale h.0, (h.0, h.1, refl))
   some_text (TracesOf target scale joint) has = let rows = rows_exist joint in (trace_text target scale rows.0, (rows.0, rows.1, refl))
@@ -171,6 +180,7 @@ module _ (rows_exist : RowsExist) (hypers_exist : HypersExist) (secrets_exist : 
       (reach_text scale r.0, (h.0, h.1, (r.0, r.1, refl)))
   some_text (MadeOf count scale joint) has = let h = hypers_exist joint in (make_text count scale h.0, (h.0, h.1, refl))
   some_text (TrailOf turns p) has = let counts = trails_exist turns p in (trail_text counts.0, (counts.0, counts.1, refl))
+  some_text (BlameOf turns p) has = let blames = blames_exist turns p in (blame_text (run_scale turns p) blames.0, (blames.0, blames.1, refl))
   some_text (VerdictOn json a b v) has = ((if json then cert_text a.target v else verdict_text a.target v), (has, refl))
   some_text (MarkOf mark) has = (line (mark_text mark), refl)
   some_text (CapacityOf g) has = (capacity_text g, refl)
@@ -316,6 +326,9 @@ module _ (made_exist : (count turns : ℕ) → HasSome (MadeOutcome count turns)
   some_command (Reach num den) (p ∷ []) clear = some_given (Ok (ReachOf num den (run_scale turns p) (joint_of turns p)))
   some_command (Refine json) (p ∷ q ∷ []) clear = some_refine hypers_exist verdicts_exist are_proper json turns p q clear.0 clear.1.0
   some_command (Check name) (p ∷ q ∷ []) clear = some_check hypers_exist read_sound marks_exist are_proper contents name turns p q clear.0 clear.1.0
+  some_command Covers (p ∷ q ∷ []) clear = some_refine hypers_exist verdicts_exist are_proper false turns p q clear.0 clear.1.0
+  some_command (Quiet from to) (p ∷ []) clear = some_given (Ok (HyperOf p.target (run_scale turns p) (quiet_joint turns p from to)))
+  some_command Blame (p ∷ []) clear = some_given (Ok (BlameOf turns p))
   some_command command ps clear = some_given (Err Usage)
 
 -- what is stated where a test holds
@@ -393,6 +406,9 @@ module _ (tables_have_actions : TablesHaveActions) (verdicts_prove : VerdictsPro
       stated true (ReachOf num den (run_scale turns p) (joint_of turns p)) statement Usage (wanted.0, wanted.1, shaped turns p clear.0) is
   command_text (Refine json) wanted turns (p ∷ q ∷ []) clear statement is = refine_text json turns p q clear.0 clear.1.0 statement is
   command_text (Check name) wanted turns (p ∷ q ∷ []) clear statement is = marked_text is.2.0 is.2.1 is.0 statement is.2.3
+  command_text Covers wanted turns (p ∷ q ∷ []) clear statement is = refine_text false turns p q clear.0 clear.1.0 statement is
+  command_text (Quiet from to) wanted turns (p ∷ []) clear statement is = stated true (HyperOf p.target (run_scale turns p) (quiet_joint turns p from to)) statement Usage tt is
+  command_text Blame wanted turns (p ∷ []) clear statement is = stated true (BlameOf turns p) statement Usage tt is
   command_text command wanted turns ps clear statement is = absurd (cc)
 
   task_text : AreClear → (task : Option Task) → ((t : Task) → task ≡ Some t → IsWanted t.command) → (statement : Statement)
@@ -408,7 +424,7 @@ module _ (tables_have_actions : TablesHaveActions) (verdicts_prove : VerdictsPro
 -- ---- outcomes
 
 module _ (read : (src : List ℕ) → ((ts : List Token) × IsTokens src ts) ⊎ ((e : LexError) × IsFault src e)) (parsed : ParsedOrRefused) (built : OnlyBuilt)
-    (typed : TypedOrBroken) (told_rule : (tree : SourceTree) (e : TypeError) → IsBroken tree e → e ≡ typing.Mem → ⊥) where
+    (typed : TypedOrBroken) (told_rule : (tree : SourceTree) (e : TypeError) → IsBroken tree e → e ≡ typing.Mem → ⊥) (full_built : FullIsBuilt) where
   some_tokens : (name bytes : List ℕ) → HasSome (TokensOf name bytes)
   some_tokens name bytes = ⊎_elim (λ h. (Ok h.0, h.1)) (λ h. bad_tokens name bytes h.0 h.1) (read bytes)
 
@@ -418,26 +434,51 @@ module _ (read : (src : List ℕ) → ((ts : List Token) × IsTokens src ts) ⊎
   some_program : (name bytes : List ℕ) (tree : SourceTree) → IsWellBuilt tree → HasSome (ProgramOf name bytes tree)
   some_program name bytes tree well = ⊎_elim (λ h. (Ok h.0, h.1)) (λ h. bad_program name bytes tree h.0 (told_rule tree h.0 h.1) h.1) (typed tree well)
 
+  some_with : (name bytes : List ℕ) (tree : SourceTree) → IsWellBuilt tree → HasSome (TextWith name bytes tree)
+  some_with name bytes tree well =
+      some_after (ProgramOf name bytes tree) (λ p. Gives (Ok (text name bytes tree p))) (λ p _. some_given (Ok (text name bytes tree p))) (some_program name bytes tree well)
+
   some_typed : (name bytes : List ℕ) → HasSome (TypedOf name bytes)
   unfolding TypedOf
   some_typed name bytes =
-      some_after (TokensOf name bytes) (λ tokens. After (SourceOf name bytes tokens) (ProgramOf name bytes))
-      (λ tokens _. some_after (SourceOf name bytes tokens) (ProgramOf name bytes)
-      (λ tree is. some_program name bytes tree (built bytes tokens tree is.program)) (some_source name bytes tokens))
+      some_after (TokensOf name bytes) (λ tokens. After (SourceOf name bytes tokens) (TextWith name bytes))
+      (λ tokens _. some_after (SourceOf name bytes tokens) (TextWith name bytes)
+      (λ tree is. some_with name bytes tree (built bytes tokens tree is.program)) (some_source name bytes tokens))
       (some_tokens name bytes)
 
   some_made : (count turns : ℕ) → HasSome (MadeOutcome count turns)
   some_made count turns =
-      some_after (TypedOf [] (make_source count)) (λ p. After (Gives (cleared turns (text [] (make_source count) p))) (λ q. Gives (Ok (MadeOf count (run_scale turns q) (joint_of turns q)))))
-      (λ p _. some_after (Gives (cleared turns (text [] (make_source count) p))) (λ q. Gives (Ok (MadeOf count (run_scale turns q) (joint_of turns q))))
-      (λ q _. some_given (Ok (MadeOf count (run_scale turns q) (joint_of turns q)))) (some_given (cleared turns (text [] (make_source count) p))))
+      some_after (TypedOf [] (make_source count)) (λ t. After (Gives (cleared turns t)) (λ q. Gives (Ok (MadeOf count (run_scale turns q) (joint_of turns q)))))
+      (λ t _. some_after (Gives (cleared turns t)) (λ q. Gives (Ok (MadeOf count (run_scale turns q) (joint_of turns q))))
+      (λ q _. some_given (Ok (MadeOf count (run_scale turns q) (joint_of turns q)))) (some_given (cleared turns t)))
       (some_typed [] (make_source count))
 
   some_read : (contents : List ℕ → List ℕ) (name : List ℕ) → HasSome (TextOf contents name)
   some_read contents name =
-      some_after (Gives (source_of contents name)) (λ bytes. After (TypedOf name bytes) (λ p. Gives (Ok (text name bytes p))))
-      (λ bytes _. some_after (TypedOf name bytes) (λ p. Gives (Ok (text name bytes p))) (λ p _. some_given (Ok (text name bytes p))) (some_typed name bytes))
-      (some_given (source_of contents name))
+      some_after (Gives (source_of contents name)) (TypedOf name) (λ bytes _. some_typed name bytes) (some_given (source_of contents name))
+
+  some_full : (t : Text) → IsTyped t → HasSome (FullOf t)
+  some_full t has = some_with t.name t.bytes (full_source t.program.types t.source) (full_built t.source t.program has.built has.typed)
+
+  some_full_texts : (ts : List Text) → Every IsTyped ts → HasSome (FullTexts ts)
+  some_full_texts ts all =
+      some_after (Each (λ t. Gives (few_stores t)) ts) (Each FullOf)
+      (λ us is. some_each FullOf IsTyped some_full us (every_done (λ t. Gives (few_stores t)) IsTyped IsTyped few_typed ts us all is)) (all_given few_stores ts)
+
+  some_long : (turns most : ℕ) (t : Text) → HasSome (LongCleared turns most t)
+  some_long turns most t =
+      some_after (Gives (cleared turns t)) (λ p. Gives (long_enough t.name most p)) (λ p _. some_given (long_enough t.name most p)) (some_given (cleared turns t))
+
+  some_ready : (command : Command) (turns : ℕ) (ts : List Text) → Every IsTyped ts → HasSome (ReadyOf command turns ts)
+  some_ready Covers turns ts all = some_after (FullTexts ts) (Each (λ t. Gives (cleared turns t))) (λ us _. all_given (cleared turns) us) (some_full_texts ts all)
+  some_ready (Quiet from to) turns ts all = some_each (LongCleared turns to) (λ t. Unit {0}) (λ t any. some_long turns to t) ts (every_one ts)
+  some_ready command turns ts all = all_given (cleared turns) ts
+
+  some_cleared : (contents : List ℕ → List ℕ) (task : Task) → HasSome (ClearedOf contents task)
+  some_cleared contents task =
+      some_after (Each (TextOf contents) task.files) (ReadyOf task.command task.turns)
+      (λ ts is. some_ready task.command task.turns ts (texts_typed built contents task.files ts is))
+      (some_each (TextOf contents) (λ name. Unit {0}) (λ name any. some_read contents name) task.files (every_one task.files))
 
   module _ (tables_exist : SomeTable) (rows_exist : RowsExist) (secrets_exist : SomeSecrets) (hypers_exist : HypersExist) (averages_exist : SomeAverage) (verdicts_exist : SomeVerdict) (read_sound : ReadSound)
       (marks_exist : SomeMark) (are_clear : AreClear) (are_proper : AreProper) where
@@ -445,18 +486,16 @@ module _ (read : (src : List ℕ) → ((ts : List Token) × IsTokens src ts) ⊎
     some_task contents task =
         some_after (ClearedOf contents task) (CommandOutcome contents task.command task.turns)
         (λ ps is. some_command some_made tables_exist rows_exist secrets_exist hypers_exist averages_exist verdicts_exist read_sound marks_exist are_proper contents task.turns task.command ps (are_clear contents task ps is))
-        (some_after (Each (TextOf contents) task.files) (Each (λ t. Gives (cleared task.turns t)))
-        (λ ts _. some_each (λ t. Gives (cleared task.turns t)) (λ t. some_given (cleared task.turns t)) ts)
-        (some_each (TextOf contents) (some_read contents) task.files))
+        (some_cleared contents task)
 
     some_outcome : (contents : List ℕ → List ℕ) (task : Option Task) → HasSome (SomeOutcome contents task)
     some_outcome contents None = some_given (Err Usage)
     some_outcome contents (Some task) = some_task contents task
 
-    pub some_answer : TablesHaveActions → VerdictsProve → SomeReport → SomeTrail → SomeAttacks → SomeReach
+    pub some_answer : TablesHaveActions → VerdictsProve → SomeReport → SomeTrail → SomeAttacks → SomeReach → SomeBlames
         → (words : List (List ℕ)) (contents : List ℕ → List ℕ) → (answer : Answer) × IsAnswer words contents answer
-    some_answer tables_have_actions verdicts_prove reports_exist trails_exist attacks_exist reaches_exist words contents =
+    some_answer tables_have_actions verdicts_prove reports_exist trails_exist attacks_exist reaches_exist blames_exist words contents =
         let r = some_outcome contents (task_of words) in
-        let s = settled rows_exist hypers_exist secrets_exist reports_exist trails_exist attacks_exist reaches_exist r.0
+        let s = settled rows_exist hypers_exist secrets_exist reports_exist trails_exist attacks_exist reaches_exist blames_exist r.0
         (λ statement is. stated_text tables_have_actions verdicts_prove are_proper contents are_clear words statement (subst (λ (o : Result Statement Refused). Outcome words contents o) is r.1)) in
         (s.0, record { result = r.0; outcome = r.1; settled = s.1 })

@@ -1,5 +1,5 @@
 -- One step and then the next, and what a stop's result is.
-use Rattle.std.proofs.Common.{◌≡◌, Contains, arith, ◌≢◌, ◌<◌, ◌≤◌, le-leb, if◌then◌else◌, IsOk, ℕ, List, [], ◌∷◌, Bool, ◌⊎◌, ⊎_elim, inl, inr, true, false, true≢false, None, Some, Result, Ok, Err, refl, sym, ap, ◌∙◌, subst}
+use Rattle.std.proofs.Common.{◌≡◌, Contains, arith, ◌≢◌, ◌<◌, ◌≤◌, le-leb, if◌then◌else◌, IsOk, ℕ, List, [], ◌∷◌, length, Bool, ◌⊎◌, ⊎_elim, inl, inr, true, false, true≢false, None, Some, Result, Ok, Err, refl, sym, ap, ◌∙◌, subst}
 use Rattle.std.proofs.lemmas.Bool.{lt-leb}
 use Rattle.std.proofs.lemmas.List.Elements.{Contains-append_left, Contains-append_right}
 use Rattle.kf_frac.specs.Fractions.{limit}
@@ -16,16 +16,17 @@ use Rattle.kf_check.specs.declared.errors.TypeError.{TypeError}
 use Rattle.kf_check.specs.declared.errors.TypeError.TheVariants as typing
 use Rattle.kf_check.specs.Sources.{IsBroken}
 use Rattle.kf_core.specs.Programs.{ProgramTree}
+use Rattle.kf_prior.specs.FullSources.{initial_stores}
 use Rattle.kf_core.specs.Runs.{Halted}
 use Rattle.kf_core.specs.Support.{StoreSet, program_pass}
 use Rattle.kf_core.specs.Scale.{scale_of as run_scale}
 use Rattle.kf_core.specs.Joint.{joint_of}
 use Rattle.kf_channel.specs.Channels.{all_initial}
 use Rattle.kf_gain.specs.Gains.{GainOf, Table}
-use Rattle.kf_top.specs.Answer.{Statement, Refused, ChannelOf, NotInitial, WideScale}
+use Rattle.kf_top.specs.Answer.{Statement, Refused, ChannelOf, FewStatements, ManyStores, NotInitial, WideScale}
 use Rattle.kf_top.specs.Ends.{IsUnder}
-use Rattle.kf_top.specs.Outcome.{Step, After, Each, Fault, Text, token_fault, syntax_fault, type_fault, bad_text, TokensOf, SourceOf, ProgramOf, TextOf, bad_run, narrow, cleared, ClearedOf, Gives, channel_statement, source_of, MadeOutcome, CommandOutcome, TaskOutcome}
-use Rattle.kf_top.specs.Stops.{Answers, is_bytes, is_text, is_cleared, is_alone, are_cleared}
+use Rattle.kf_top.specs.Outcome.{Step, After, Each, Fault, Text, token_fault, syntax_fault, type_fault, bad_text, TokensOf, SourceOf, ProgramOf, TextOf, bad_run, narrow, cleared, few_stores, long_enough, ReadyOf, ClearedOf, Gives, channel_statement, source_of, MadeOutcome, CommandOutcome, TaskOutcome}
+use Rattle.kf_top.specs.Stops.{Answers, refused, is_bytes, is_text, is_cleared, is_alone, are_cleared}
 use Rattle.kf_top.specs.Task.{Command, Task, Make, Check, on_file, on_files, named, tables_of}
 use Rattle.kf_support.specs.declared.cleared.Cleared.{Cleared}
 use Rattle.kf_top.specs.Views.{ShowsStatement, gain_of}
@@ -68,58 +69,52 @@ no_text contents command name turns (stop.Refused r) h = inl (inl h)
 no_text contents command name turns (stop.ReadFailed n) h = tt
 no_text contents command name turns stop.Mem h = tt
 
-pub alone_cleared : (contents : List ℕ → List ℕ) (command : Command) (name : List ℕ) (turns : ℕ) (t : Text) (r : Result Cleared Stop) → TextOf contents name (Ok t)
-    → Answers is_cleared r (Gives (cleared turns t)) → Answers is_alone r (ClearedOf contents (on_file command name turns))
-alone_cleared contents command name turns t (Ok c) typed h =
-    (h.0 ∷ [], ap (λ (p : ProgramTree). p ∷ []) h.1, (t ∷ [], each_alone (TextOf contents) name (Ok t) typed, each_alone (λ (u : Text). Gives (cleared turns u)) t (Ok h.0) h.2))
-alone_cleared contents command name turns t (Err (stop.Refused r)) typed h = inr (t ∷ [], each_alone (TextOf contents) name (Ok t) typed, inl h)
-alone_cleared contents command name turns t (Err (stop.ReadFailed n)) typed h = tt
-alone_cleared contents command name turns t (Err stop.Mem) typed h = tt
+-- how its command makes a program of it
+module _ (contents : List ℕ → List ℕ) (command : Command) (name : List ℕ) (turns : ℕ) (step : Text → Step ProgramTree) where
+  pub alone_ready : (t : Text) → ((r : Result (List ProgramTree) Refused) → Each step (t ∷ []) r → ReadyOf command turns (t ∷ []) r) → (r : Result Cleared Stop)
+      → TextOf contents name (Ok t) → Answers is_cleared r (step t) → Answers is_alone r (ClearedOf contents (on_file command name turns))
+  alone_ready t ready (Ok c) typed h =
+      (h.0 ∷ [], ap (λ (p : ProgramTree). p ∷ []) h.1, (t ∷ [], each_alone (TextOf contents) name (Ok t) typed, ready (Ok (h.0 ∷ [])) (each_alone step t (Ok h.0) h.2)))
+  alone_ready t ready (Err (stop.Refused r)) typed h = inr (t ∷ [], each_alone (TextOf contents) name (Ok t) typed, ready (Err (refused r)) (inl h))
+  alone_ready t ready (Err (stop.ReadFailed n)) typed h = tt
+  alone_ready t ready (Err stop.Mem) typed h = tt
 
 -- ---- two files
 
 -- what a step may have, where it is the same as what is known
-is_this : {A : Type 0} (step : Step A) (q : A) → ((y : A) × (q ≡ y) × step (Ok y)) → step (Ok q)
+pub is_this : {A : Type 0} (step : Step A) (q : A) → ((y : A) × (q ≡ y) × step (Ok y)) → step (Ok q)
 is_this {A} step q way = subst (λ (y : A). step (Ok y)) (sym way.1) way.2
 
--- the results of a step of which there are two
-each_pair : {A B : Type 0} (step : A → Step B) (x y : A) (u v : B) → step x (Ok u) → step y (Ok v) → Each step (x ∷ y ∷ []) (Ok (u ∷ v ∷ []))
-each_pair step x y u v h k = (u, h, (v ∷ [], each_alone step y (Ok v) k, refl))
+-- a step for each of two
+module _ {A B : Type 0} (step : A → Step B) (x y : A) where
+  -- the step for the second, and what is put together
+  abbrev rest : B → Step (List B)
+  rest u = After (Each step (y ∷ [])) (λ us. Gives (Ok (u ∷ us)))
 
-module _ (contents : List ℕ → List ℕ) (command : Command) (first second : List ℕ) (turns : ℕ) where
-  -- what stops the first text
-  pub no_first_text : (s : Stop) → Answers (is_text first) (Err s) (TextOf contents first) → Answers are_cleared (Err s) (ClearedOf contents (on_files command (first ∷ second ∷ []) turns))
-  no_first_text (stop.Refused r) h = inl (inl h)
-  no_first_text (stop.ReadFailed n) h = tt
-  no_first_text stop.Mem h = tt
+  pub both_of_two : (u v : B) → step x (Ok u) → step y (Ok v) → Each step (x ∷ y ∷ []) (Ok (u ∷ v ∷ []))
+  both_of_two u v h k = (u, h, (v ∷ [], each_alone step y (Ok v) k, refl))
 
-  module _ (t : Text) (typed : (y : Text) × (t ≡ y) × TextOf contents first (Ok y)) where
-    -- what stops the second text
-    pub no_second_text : (s : Stop) → Answers (is_text second) (Err s) (TextOf contents second) → Answers are_cleared (Err s) (ClearedOf contents (on_files command (first ∷ second ∷ []) turns))
-    no_second_text (stop.Refused r) h = inl (inr (t, is_this (TextOf contents first) t typed, inl (inl h)))
-    no_second_text (stop.ReadFailed n) h = tt
-    no_second_text stop.Mem h = tt
+  module _ {C D : Type 0} (Meets : C → List B → Type 0) (Met : D → B → Type 0) (s : Stop) where
+    pub first_of_two : Answers Met (Err s) (step x) → Answers Meets (Err s) (Each step (x ∷ y ∷ []))
+    first_of_two h = first_stops Meets (step x) rest Met s h
 
-    module _ (u : Text) (typed_too : (y : Text) × (u ≡ y) × TextOf contents second (Ok y)) where
-      texts : Each (TextOf contents) (first ∷ second ∷ []) (Ok (t ∷ u ∷ []))
-      texts = each_pair (TextOf contents) first second t u (is_this (TextOf contents first) t typed) (is_this (TextOf contents second) u typed_too)
+    pub second_of_two : (u : B) → step x (Ok u) → Answers Met (Err s) (step y) → Answers Meets (Err s) (Each step (x ∷ y ∷ []))
+    second_of_two u done h =
+        let alone_stops : Answers Meets (Err s) (Each step (y ∷ [])) = first_stops Meets (step y) (λ v. After (Each step []) (λ vs. Gives (Ok (v ∷ vs)))) Met s h in
+        next_stops Meets (step x) rest Meets s u done (first_stops Meets (Each step (y ∷ [])) (λ us. Gives (Ok (u ∷ us))) Meets s alone_stops)
 
-      -- what stops the first program
-      pub no_first_program : (s : Stop) → Answers is_cleared (Err s) (Gives (cleared turns t)) → Answers are_cleared (Err s) (ClearedOf contents (on_files command (first ∷ second ∷ []) turns))
-      no_first_program (stop.Refused r) h = inr (t ∷ u ∷ [], texts, inl h)
-      no_first_program (stop.ReadFailed n) h = tt
-      no_first_program stop.Mem h = tt
+-- what one step may have, another may
+pub answers_by : {A X : Type 0} (Meets : X → A → Type 0) (first second : Step A) → ((r : Result A Refused) → first r → second r) → (r : Result X Stop)
+    → Answers Meets r first → Answers Meets r second
+answers_by Meets first second turn (Ok z) h = (h.0, h.1, turn (Ok h.0) h.2)
+answers_by Meets first second turn (Err (stop.Refused r)) h = turn (Err (refused r)) h
+answers_by Meets first second turn (Err (stop.ReadFailed n)) h = tt
+answers_by Meets first second turn (Err stop.Mem) h = tt
 
-      module _ (p : ProgramTree) (clear : (y : ProgramTree) × (p ≡ y) × Gives (cleared turns t) (Ok y)) where
-        -- what stops the second program
-        pub no_second_program : (s : Stop) → Answers is_cleared (Err s) (Gives (cleared turns u)) → Answers are_cleared (Err s) (ClearedOf contents (on_files command (first ∷ second ∷ []) turns))
-        no_second_program (stop.Refused r) h = inr (t ∷ u ∷ [], texts, inr (p, is_this (Gives (cleared turns t)) p clear, inl (inl h)))
-        no_second_program (stop.ReadFailed n) h = tt
-        no_second_program stop.Mem h = tt
-
-        pub both_cleared : (q : ProgramTree) → ((y : ProgramTree) × (q ≡ y) × Gives (cleared turns u) (Ok y)) → ClearedOf contents (on_files command (first ∷ second ∷ []) turns) (Ok (p ∷ q ∷ []))
-        both_cleared q clear_too =
-            (t ∷ u ∷ [], texts, each_pair (λ (x : Text). Gives (cleared turns x)) t u p q (is_this (Gives (cleared turns t)) p clear) (is_this (Gives (cleared turns u)) q clear_too))
+-- the result of the next step for what the first one has
+pub then_meets : {A B X : Type 0} (Meets : X → B → Type 0) (first : Step A) (next : A → Step B) (q : A) (r : Result X Stop) → ((y : A) × (q ≡ y) × first (Ok y))
+    → Answers Meets r (next q) → Answers Meets r (After first next)
+then_meets {A} Meets first next q r way answer = next_answers Meets first next r way.0 way.2 (subst (λ (p : A). Answers Meets r (next p)) way.1 answer)
 
 -- a file that isn't read has no text
 pub no_bytes : (contents : List ℕ → List ℕ) (name : List ℕ) (s : Stop) → Answers is_bytes (Err s) (Gives (source_of contents name)) → Answers (is_text name) (Err s) (TextOf contents name)
@@ -127,10 +122,9 @@ no_bytes contents name (stop.Refused r) h = inl h
 no_bytes contents name (stop.ReadFailed n) h = tt
 no_bytes contents name stop.Mem h = tt
 
--- the result of the next step for what the first one has
 pub then_answers : {A : Type 0} (first : Step A) (next : A → Step Statement) (q : A) (r : Result Done Stop) → ((y : A) × (q ≡ y) × first (Ok y))
     → Answers ShowsStatement r (next q) → Answers ShowsStatement r (After first next)
-then_answers {A} first next q r way answer = next_answers ShowsStatement first next r way.0 way.2 (subst (λ (p : A). Answers ShowsStatement r (next p)) way.1 answer)
+then_answers first next q r way answer = then_meets ShowsStatement first next q r way answer
 
 module _ (contents : List ℕ → List ℕ) (command : Command) (turns : ℕ) where
   -- what stops the clearing of a task's files stops the task
@@ -256,3 +250,23 @@ initial turns p items same not_false =
 
 pub not_initial : (turns : ℕ) (p : ProgramTree) (items : List Item) → items ≡ p.target → all_initial items ≡ false → Err NotInitial ≡ channel_statement turns p
 not_initial turns p items same no' = ap (λ b. if b then Ok (ChannelOf p.target (joint_of turns p)) else Err NotInitial) (sym no' ∙ ap all_initial same)
+
+-- a text whose stores are few, and one whose stores are too many
+pub has_few : (t : Text) → initial_stores t.program.types t.source ≤ 4096 → Ok t ≡ few_stores t
+has_few t few =
+    ap (λ b. if b then Ok t else Err (ManyStores t.name (initial_stores t.program.types t.source))) (sym (le-leb (initial_stores t.program.types t.source) 4096 few))
+
+pub has_many : (t : Text) (count : ℕ) → count ≡ initial_stores t.program.types t.source → 4096 < count → Err (ManyStores t.name count) ≡ few_stores t
+has_many t count is many =
+    ap (λ (n : ℕ). Err (ManyStores t.name n)) is
+    ∙ ap (λ b. if b then Ok t else Err (ManyStores t.name (initial_stores t.program.types t.source)))
+    (sym (lt-leb (initial_stores t.program.types t.source) 4096 (subst (λ (n : ℕ). 4096 < n) is many)))
+
+-- a program whose outermost statements are enough, and one of which they aren't
+pub is_long : (name : List ℕ) (most : ℕ) (p : ProgramTree) → most ≤ length p.body → Ok p ≡ long_enough name most p
+is_long name most p within = ap (λ b. if b then Ok p else Err (FewStatements name (length p.body))) (sym (le-leb most (length p.body) within))
+
+pub is_short : (name : List ℕ) (most : ℕ) (p : ProgramTree) (count : ℕ) → count ≡ length p.body → count < most → Err (FewStatements name count) ≡ long_enough name most p
+is_short name most p count is past =
+    ap (λ (n : ℕ). Err (FewStatements name n)) is
+    ∙ ap (λ b. if b then Ok p else Err (FewStatements name (length p.body))) (sym (lt-leb most (length p.body) (subst (λ (n : ℕ). n < most) is past)))

@@ -4,9 +4,9 @@ use Rattle.std.specs.List.{AllByRecursion as Every}
 use Rattle.std.specs.Str.{bytes_eq}
 use Rattle.kf_gain.specs.Gains.{GainOf}
 use Rattle.kf_top.specs.GainWords.{gain_said}
-use Rattle.kf_top.specs.Numerals.{chance_said, ratio_said, wanted_said}
+use Rattle.kf_top.specs.Numerals.{block_said, chance_said, ratio_said, wanted_said}
 use Rattle.kf_top.specs.Said.{Said, said_by}
-use Rattle.kf_top.specs.Task.{Command, Composition, Hyper, Traces, Channel, Trail, Capacity, Compose, Cascade, Parallel, Choice, Leak, Attack, Reach, Make, Refine, Check, Task, Row, on_files, plain, with_gain, making, refining, checking, choosing, reaching, commands, row_of, options_fit, turns_of, row_task, task_of_values, task_said, task_of, observations_said, first_of, others_of, last_of, but_last}
+use Rattle.kf_top.specs.Task.{Command, Composition, Hyper, Traces, Channel, Trail, Capacity, Compose, Cascade, Parallel, Choice, Leak, Attack, Reach, Make, Refine, Check, Covers, Quiet, Blame, Task, Row, on_files, plain, with_gain, making, refining, checking, with_two, commands, row_of, options_fit, turns_of, row_task, task_of_values, task_said, task_of, observations_said, first_of, others_of, last_of, but_last}
 use Rattle.kf_top.proofs.Numerals.{both}
 
 abbrev pub IsWanted : Command → Type 0
@@ -57,10 +57,12 @@ checking_keeps values said ask turns is =
     let cert = mapped (λ cert. on_files (Check cert) (others_of values)) (first_of values) ask is in
     asked_keeps (on_files (Check cert.0) (others_of values)) ask turns cert.2 tt
 
-choosing_keeps : Keeps choosing
-choosing_keeps values said ask turns is =
-    let chance = mapped (λ (chance : ℕ × ℕ). on_files (Compose (Choice chance.0 chance.1)) (but_last values)) (option_and_then chance_said (last_of values)) ask is in
-    asked_keeps (on_files (Compose (Choice chance.0.0 chance.0.1)) (but_last values)) ask turns chance.2 tt
+two_keeps : (numbers : List ℕ → Option (ℕ × ℕ)) (command : ℕ → ℕ → Command) (files : ℕ)
+    → ((word : List ℕ) (p : ℕ × ℕ) → numbers word ≡ Some p → IsWanted (command p.0 p.1)) → Keeps (with_two numbers command files)
+two_keeps numbers command files has values said ask turns is =
+    let two = mapped (λ (two : ℕ × ℕ). on_files (command two.0 two.1) (but_last values)) (option_and_then numbers (last_of values)) ask is in
+    let word = given numbers (last_of values) two.0 two.1 in
+    asked_keeps (on_files (command two.0.0 two.0.1) (but_last values)) ask turns two.2 (has word.0 two.0 word.2)
 
 wanted_is : (word : List ℕ) (p : ℕ × ℕ) → wanted_said word ≡ Some p → (1 ≤ p.0) × (p.0 ≤ p.1)
 wanted_is word p is =
@@ -69,12 +71,6 @@ wanted_is word p is =
     let tests = both (nat_le 1 ratio.0.0) (nat_le ratio.0.0 ratio.0.1) passed.0 in
     let same : ratio.0 ≡ p = cc in
     subst (λ (r : ℕ × ℕ). (1 ≤ r.0) × (r.0 ≤ r.1)) same (leb-true 1 ratio.0.0 tests.0, leb-true ratio.0.0 ratio.0.1 tests.1)
-
-reaching_keeps : Keeps reaching
-reaching_keeps values said ask turns is =
-    let wanted = mapped (λ (wanted : ℕ × ℕ). on_files (Reach wanted.0 wanted.1) (but_last values)) (option_and_then wanted_said (last_of values)) ask is in
-    let word = given wanted_said (last_of values) wanted.0 wanted.1 in
-    asked_keeps (on_files (Reach wanted.0.0 wanted.0.1) (but_last values)) ask turns wanted.2 (wanted_is word.0 wanted.0 word.2)
 
 -- ---- the table
 
@@ -101,7 +97,16 @@ all_keep = (
                     plain_keeps (Compose Cascade) 2 tt,
                     (
                       plain_keeps (Compose Parallel) 2 tt,
-                      (choosing_keeps, (gain_keeps Attack 1 (λ g. tt), (reaching_keeps, tt))),
+                      (
+                        two_keeps chance_said (λ num den. Compose (Choice num den)) 3 (λ word p is. tt),
+                        (
+                          gain_keeps Attack 1 (λ g. tt),
+                          (
+                            two_keeps wanted_said Reach 2 wanted_is,
+                            (plain_keeps Covers 2 tt, (two_keeps block_said Quiet 2 (λ word p is. tt), (plain_keeps Blame 1 tt, tt))),
+                          ),
+                        ),
+                      ),
                     ),
                   ),
                 ),

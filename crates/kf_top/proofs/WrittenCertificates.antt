@@ -19,7 +19,7 @@ use Rattle.kf_cert.specs.declared.mark.Mark.TheVariants.{Accepted}
 use Rattle.kf_cert.specs.declared.mark.CheckError.{CheckError}
 use Rattle.kf_cert.specs.declared.mark.CheckError.TheVariants as check
 use Rattle.kf_cert.proofs.Printable.{matrix_printable, table_printable}
-use Rattle.kf_top.specs.Answer.{Shown, Statement, MarkOf, States, Refused, Usage, TooLong, BadText, BadRun, WideScale, NotInitial, BadTable, WideGain, OtherTarget, ManyCells, WideTableau, ManyPivots, BadCert, WideCert, OtherRows, NoFit, ManyChannelCells, WideChannel, status_of}
+use Rattle.kf_top.specs.Answer.{Shown, Statement, MarkOf, States, Refused, Usage, TooLong, BadText, BadRun, WideScale, NotInitial, BadTable, WideGain, OtherTarget, ManyCells, WideTableau, ManyPivots, BadCert, WideCert, OtherRows, NoFit, ManyChannelCells, WideChannel, ManyStores, FewStatements, status_of}
 use Rattle.kf_top.specs.Ends.{Answer, Settled, showing, refusing}
 use Rattle.kf_top.specs.Laws.{CertificatesAccepted, asks_certificate, asks_check}
 use Rattle.kf_top.specs.Outcome.{Text, TextOf, ClearedOf, source_of, cert_read, CertIn, AreHypers, most_pivots, mark_stated, MarkIn, RefineOutcome, CheckOutcome, CommandOutcome, SomeOutcome, Outcome}
@@ -33,7 +33,7 @@ use Rattle.kf_top.proofs.SomeAnswer.{verdict_of}
 -- ---- what is written can be read back
 
 -- a verdict is about one target
-one_target : (a b : HyperTree) (v : VerdictTree) → IsVerdict a b most_pivots (Ok v) → a.target ≡ b.target
+pub one_target : (a b : HyperTree) (v : VerdictTree) → IsVerdict a b most_pivots (Ok v) → a.target ≡ b.target
 one_target a b (Yes rows) is = is.1.targets
 one_target a b (No t) is = is.1.targets
 
@@ -131,9 +131,11 @@ refused_above OtherRows = omega arith
 refused_above NoFit = omega arith
 refused_above (ManyChannelCells cells) = omega arith
 refused_above WideChannel = omega arith
+refused_above (ManyStores name count) = omega arith
+refused_above (FewStatements name count) = omega arith
 
 -- an answer with a status of at most 1 states something
-stated : (r : Result Statement Refused) (written : Answer) → Settled r written → written.status ≤ 1 → (statement : Statement) × (r ≡ Ok statement)
+pub stated : (r : Result Statement Refused) (written : Answer) → Settled r written → written.status ≤ 1 → (statement : Statement) × (r ≡ Ok statement)
 stated (Ok statement) written settled few = (statement, refl)
 stated (Err r) written settled few =
     let status : written.status ≡ status_of r = ap (λ (x : Answer). x.status) settled in

@@ -6,6 +6,7 @@ use Rattle.kf_core.specs.Joint.{Cell}
 use Rattle.kf_core.specs.Programs.{ProgramTree}
 use Rattle.kf_core.specs.Pushing.{IsTrail}
 use Rattle.kf_core.specs.Rows.{AreRowsOf, IsHyperOf}
+use Rattle.kf_core.specs.Scale.{scale_of}
 use Rattle.kf_hyper.specs.Hypers.{Inner}
 use Rattle.kf_hyper.specs.Traces.{Row}
 use Rattle.kf_channel.specs.Channels.{AreSecrets}
@@ -13,6 +14,7 @@ use Rattle.kf_capacity.specs.Grids.{GridTree}
 use Rattle.kf_gain.specs.Gains.{GainOf, TableTree}
 use Rattle.kf_report.specs.Reports.{Leakage, IsLeakage}
 use Rattle.kf_attack.specs.Attacks.{AttackTree, AreAttacks, ReachTree, IsReach}
+use Rattle.kf_quiet.specs.Blames.{BlameTree, AreBlames}
 use Rattle.kf_refine.specs.Refinements.{HyperTree}
 use Rattle.kf_refine.specs.Verdicts.{VerdictTree, No, Proves}
 use Rattle.kf_cert.specs.CertTexts.{cert_text}
@@ -20,6 +22,7 @@ use Rattle.kf_cert.specs.declared.mark.Mark.{Mark}
 use Rattle.kf_cert.specs.declared.mark.Mark.TheVariants.{Rejected}
 use Rattle.kf_text.specs.Texts.{line, hyper_text, trace_text, channel_text, trail_text, make_text}
 use Rattle.kf_text.specs.AttackTexts.{attack_text, reach_text}
+use Rattle.kf_text.specs.BlameTexts.{blame_text}
 use Rattle.kf_text.specs.CapacityTexts.{capacity_text, algebra_text}
 use Rattle.kf_text.specs.ReportTexts.{report_text}
 use Rattle.kf_text.specs.VerdictTexts.{verdict_text, mark_text}
@@ -50,6 +53,8 @@ pub data Statement : Type 0 where
   CapacityOf : GridTree → Statement
   -- the capacities of two channels, and of what was put together of them
   AlgebraOf : GridTree → GridTree → GridTree → Statement
+  -- how much is seen of a program, whose loops turn at most so often, and how much where each outermost statement in turn is quiet
+  BlameOf : ℕ → ProgramTree → Statement
 
 -- the bytes are the statement's text
 abbrev pub IsText : Statement → List ℕ → Type 0
@@ -73,6 +78,7 @@ IsText (ReachOf num den scale joint) bytes =
 IsText (CapacityOf g) bytes = bytes ≡ capacity_text g
 IsText (AlgebraOf first second both) bytes = bytes ≡ algebra_text first second both
 IsText (TrailOf turns p) bytes = (counts : List ℕ) × IsTrail turns p counts × (bytes ≡ trail_text counts)
+IsText (BlameOf turns p) bytes = (blames : List BlameTree) × AreBlames turns p blames × (bytes ≡ blame_text (scale_of turns p) blames)
 
 -- whether it is a yes: only a verdict may be a no, and a certificate rejected
 abbrev pub says_yes : Statement → Bool
@@ -125,6 +131,10 @@ pub data Refused : Type 0 where
   ManyChannelCells : ℕ → Refused
   -- a channel's denominator or its capacity passes 2^127 - 1
   WideChannel : Refused
+  -- the declared variables of a file's program have so many stores
+  ManyStores : List ℕ → ℕ → Refused
+  -- a file's program has only so many outermost statements
+  FewStatements : List ℕ → ℕ → Refused
 
 -- a line on standard error; `name` is the file's, or empty
 abbrev pub said : List ℕ → List ℕ → List ℕ
@@ -153,6 +163,8 @@ status_of OtherRows = 10
 status_of NoFit = 10
 status_of (ManyChannelCells cells) = 8
 status_of WideChannel = 7
+status_of (ManyStores name count) = 8
+status_of (FewStatements name count) = 13
 
 abbrev pub line_of : Refused → List ℕ
 line_of Usage = said [] (codes "usage: kuifje COMMAND [FILES] [--gain G] [--turns N] [--json]")
@@ -173,3 +185,5 @@ line_of OtherRows = said [] (codes "rows differ")
 line_of NoFit = said [] (codes "channels do not fit")
 line_of (ManyChannelCells cells) = said [] (codes "channel has " ++ (decimal cells ++ codes " cells"))
 line_of WideChannel = said [] (codes "channel passes 2^127 - 1")
+line_of (ManyStores name count) = said name (codes ": " ++ (decimal count ++ codes " stores"))
+line_of (FewStatements name count) = said name (codes ": " ++ (decimal count ++ codes " statements"))

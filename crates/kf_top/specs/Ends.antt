@@ -7,10 +7,11 @@ use Rattle.std.specs.Io.KnownBytes.{Appends, Keeps}
 use Rattle.kf_io.specs.Faults.{Rose}
 use Rattle.kf_io.specs.Writes.{AppendsSome}
 use Rattle.kf_gain.specs.Gains.{GainOf, Table}
-use Rattle.kf_top.specs.Task.{Command, Composition, Task, Channel, Capacity, Compose, Leak, Attack, Refine, Check, task_of, files_of, named}
+use Rattle.kf_top.specs.Task.{Command, Composition, Task, Channel, Capacity, Compose, Leak, Attack, Refine, Check, Covers, Quiet, task_of, files_of, named}
 use Rattle.kf_top.specs.Answer.{Statement, Shown, States, Refused, said, line_of, status_of}
 use Rattle.kf_top.specs.Answer.{Usage, TooLong, BadText, BadRun, WideScale, NotInitial, BadTable, WideGain}
 use Rattle.kf_top.specs.Answer.{OtherTarget, ManyCells, WideTableau, ManyPivots, BadCert, WideCert, OtherRows, NoFit, ManyChannelCells, WideChannel}
+use Rattle.kf_top.specs.Answer.{ManyStores, FewStatements}
 use Rattle.kf_top.specs.Outcome.{Outcome}
 
 -- ---- answers
@@ -98,7 +99,7 @@ pub record AnsweredInPart (words : List (List ℕ)) (contents : List ℕ → Lis
   pub no_room : out.room_before < length answer.out
 
 abbrev pub IsRefining : Command → Type 0
-IsRefining command = (json : Bool) × (command ≡ Refine json)
+IsRefining command = (command ≡ Covers) ⊎ ((json : Bool) × (command ≡ Refine json))
 
 abbrev pub IsChecking : Command → Type 0
 IsChecking command = (name : List ℕ) × (command ≡ Check name)
@@ -134,6 +135,8 @@ CanRefuse task OtherRows = IsComposing task.command
 CanRefuse task NoFit = IsComposing task.command
 CanRefuse task (ManyChannelCells cells) = IsComposing task.command
 CanRefuse task WideChannel = IsOnCapacities task.command
+CanRefuse task (ManyStores name count) = (task.command ≡ Covers) × Contains task.files name
+CanRefuse task (FewStatements name count) = (from to : ℕ) × (task.command ≡ Quiet from to) × Contains task.files name
 
 -- the status and the line are those of a refusal that these words can have
 pub record RefusedAs (words : List (List ℕ)) (err : Sunk) (status : ℕ) : Type 0 where

@@ -1,7 +1,8 @@
 -- Believed: numbers as words say them.
-use Rattle.std.specs.Prelude.{ℕ, ◌+◌, List, [], ◌∷◌, Bool, ◌&&◌, ◌==◌, Option, None, Some, length, nat_le, if◌then◌else◌, option_map, option_and_then}
+use Rattle.std.specs.Prelude.{ℕ, ◌+◌, List, [], ◌∷◌, Bool, ◌&&◌, Option, None, Some, codes, drop, length, nat_eq, nat_le, if◌then◌else◌}
+use Rattle.std.specs.Prelude.{option_map, option_and_then}
 use Rattle.std.specs.Char.{is_ascii_digit}
-use Rattle.std.specs.List.{list_all}
+use Rattle.std.specs.List.{list_all, starts_with}
 use Rattle.std.specs.Str.Parse.{digits_value}
 
 -- a word of decimal digits, at least one and at most so many
@@ -16,19 +17,24 @@ some_number n = if nat_le 1 n && nat_le n 65535 then Some n else None
 abbrev pub number_said : List ℕ → Option ℕ
 number_said word = if is_numeral 5 word then some_number (digits_value 10 word) else None
 
--- a number of one to nine digits
-abbrev pub long_number_said : List ℕ → Option ℕ
-long_number_said word = if is_numeral 9 word then Some (digits_value 10 word) else None
+-- a number of at most so many digits
+abbrev pub digits_said : ℕ → List ℕ → Option ℕ
+digits_said most word = if is_numeral most word then Some (digits_value 10 word) else None
 
--- what stands before the first slash and behind it
-abbrev pub around_slash : List ℕ → Option (List ℕ × List ℕ)
-around_slash [] = None
-around_slash (b ∷ bs) = if b == 47 then Some ([], bs) else option_map (λ p. (b ∷ p.0, p.1)) (around_slash bs)
+-- what stands before the first such mark and behind it
+abbrev pub around : List ℕ → List ℕ → Option (List ℕ × List ℕ)
+around mark [] = None
+around mark (b ∷ bs) =
+    if starts_with nat_eq (b ∷ bs) mark then Some ([], drop (length mark) (b ∷ bs)) else option_map (λ p. (b ∷ p.0, p.1)) (around mark bs)
 
--- two such numbers with a slash between
+-- two numbers of at most so many digits with a mark between
+abbrev pub two_said : ℕ → List ℕ → List ℕ → Option (ℕ × ℕ)
+two_said most mark word =
+    option_and_then (λ p. option_and_then (λ n. option_map (λ d. (n, d)) (digits_said most p.1)) (digits_said most p.0)) (around mark word)
+
+-- two numbers of at most nine digits with a slash between
 abbrev pub ratio_said : List ℕ → Option (ℕ × ℕ)
-ratio_said word =
-    option_and_then (λ p. option_and_then (λ n. option_map (λ d. (n, d)) (long_number_said p.1)) (long_number_said p.0)) (around_slash word)
+ratio_said word = two_said 9 (codes "/") word
 
 -- a probability between 0 and 1
 abbrev pub chance_said : List ℕ → Option (ℕ × ℕ)
@@ -37,3 +43,7 @@ chance_said word = option_and_then (λ p. if nat_le 1 p.0 && nat_le (p.0 + 1) p.
 -- a probability above 0
 abbrev pub wanted_said : List ℕ → Option (ℕ × ℕ)
 wanted_said word = option_and_then (λ p. if nat_le 1 p.0 && nat_le p.0 p.1 then Some p else None) (ratio_said word)
+
+-- a block of statements: two numbers of at most five digits with `..` between, the first below the second
+abbrev pub block_said : List ℕ → Option (ℕ × ℕ)
+block_said word = option_and_then (λ p. if nat_le (p.0 + 1) p.1 then Some p else None) (two_said 5 (codes "..") word)

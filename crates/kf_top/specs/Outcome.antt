@@ -1,5 +1,5 @@
 -- Believed: the defined answer to words over files: the first refusal, or what is to be stated.
-use Rattle.std.specs.Prelude.{◌≡◌, ◌≢◌, ◌⊎◌, ℕ, Bool, ◌&&◌, ◌*◌, List, [], ◌∷◌, ◌++◌, length, nat_le, codes, if◌then◌else◌, Ok, Err, None, Some}
+use Rattle.std.specs.Prelude.{◌≡◌, ◌≢◌, ◌⊎◌, ℕ, Bool, false, ◌&&◌, ◌*◌, List, [], ◌∷◌, ◌++◌, length, nat_le, codes, if◌then◌else◌, Ok, Err, None, Some}
 use Rattle.std.specs.Fmt.{decimal}
 use Rattle.std.specs.declared.option.Option.{Option}
 use Rattle.std.specs.declared.result.Result.{Result}
@@ -41,6 +41,8 @@ use Rattle.kf_gain.specs.Gains.{GainOf, Bayes, Tries, Guessing, Table, TableTree
 use Rattle.kf_gain.specs.Tables.{IsTable}
 use Rattle.kf_gain.specs.Vulnerabilities.{IsWidth}
 use Rattle.kf_make.specs.Making.{make_source}
+use Rattle.kf_prior.specs.FullSources.{full_source, initial_stores}
+use Rattle.kf_quiet.specs.Quiet.{quiet_joint}
 use Rattle.kf_refine.specs.Refinements.{HyperTree}
 use Rattle.kf_refine.specs.Verdicts.{VerdictTree, IsVerdict}
 use Rattle.kf_refine.specs.declared.verdict.RefineError.{RefineError}
@@ -52,11 +54,13 @@ use Rattle.kf_cert.specs.declared.cert.CertError.TheVariants as cert
 use Rattle.kf_cert.specs.declared.mark.Mark.{Mark}
 use Rattle.kf_cert.specs.declared.mark.CheckError.{CheckError}
 use Rattle.kf_cert.specs.declared.mark.CheckError.TheVariants as check
-use Rattle.kf_top.specs.Answer.{Statement, HyperOf, TracesOf, ChannelOf, ReportOf, TrailOf, MadeOf, VerdictOn, MarkOf, CapacityOf, AlgebraOf, AttackOf, ReachOf}
+use Rattle.kf_top.specs.Answer.{Statement, HyperOf, TracesOf, ChannelOf, ReportOf, TrailOf, MadeOf, VerdictOn, MarkOf, CapacityOf, AlgebraOf, AttackOf, ReachOf, BlameOf}
 use Rattle.kf_top.specs.Answer.{Refused, Usage, TooLong, BadText, BadRun, WideScale, NotInitial, BadTable, WideGain}
 use Rattle.kf_top.specs.Answer.{OtherTarget, ManyCells, WideTableau, ManyPivots, BadCert, WideCert, OtherRows, NoFit, ManyChannelCells, WideChannel}
+use Rattle.kf_top.specs.Answer.{ManyStores, FewStatements}
 use Rattle.kf_top.specs.Place.{line_at, column_at}
 use Rattle.kf_top.specs.Task.{Command, Task, Hyper, Traces, Channel, Trail, Capacity, Compose, Leak, Attack, Reach, Make, task_of, Refine, Check}
+use Rattle.kf_top.specs.Task.{Covers, Quiet, Blame}
 use Rattle.kf_top.specs.Task.{Composition, Cascade, Parallel, Choice}
 
 -- a step towards an answer: which results it may have
@@ -142,22 +146,25 @@ abbrev pub ProgramOf : List ℕ → List ℕ → SourceTree → Step ProgramTree
 ProgramOf name bytes tree (Ok p) = Typed tree p
 ProgramOf name bytes tree (Err r) = IsBad (IsBroken tree) type_fault name bytes r
 
--- a file's name, its bytes, and the program that they are
+-- a file's name, its bytes, and the source and the program that they are
 pub record Text : Type 0 where
   pub name : List ℕ
   pub bytes : List ℕ
+  pub source : SourceTree
   pub program : ProgramTree
 
--- the program that bytes are
-unfoldable pub TypedOf : List ℕ → List ℕ → Step ProgramTree
-TypedOf name bytes =
-    After (TokensOf name bytes) (λ tokens. After (SourceOf name bytes tokens) (λ tree. ProgramOf name bytes tree))
+-- a file's text with this source, whose places are those in the file's bytes
+abbrev pub TextWith : List ℕ → List ℕ → SourceTree → Step Text
+TextWith name bytes tree =
+    After (ProgramOf name bytes tree) (λ p. Gives (Ok (record { name = name; bytes = bytes; source = tree; program = p })))
+
+-- the text that bytes are
+unfoldable pub TypedOf : List ℕ → List ℕ → Step Text
+TypedOf name bytes = After (TokensOf name bytes) (λ tokens. After (SourceOf name bytes tokens) (TextWith name bytes))
 
 -- a file is read, then its text
 abbrev pub TextOf : (List ℕ → List ℕ) → List ℕ → Step Text
-TextOf contents name =
-    After (Gives (source_of contents name)) (λ bytes. After (TypedOf name bytes) (λ p.
-    Gives (Ok (record { name = name; bytes = bytes; program = p }))))
+TextOf contents name = After (Gives (source_of contents name)) (TypedOf name)
 
 -- the word of a run fault
 abbrev pub cause_word : Cause → List ℕ
@@ -183,9 +190,39 @@ cleared turns t = elim (program_pass turns t.program) [
   | Err f ↦ Err (bad_run t.name t.bytes f)
 ]
 
--- all texts first, and then each cleared
+-- a text whose declared variables have at most 4,096 stores
+abbrev pub few_stores : Text → Result Text Refused
+few_stores t =
+    if nat_le (initial_stores t.program.types t.source) 4096
+    then Ok t
+    else Err (ManyStores t.name (initial_stores t.program.types t.source))
+
+-- the same text with its full source: each initial store is equally likely, and the answer is about what each variable is before the
+-- statements and behind them
+abbrev pub FullOf : Text → Step Text
+FullOf t = TextWith t.name t.bytes (full_source t.program.types t.source)
+
+-- a program of at least so many outermost statements
+abbrev pub long_enough : List ℕ → ℕ → ProgramTree → Result ProgramTree Refused
+long_enough name most p = if nat_le most (length p.body) then Ok p else Err (FewStatements name (length p.body))
+
+-- the same of all texts, whose stores are counted first
+abbrev pub FullTexts : List Text → Step (List Text)
+FullTexts texts = After (Each (λ t. Gives (few_stores t)) texts) (Each FullOf)
+
+-- a text is cleared, and then its outermost statements are counted
+abbrev pub LongCleared : ℕ → ℕ → Text → Step ProgramTree
+LongCleared turns most t = After (Gives (cleared turns t)) (λ p. Gives (long_enough t.name most p))
+
+-- what a command makes of its texts: each is cleared, for `covers` with its full source, and for `quiet` the block must be there
+abbrev pub ReadyOf : Command → ℕ → List Text → Step (List ProgramTree)
+ReadyOf Covers turns texts = After (FullTexts texts) (Each (λ t. Gives (cleared turns t)))
+ReadyOf (Quiet from to) turns texts = Each (LongCleared turns to) texts
+ReadyOf command turns texts = Each (λ t. Gives (cleared turns t)) texts
+
+-- all texts first, and then their programs
 abbrev pub ClearedOf : (List ℕ → List ℕ) → Task → Step (List ProgramTree)
-ClearedOf contents task = After (Each (TextOf contents) task.files) (Each (λ t. Gives (cleared task.turns t)))
+ClearedOf contents task = After (Each (TextOf contents) task.files) (ReadyOf task.command task.turns)
 
 -- a channel leads from values before the statements
 abbrev pub channel_statement : ℕ → ProgramTree → Result Statement Refused
@@ -357,9 +394,8 @@ CheckOutcome contents name turns p q =
 -- the made text is typed and cleared as any other, and stands in no file
 abbrev pub MadeOutcome : ℕ → ℕ → Step Statement
 MadeOutcome count turns =
-    After (TypedOf [] (make_source count)) (λ p.
-    After (Gives (cleared turns (record { name = []; bytes = make_source count; program = p }))) (λ q.
-    Gives (Ok (MadeOf count (run_scale turns q) (joint_of turns q)))))
+    After (TypedOf [] (make_source count)) (λ t.
+    After (Gives (cleared turns t)) (λ p. Gives (Ok (MadeOf count (run_scale turns p) (joint_of turns p)))))
 
 -- what a command comes to for its programs; `task_of` gives each command as many files as it has programs here
 abbrev pub CommandOutcome : (List ℕ → List ℕ) → Command → ℕ → List ProgramTree → Step Statement
@@ -377,6 +413,9 @@ CommandOutcome contents (Attack g) turns (p ∷ []) =
 CommandOutcome contents (Reach num den) turns (p ∷ []) = Gives (Ok (ReachOf num den (run_scale turns p) (joint_of turns p)))
 CommandOutcome contents (Refine json) turns (p ∷ q ∷ []) = RefineOutcome json turns p q
 CommandOutcome contents (Check name) turns (p ∷ q ∷ []) = CheckOutcome contents name turns p q
+CommandOutcome contents Covers turns (p ∷ q ∷ []) = RefineOutcome false turns p q
+CommandOutcome contents (Quiet from to) turns (p ∷ []) = Gives (Ok (HyperOf p.target (run_scale turns p) (quiet_joint turns p from to)))
+CommandOutcome contents Blame turns (p ∷ []) = Gives (Ok (BlameOf turns p))
 CommandOutcome contents command turns ps = Gives (Err Usage)
 
 abbrev pub TaskOutcome : (List ℕ → List ℕ) → Task → Step Statement

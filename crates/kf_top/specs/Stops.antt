@@ -1,10 +1,13 @@
 -- For bodies: the work's result against the defined outcome, and the causes of its stops.
-use Rattle.std.specs.Prelude.{◌≡◌, ℕ, List, [], ◌∷◌, Vec, Ok, Err, Contains}
+use Rattle.std.specs.Prelude.{◌≡◌, ◌≤◌, ℕ, Bool, List, [], ◌∷◌, Vec, Ok, Err, Contains, vec_len}
 use Rattle.std.specs.declared.alloc.Global.{Global}
 use Rattle.kf_lex.specs.declared.token.Token.{Token}
 use Rattle.kf_ast.specs.declared.decl.Source.{Source}
 use Rattle.kf_ast.specs.Sources.{SourceTree}
 use Rattle.kf_ast.specs.Views.{source_tree}
+use Rattle.kf_check.specs.Laws.{IsWellBuilt}
+use Rattle.kf_check.specs.Translation.{Typed}
+use Rattle.kf_core.specs.Checked.{IsChecked}
 use Rattle.kf_core.specs.declared.program.Program.{Program}
 use Rattle.kf_core.specs.Programs.{ProgramTree}
 use Rattle.kf_core.specs.Views.{program_tree}
@@ -19,15 +22,24 @@ use Rattle.kf_gain.specs.declared.table.GainTable.{GainTable}
 use Rattle.kf_top.specs.Answer as answer
 use Rattle.kf_top.specs.Ends.{CanRefuse}
 use Rattle.kf_top.specs.Answer.{Statement}
-use Rattle.kf_top.specs.Outcome.{Step, Text, table_word, cert_word, AreHypers, MarkIn}
+use Rattle.kf_top.specs.Outcome.{Step, Each, Gives, Text, cleared, ReadyOf, table_word, cert_word, most_pivots, verdict_stated, AreHypers, MarkIn}
+use Rattle.kf_prior.specs.FullSources.{full_source}
+use Rattle.kf_hyper.specs.Views.{target_of}
 use Rattle.kf_refine.specs.Refinements.{HyperTree}
-use Rattle.kf_top.specs.Task.{Task, named}
+use Rattle.kf_refine.specs.Shapes.{IsWritable}
+use Rattle.kf_refine.specs.Verdicts.{VerdictTree, IsVerdict, Proves}
+use Rattle.kf_refine.specs.Views.{hyper_tree, verdict_tree}
+use Rattle.kf_refine.specs.declared.verdict.RefineError.{RefineError}
+use Rattle.kf_refine.specs.declared.verdict.Verdict.{Verdict}
+use Rattle.kf_top.specs.Task.{Command, Task, named}
 use Rattle.kf_top.specs.Views.{text_of}
 use Rattle.kf_cert.specs.Certificates.{CertTree}
 use Rattle.kf_cert.specs.Views.{cert_tree}
 use Rattle.kf_cert.specs.declared.cert.Cert.{Cert}
 use Rattle.kf_top.specs.declared.clearing.Pair.{Pair}
+use Rattle.kf_top.specs.declared.refining.Hypers.{Hypers}
 use Rattle.kf_top.specs.declared.clearing.Text as code
+use Rattle.kf_top.specs.declared.clearing.Texts.{Texts}
 use Rattle.kf_top.specs.declared.stops.Refusal.{Refusal}
 use Rattle.kf_top.specs.declared.stops.Refusal.TheVariants as refusal
 use Rattle.kf_top.specs.declared.stops.Stop.{Stop}
@@ -51,6 +63,8 @@ refused refusal.OtherRows = answer.OtherRows
 refused refusal.NoFit = answer.NoFit
 refused (refusal.ManyChannelCells cells) = answer.ManyChannelCells cells
 refused refusal.WideChannel = answer.WideChannel
+refused (refusal.ManyStores name count) = answer.ManyStores name.now count
+refused (refusal.FewStatements name count) = answer.FewStatements name.now count
 
 -- the result is one that the step may have, or its cause isn't in the words and the files' bytes
 abbrev pub Answers : {A B : Type 0} → (A → B → Type 0) → Result A Stop → Step B → Type 0
@@ -85,6 +99,31 @@ is_program program p = program_tree program ≡ p
 abbrev pub is_text : List ℕ → code.Text → Text → Type 0
 is_text name text t = text_of name text ≡ t
 
+-- the texts of two files of these names
+abbrev pub are_texts : List ℕ → List ℕ → Texts → List Text → Type 0
+are_texts first second texts ts = text_of first texts.first ∷ text_of second texts.second ∷ [] ≡ ts
+
+-- a text of at most 1,048,576 bytes, whose source could have been read, and its checked program
+pub record IsProper (t : code.Text) : Type 0 where
+  pub short : vec_len t.bytes ≤ 1048576
+  pub built : IsWellBuilt (source_tree t.source)
+  pub typed : Typed (source_tree t.source) (program_tree t.program)
+  pub checked : IsChecked (program_tree t.program)
+
+-- the full source of a text
+abbrev pub full_tree : Text → SourceTree
+full_tree t = full_source t.program.types t.source
+
+-- whatever the code has, the step has this
+abbrev pub stands_for : {A B : Type 0} → B → A → B → Type 0
+stands_for b a y = b ≡ y
+
+-- a command takes its texts as they are, and each is cleared
+abbrev pub IsPlain : Command → Type 0
+IsPlain command =
+    (turns : ℕ) (texts : List Text) (r : Result (List ProgramTree) answer.Refused) → Each (λ t. Gives (cleared turns t)) texts r
+    → ReadyOf command turns texts r
+
 -- the program of a cleared one
 abbrev pub is_cleared : Cleared → ProgramTree → Type 0
 is_cleared cleared p = program_tree (program_of cleared) ≡ p
@@ -102,6 +141,16 @@ is_table table t = table_tree table ≡ t
 
 abbrev pub is_cert : Cert → CertTree → Type 0
 is_cert c tree = cert_tree c ≡ tree
+
+-- the verdict on two hypers
+abbrev pub VerdictIn : Bool → HyperTree → HyperTree → Step Statement
+VerdictIn json a b result = (r : Result VerdictTree RefineError) × IsVerdict a b most_pivots r × (result ≡ verdict_stated json a b r)
+
+-- it is the verdict on these hypers, and proves what it says
+pub record IsToldOf (hypers : Hypers) (v : Verdict) : Type 0 where
+  pub is : IsVerdict (hyper_tree hypers.a) (hyper_tree hypers.b) most_pivots (Ok (verdict_tree v))
+  pub proves : Proves (hyper_tree hypers.a) (hyper_tree hypers.b) (verdict_tree v)
+  pub writable : IsWritable (target_of hypers.a) (verdict_tree v)
 
 -- the mark of a certificate on the hypers of two programs
 abbrev pub MarkOn : ℕ → ProgramTree → ProgramTree → CertTree → Step Statement

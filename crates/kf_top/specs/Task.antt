@@ -4,7 +4,7 @@ use Rattle.std.specs.Prelude.{if◌then◌else◌, option_map, option_and_then, 
 use Rattle.std.specs.Str.{bytes_eq}
 use Rattle.kf_gain.specs.Gains.{GainOf, Table}
 use Rattle.kf_top.specs.GainWords.{gain_said}
-use Rattle.kf_top.specs.Numerals.{number_said, chance_said, wanted_said}
+use Rattle.kf_top.specs.Numerals.{number_said, chance_said, wanted_said, block_said}
 use Rattle.kf_top.specs.Said.{Said, said_by}
 
 -- how two channels are put together
@@ -37,6 +37,12 @@ pub data Command : Type 0 where
   Refine : Bool → Command
   -- whether the certificate in the file of this name proves its verdict on them
   Check : List ℕ → Command
+  -- whether the second program leaks no more than the first, whatever the prior
+  Covers : Command
+  -- the hyper where the outermost statements from one on, up to but not with another, show nothing
+  Quiet : ℕ → ℕ → Command
+  -- how much is left of what is seen where each outermost statement in turn shows nothing
+  Blame : Command
 
 -- a command, the files of its programs, and how often a loop may turn
 pub record Task : Type 0 where
@@ -129,26 +135,13 @@ but_last [] = []
 but_last (word ∷ []) = []
 but_last (word ∷ next ∷ words) = word ∷ but_last (next ∷ words)
 
--- the row of `choice`, whose last value is a probability between 0 and 1
-abbrev pub choosing : Row
-choosing = record {
-  values = 3;
+-- a row of so many values, of which the last says two numbers and the others are files
+abbrev pub with_two : (List ℕ → Option (ℕ × ℕ)) → (ℕ → ℕ → Command) → ℕ → Row
+with_two numbers command values = record {
+  values = values;
   needs_gain = false;
   takes_json = false;
-  task = λ words said.
-      option_map (λ chance. on_files (Compose (Choice chance.0 chance.1)) (but_last words))
-      (option_and_then chance_said (last_of words));
-}
-
--- the row of `reach`, whose last value is a probability above 0
-abbrev pub reaching : Row
-reaching = record {
-  values = 2;
-  needs_gain = false;
-  takes_json = false;
-  task = λ words said.
-      option_map (λ wanted. on_files (Reach wanted.0 wanted.1) (but_last words))
-      (option_and_then wanted_said (last_of words));
+  task = λ words said. option_map (λ two. on_files (command two.0 two.1) (but_last words)) (option_and_then numbers (last_of words));
 }
 
 -- the table of commands, by their words
@@ -157,8 +150,10 @@ commands =
     (codes "hyper", plain Hyper 1) ∷ (codes "traces", plain Traces 1) ∷ (codes "channel", plain Channel 1)
     ∷ (codes "leak", with_gain Leak 1) ∷ (codes "trail", plain Trail 1) ∷ (codes "make", making)
     ∷ (codes "refine", refining) ∷ (codes "check", checking) ∷ (codes "capacity", plain Capacity 1)
-    ∷ (codes "cascade", plain (Compose Cascade) 2) ∷ (codes "parallel", plain (Compose Parallel) 2) ∷ (codes "choice", choosing)
-    ∷ (codes "attack", with_gain Attack 1) ∷ (codes "reach", reaching) ∷ []
+    ∷ (codes "cascade", plain (Compose Cascade) 2) ∷ (codes "parallel", plain (Compose Parallel) 2)
+    ∷ (codes "choice", with_two chance_said (λ num den. Compose (Choice num den)) 3) ∷ (codes "attack", with_gain Attack 1)
+    ∷ (codes "reach", with_two wanted_said Reach 2) ∷ (codes "covers", plain Covers 2) ∷ (codes "quiet", with_two block_said Quiet 2)
+    ∷ (codes "blame", plain Blame 1) ∷ []
 
 -- the row of a command's word
 abbrev pub row_of : List ℕ → Option Row

@@ -1,5 +1,6 @@
 -- For bodies: what the code's values show.
 use Rattle.std.specs.Prelude.{ℕ, List, [], ◌∷◌, ◌≤◌, ◌<◌}
+use Rattle.kf_ast.specs.Views.{source_tree}
 use Rattle.kf_core.specs.Views.{program_tree}
 use Rattle.kf_top.specs.Answer.{Shown, Statement, States}
 use Rattle.kf_gain.specs.Gains.{GainOf, Bayes, Tries, Guessing, Table}
@@ -36,20 +37,24 @@ task_of_job (job.Capacity file turns) = task.on_file task.Capacity file turns
 task_of_job (job.Cascade a b turns) = task.on_files (task.Compose task.Cascade) (a ∷ b ∷ []) turns
 task_of_job (job.Parallel a b turns) = task.on_files (task.Compose task.Parallel) (a ∷ b ∷ []) turns
 task_of_job (job.Choice a b num den turns) = task.on_files (task.Compose (task.Choice num den)) (a ∷ b ∷ []) turns
+task_of_job (job.Covers a b turns) = task.on_files task.Covers (a ∷ b ∷ []) turns
+task_of_job (job.Quiet file from to turns) = task.on_file (task.Quiet from to) file turns
+task_of_job (job.Blame file turns) = task.on_file task.Blame file turns
 
 -- a file's text, by its name
 abbrev pub text_of : List ℕ → Text → outcome.Text
-text_of name t = record { name = name; bytes = t.bytes.items; program = program_tree t.program }
+text_of name t = record { name = name; bytes = t.bytes.items; source = source_tree t.source; program = program_tree t.program }
 
 -- a task's loops may turn so often
 abbrev pub HasTurns : task.Task → Type 0
 HasTurns t = (1 ≤ t.turns) × (t.turns ≤ 65535)
 
--- no more observations than the scale of a made text can bear, a choice that leaves both, and a probability above 0
+-- no more observations than the scale of a made text can bear, a choice that leaves both, a probability above 0, and a block that isn't empty
 abbrev pub IsFew : task.Command → Type 0
 IsFew (task.Make count) = count ≤ 60
 IsFew (task.Compose (task.Choice num den)) = (1 ≤ num) × (num < den)
 IsFew (task.Reach num den) = (1 ≤ num) × (num ≤ den)
+IsFew (task.Quiet from to) = from < to
 IsFew command = Unit {0}
 
 abbrev pub ShowsStatement : Done → Statement → Type 0

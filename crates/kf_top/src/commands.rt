@@ -4,30 +4,45 @@ ghost use Rattle.kf_top.specs.WordViews.{row_shown, said_shown, values_of};
 
 use crate::said::Said;
 
-/// A command, by its word.
+/// A command on one file and nothing else.
 #[derive(Clone, Copy)]
-pub(crate) enum Kind {
+pub(crate) enum OneFile {
     Hyper,
     Traces,
     Channel,
     Trail,
+    Capacity,
+    Blame,
+}
+
+/// A command on two files and nothing else.
+#[derive(Clone, Copy)]
+pub(crate) enum TwoFiles {
+    Cascade,
+    Parallel,
+    Covers,
+}
+
+/// A command, by its word.
+#[derive(Clone, Copy)]
+pub(crate) enum Kind {
+    OneFile(OneFile),
+    TwoFiles(TwoFiles),
     Leak,
     Make,
     Refine,
     Check,
-    Capacity,
-    Cascade,
-    Parallel,
     Choice,
     Attack,
     Reach,
+    Quiet,
 }
 
 /// What stands behind a command's word.
 #[derive(Clone, Copy)]
 pub(crate) struct Row {
     pub(crate) command: Kind,
-    /// How many values stand behind the word: files, and maybe a number or a probability.
+    /// How many values stand behind the word: files, and maybe a number, a probability or a block.
     pub(crate) values: usize,
     /// Whether `--gain` must stand; elsewhere it may not.
     pub(crate) needs_gain: bool,
@@ -53,10 +68,10 @@ pub(crate) fn row_of(word: &str) -> Option<Row>
     ensures values { IfSome result (λ row. row.values ≡ values_of row.command) }
 {
     match word {
-        "hyper" => Some(plain(Kind::Hyper, 1)),
-        "traces" => Some(plain(Kind::Traces, 1)),
-        "channel" => Some(plain(Kind::Channel, 1)),
-        "trail" => Some(plain(Kind::Trail, 1)),
+        "hyper" => Some(plain(Kind::OneFile(OneFile::Hyper), 1)),
+        "traces" => Some(plain(Kind::OneFile(OneFile::Traces), 1)),
+        "channel" => Some(plain(Kind::OneFile(OneFile::Channel), 1)),
+        "trail" => Some(plain(Kind::OneFile(OneFile::Trail), 1)),
         "leak" => Some(Row {
             needs_gain: true,
             ..plain(Kind::Leak, 1)
@@ -67,15 +82,18 @@ pub(crate) fn row_of(word: &str) -> Option<Row>
             ..plain(Kind::Refine, 2)
         }),
         "check" => Some(plain(Kind::Check, 3)),
-        "capacity" => Some(plain(Kind::Capacity, 1)),
-        "cascade" => Some(plain(Kind::Cascade, 2)),
-        "parallel" => Some(plain(Kind::Parallel, 2)),
+        "capacity" => Some(plain(Kind::OneFile(OneFile::Capacity), 1)),
+        "cascade" => Some(plain(Kind::TwoFiles(TwoFiles::Cascade), 2)),
+        "parallel" => Some(plain(Kind::TwoFiles(TwoFiles::Parallel), 2)),
         "choice" => Some(plain(Kind::Choice, 3)),
         "attack" => Some(Row {
             needs_gain: true,
             ..plain(Kind::Attack, 1)
         }),
         "reach" => Some(plain(Kind::Reach, 2)),
+        "covers" => Some(plain(Kind::TwoFiles(TwoFiles::Covers), 2)),
+        "quiet" => Some(plain(Kind::Quiet, 2)),
+        "blame" => Some(plain(Kind::OneFile(OneFile::Blame), 1)),
         _ => None,
     }
 }

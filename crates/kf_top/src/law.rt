@@ -1,4 +1,4 @@
-ghost use Rattle.kf_top.specs.Laws.{CertificatesAccepted, ExactlyOneAnswer};
+ghost use Rattle.kf_top.specs.Laws.{CertificatesAccepted, CoversAllPriors, ExactlyOneAnswer, NoIsSeparated, QuietIsNoBetter};
 
 use kf_attack::{attack_laws, reach_laws};
 use kf_cert::{cert_laws, mark_laws};
@@ -8,6 +8,8 @@ use kf_core::{joint_laws, run_laws};
 use kf_gain::{average_laws, gain_laws, table_laws};
 use kf_lex::one_reading;
 use kf_parse::{grammar, refusals};
+use kf_prior::{full_laws, prior_laws};
+use kf_quiet::{blame_laws, quiet_laws};
 use kf_refine::{one_verdict, verdict_laws};
 use kf_run::trail_laws;
 
@@ -29,6 +31,8 @@ pub fn exactly_one_answer()
     trail_laws();
     attack_laws();
     reach_laws();
+    full_laws();
+    blame_laws();
     one_verdict();
     verdict_laws();
     cert_laws();
@@ -46,6 +50,33 @@ pub fn certificates_accepted()
     type_laws();
     joint_laws();
     run_laws();
+    full_laws();
     verdict_laws();
     cert_laws();
+}
+
+/// Laws of the definitions: where `covers` answers yes, the second program leaks no more than the first at any prior on their initial
+/// stores and under any gain table; where it answers no, it prints a table under which the second leaks more at the uniform prior. It does
+/// nothing when it runs.
+pub fn covers_all_priors()
+    ensures all { CoversAllPriors }
+    ensures separated { NoIsSeparated }
+{
+    one_reading();
+    grammar();
+    refusals();
+    type_laws();
+    prior_laws();
+}
+
+/// A law of the definitions: whatever the adversary wants, the hyper that `quiet` states is worth no more than the one that `hyper` states
+/// of the same text. It does nothing when it runs.
+pub fn quiet_leaks_no_more()
+    ensures { QuietIsNoBetter }
+{
+    one_reading();
+    grammar();
+    refusals();
+    type_laws();
+    quiet_laws();
 }

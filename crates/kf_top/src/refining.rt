@@ -1,21 +1,24 @@
 //! The commands `refine` and `check`.
 
-ghost use Rattle.std.specs.Prelude.{◌≡◌, ℕ, Bool, List, IfOk, if◌then◌else◌};
+ghost use Rattle.std.specs.Prelude.{◌≡◌, ◌≢◌, ℕ, Bool, Err, List, IfErr, IfOk, if◌then◌else◌};
 ghost use Rattle.std.specs.Option.{ForSome};
 ghost use Rattle.kf_value.specs.Views.{items_of};
 ghost use Rattle.kf_core.specs.Views.{program_tree};
 ghost use Rattle.kf_support.specs.Cleared.{program_of, turns_of};
 ghost use Rattle.kf_refine.specs.Refinements.{HyperTree};
 ghost use Rattle.kf_refine.specs.Shapes.{IsWritable};
+ghost use Rattle.kf_refine.specs.Verdicts.{IsVerdict};
 ghost use Rattle.kf_refine.specs.Views.{hyper_tree, verdict_tree};
+ghost use Rattle.kf_refine.specs.declared.verdict.RefineError.TheVariants as errors;
 ghost use Rattle.kf_cert.specs.CertTexts.{cert_text};
 ghost use Rattle.kf_cert.specs.Views.{cert_tree, IsSound};
 ghost use Rattle.kf_text.specs.Texts.{line};
 ghost use Rattle.kf_text.specs.VerdictTexts.{mark_text as text_of_mark, verdict_text as text_of_verdict};
 ghost use Rattle.kf_top.specs.Answer.{says_yes, MarkOf, VerdictOn};
-ghost use Rattle.kf_top.specs.Outcome.{AreHypers, CertIn, CheckOutcome, RefineOutcome};
+ghost use Rattle.kf_top.specs.Ends.{IsRefining};
+ghost use Rattle.kf_top.specs.Outcome.{most_pivots, AreHypers, CertIn, CheckOutcome, RefineOutcome};
 ghost use Rattle.kf_top.specs.Task.{Check, Refine, Task};
-ghost use Rattle.kf_top.specs.Stops.{Answers, Causes, is_cert, MarkOn};
+ghost use Rattle.kf_top.specs.Stops.{Answers, Causes, StopCause, is_cert, IsToldOf, MarkOn, VerdictIn};
 ghost use Rattle.kf_top.specs.Views.{ShowsStatement};
 
 use crate::clearing::{Pair, source};
@@ -23,24 +26,24 @@ use crate::stops::{Done, Refusal, Stop};
 use kf_cert::{Cert, CertError, CheckError, Mark, check_cert, read_cert, write_cert};
 use kf_hyper::Hyper;
 use kf_io::Files;
-use kf_refine::{RefineError, Verdict};
+use kf_refine::{RefineError, Verdict, refine};
 use kf_run::hyper_of;
 use kf_text::{mark_text, verdict_text};
 use kf_value::{Mem, Target, same_target};
 use std::alloc::Global;
 
 /// How many pivots a run may have.
-const MOST_PIVOTS: u32 = 20_000;
+pub(crate) const MOST_PIVOTS: u32 = 20_000;
 
-// The hypers of two programs.
+/// The hypers of two programs.
 #[derive(Drop)]
-struct Hypers {
-    a: Hyper,
-    b: Hyper,
+pub(crate) struct Hypers {
+    pub(crate) a: Hyper,
+    pub(crate) b: Hyper,
 }
 
-// The hypers of two cleared programs.
-fn hypers_of(alloc: Global, pair: &Pair) -> Result<Hypers, Mem>
+/// The hypers of two cleared programs.
+pub(crate) fn hypers_of(alloc: Global, pair: &Pair) -> Result<Hypers, Mem>
     requires { turns_of pair.now.first ≡ turns_of pair.now.second }
     ensures { IfOk result (λ hypers. AreHypers (turns_of pair.now.first) (program_tree (program_of pair.now.first))
         (program_tree (program_of pair.now.second)) (hyper_tree hypers.a) (hyper_tree hypers.b)) }
@@ -71,6 +74,42 @@ fn is_yes(verdict: &Verdict) -> bool
     matches!(verdict, Verdict::Yes(_))
 }
 
+// Why there is no verdict on two hypers.
+fn verdict_stop<'a>(error: RefineError) -> Stop<'a>
+    ensures answer { (json : Bool) (a b : HyperTree) → (error ≢ errors.Mem → IsVerdict a b most_pivots (Err error))
+        → Answers ShowsStatement (Err result) (VerdictIn json a b) }
+    ensures causes { (task : Task) (before : List ℕ → ℕ) → IsRefining task.command → StopCause task before before result }
+{
+    match error {
+        RefineError::Targets => Stop::Refused(Refusal::OtherTarget),
+        RefineError::Cells { count } => Stop::Refused(Refusal::ManyCells(count)),
+        RefineError::Wide { pivots } => Stop::Refused(Refusal::WideTableau(pivots)),
+        RefineError::Budget => Stop::Refused(Refusal::ManyPivots),
+        RefineError::Mem => Stop::Mem,
+    }
+}
+
+/// What is said of the verdict on two hypers.
+pub(crate) fn verdict_said<'a>(
+    alloc: Global,
+    hypers: &Hypers,
+    told: Result<Verdict, RefineError>,
+    json: bool,
+) -> Result<Done, Stop<'a>>
+    requires ok { IfOk told (IsToldOf hypers.now) }
+    requires err { IfErr told (λ e. e ≢ errors.Mem → IsVerdict (hyper_tree hypers.now.a) (hyper_tree hypers.now.b) most_pivots (Err e)) }
+    ensures answer { Answers ShowsStatement result (VerdictIn json (hyper_tree hypers.now.a) (hyper_tree hypers.now.b)) }
+    ensures causes { (task : Task) (before : List ℕ → ℕ) → IsRefining task.command → Causes task before before result }
+{
+    let verdict = match told {
+        Ok(verdict) => verdict,
+        Err(error) => return Err(verdict_stop(error)),
+    };
+    let yes = is_yes(&verdict);
+    let bytes = bytes_of(alloc, &verdict, hypers.a.target(), json)?;
+    Ok(Done { yes, bytes })
+}
+
 /// What the command `refine` says of two cleared programs.
 pub fn refine_said<'a>(alloc: Global, pair: &Pair, json: bool) -> Result<Done, Stop<'a>>
     requires { turns_of pair.now.first ≡ turns_of pair.now.second }
@@ -79,19 +118,8 @@ pub fn refine_said<'a>(alloc: Global, pair: &Pair, json: bool) -> Result<Done, S
     ensures causes { (task : Task) (before : List ℕ → ℕ) → task.command ≡ Refine json → Causes task before before result }
 {
     let hypers = hypers_of(alloc, pair)?;
-    let verdict = match kf_refine::refine(alloc, &hypers.a, &hypers.b, MOST_PIVOTS) {
-        Ok(verdict) => verdict,
-        Err(RefineError::Targets) => return Err(Stop::Refused(Refusal::OtherTarget)),
-        Err(RefineError::Cells { count }) => return Err(Stop::Refused(Refusal::ManyCells(count))),
-        Err(RefineError::Wide { pivots }) => {
-            return Err(Stop::Refused(Refusal::WideTableau(pivots)));
-        }
-        Err(RefineError::Budget) => return Err(Stop::Refused(Refusal::ManyPivots)),
-        Err(RefineError::Mem) => return Err(Stop::Mem),
-    };
-    let yes = is_yes(&verdict);
-    let bytes = bytes_of(alloc, &verdict, hypers.a.target(), json)?;
-    Ok(Done { yes, bytes })
+    let told = refine(alloc, &hypers.a, &hypers.b, MOST_PIVOTS);
+    verdict_said(alloc, &hypers, told, json)
 }
 
 // The certificate in a file.

@@ -40,6 +40,10 @@ pub enum Refusal<'a> {
     ManyChannelCells(u128),
     /// The denominator of a channel, or its capacity over that, passes 2^127 - 1.
     WideChannel,
+    /// The declared variables of the file's program have so many stores, which are more than 4,096.
+    ManyStores(&'a str, u128),
+    /// The file's program has only so many outermost statements.
+    FewStatements(&'a str, usize),
 }
 
 /// Why there is no answer.

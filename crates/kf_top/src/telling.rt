@@ -4,7 +4,7 @@ ghost use Rattle.std.specs.Prelude.{◌≡◌};
 ghost use Rattle.std.specs.List.{flat_map};
 ghost use Rattle.kf_gain.specs.declared.error.TableError.TheVariants as table;
 ghost use Rattle.kf_cert.specs.declared.cert.CertError.TheVariants as cert;
-ghost use Rattle.kf_top.specs.Answer.{placed, said, line_of, status_of, BadTable, BadCert, ManyCells, ManyChannelCells, WideTableau};
+ghost use Rattle.kf_top.specs.Answer.{placed, said, line_of, status_of, BadTable, BadCert, FewStatements, ManyCells, ManyChannelCells, ManyStores, WideTableau};
 ghost use Rattle.kf_top.specs.Outcome.{table_word, cert_word};
 ghost use Rattle.kf_top.specs.Stops.{refused};
 ghost use Rattle.kf_top.specs.Ends.{sunk, TookLine};
@@ -109,6 +109,24 @@ fn tell_pivots<E: Sink>(err: &mut E, pivots: u32)
     );
 }
 
+// Tells how many stores the variables of a file's program have.
+fn tell_stores<E: Sink>(err: &mut E, name: &str, stores: u128)
+    ensures { TookLine (sunk E.taken E.faults E.room err.old err.new) (line_of (ManyStores name.now stores)) }
+{
+    let mut digits = Buffer::new();
+    let stores = digits.format(stores);
+    tell_pieces(err, &["kuifje: ", name, ": ", stores, " stores\n"]);
+}
+
+// Tells how many outermost statements a file's program has.
+fn tell_statements<E: Sink>(err: &mut E, name: &str, statements: usize)
+    ensures { TookLine (sunk E.taken E.faults E.room err.old err.new) (line_of (FewStatements name.now statements)) }
+{
+    let mut digits = Buffer::new();
+    let statements = digits.format(statements);
+    tell_pieces(err, &["kuifje: ", name, ": ", statements, " statements\n"]);
+}
+
 /// Tells the refusal, and gives its status.
 pub fn refuse<E: Sink>(err: &mut E, refusal: &Refusal<'_>) -> u8
     ensures line { TookLine (sunk E.taken E.faults E.room err.old err.new) (line_of (refused refusal.now)) }
@@ -182,6 +200,14 @@ pub fn refuse<E: Sink>(err: &mut E, refusal: &Refusal<'_>) -> u8
         Refusal::WideChannel => {
             tell(err, "", "channel passes 2^127 - 1");
             7
+        }
+        Refusal::ManyStores(name, stores) => {
+            tell_stores(err, name, *stores);
+            8
+        }
+        Refusal::FewStatements(name, statements) => {
+            tell_statements(err, name, *statements);
+            13
         }
     }
 }

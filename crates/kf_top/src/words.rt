@@ -1,13 +1,13 @@
-ghost use Rattle.std.specs.Prelude.{◌≡◌, ◌≤◌, ◌<◌, IfOk, IfSome, IsErrOf, None, Some, length, map, option_map, option_and_then, string_bytes};
+ghost use Rattle.std.specs.Prelude.{◌≡◌, ◌≤◌, ◌<◌, [], ◌∷◌, IfOk, IfSome, IsErrOf, None, Some, length, map, option_map, option_and_then, string_bytes};
 ghost use Rattle.std.specs.Char.{is_ascii_digit};
 ghost use Rattle.std.specs.List.{list_all};
 ghost use Rattle.kf_top.specs.GainWords.{gain_said as gain_in_word};
-ghost use Rattle.kf_top.specs.Numerals.{is_numeral as is_numeral_word, number_said as number_in, long_number_said as long_number_in, ratio_said as ratio_in, chance_said as chance_in, wanted_said as wanted_in};
-ghost use Rattle.kf_top.specs.Task.{observations_said as observations_in, task_of, task_said, turns_of};
-ghost use Rattle.kf_top.specs.WordViews.{said_shown, task_shown, values_of};
+ghost use Rattle.kf_top.specs.Numerals.{is_numeral as is_numeral_word, number_said as number_in, digits_said as digits_in, two_said as two_in, ratio_said as ratio_in, chance_said as chance_in, wanted_said as wanted_in, block_said as block_in};
+ghost use Rattle.kf_top.specs.Task.{observations_said as observations_in, on_files, task_of, task_said, turns_of};
+ghost use Rattle.kf_top.specs.WordViews.{on_one, on_two, said_shown, task_shown, values_of};
 ghost use Rattle.kf_top.specs.Views.{gain_of, task_of_job, HasTurns, IsFew};
 
-use crate::commands::{Kind, options_fit, row_of};
+use crate::commands::{Kind, OneFile, TwoFiles, options_fit, row_of};
 use crate::gain_words::{GainWord, gain_said};
 use crate::said::{Said, matches_of, said_of};
 use kf_value::{Mem, Name};
@@ -97,6 +97,25 @@ pub enum Job {
         file: Name,
         num: u32,
         den: u32,
+        turns: u32,
+    },
+    /// Whether the program in `b` leaks no more than the one in `a`, whatever the prior on their initial stores.
+    Covers {
+        a: Name,
+        b: Name,
+        turns: u32,
+    },
+    /// The hyper where the outermost statements from the one at `from` on, counted from 0, up to but not with the one at `to`, which is
+    /// above it, show nothing.
+    Quiet {
+        file: Name,
+        from: u32,
+        to: u32,
+        turns: u32,
+    },
+    /// How much is seen of a program, and how much where each outermost statement in turn shows nothing.
+    Blame {
+        file: Name,
         turns: u32,
     },
 }
@@ -213,24 +232,43 @@ fn observations_said(word: &str) -> Option<u32>
     }
 }
 
-// The number of one to nine digits that the word says.
-fn long_number_said(word: &str) -> Option<u32>
-    ensures { result ≡ long_number_in word.now }
+// The number of one to so many digits that the word says.
+fn digits_said(most: usize, word: &str) -> Option<u32>
+    requires { most ≤ 9 }
+    ensures { result ≡ digits_in most word.now }
 {
-    if !is_numeral(9, word) {
+    if !is_numeral(most, word) {
         return None;
     }
     word.parse::<u32>().ok()
+}
+
+// The two numbers of one to so many digits around a mark that the word says.
+fn two_said(most: usize, mark: &str, word: &str) -> Option<(u32, u32)>
+    requires few { most ≤ 9 }
+    requires some { 0 < length mark.now }
+    ensures { result ≡ two_in most mark.now word.now }
+{
+    let (first, second) = word.split_once(mark)?;
+    let first = digits_said(most, first)?;
+    let second = digits_said(most, second)?;
+    Some((first, second))
 }
 
 // The two numbers around a slash that the word says.
 fn ratio_said(word: &str) -> Option<(u32, u32)>
     ensures { result ≡ ratio_in word.now }
 {
-    let (num, den) = word.split_once('/')?;
-    let num = long_number_said(num)?;
-    let den = long_number_said(den)?;
-    Some((num, den))
+    two_said(9, "/", word)
+}
+
+// The block of statements that the word says: the first of them, counted from 0, and the one behind the last.
+fn block_said(word: &str) -> Option<(u32, u32)>
+    ensures said { result ≡ block_in word.now }
+    ensures some { IfSome result (λ block. block.0 < block.1) }
+{
+    let (from, to) = two_said(5, "..", word)?;
+    if from < to { Some((from, to)) } else { None }
 }
 
 // The probability between 0 and 1 that the word says, as its two numbers.
@@ -266,7 +304,34 @@ fn name_of(alloc: Global, word: &str) -> Result<Name, Mem>
     Ok(Name::new(word.to_string(alloc)?))
 }
 
-// The task of a command on the values behind its word, files' names or a number; none where a value is no such number, or where the
+// The task of a command on one file.
+fn on_one_file(command: OneFile, file: Name, turns: u32) -> Job
+    ensures job { task_of_job result ≡ on_files (on_one command) (file ∷ []) turns }
+    ensures few { IsFew (on_one command) }
+{
+    match command {
+        OneFile::Hyper => Job::Hyper { file, turns },
+        OneFile::Traces => Job::Traces { file, turns },
+        OneFile::Channel => Job::Channel { file, turns },
+        OneFile::Trail => Job::Trail { file, turns },
+        OneFile::Capacity => Job::Capacity { file, turns },
+        OneFile::Blame => Job::Blame { file, turns },
+    }
+}
+
+// The task of a command on two files.
+fn on_two_files(command: TwoFiles, a: Name, b: Name, turns: u32) -> Job
+    ensures job { task_of_job result ≡ on_files (on_two command) (a ∷ b ∷ []) turns }
+    ensures few { IsFew (on_two command) }
+{
+    match command {
+        TwoFiles::Cascade => Job::Cascade { a, b, turns },
+        TwoFiles::Parallel => Job::Parallel { a, b, turns },
+        TwoFiles::Covers => Job::Covers { a, b, turns },
+    }
+}
+
+// The task of a command on the values behind its word, files' names or numbers; none where a value is no such number, or where the
 // command needs a gain and `--gain` names none.
 fn on_values(
     alloc: Global,
@@ -283,22 +348,15 @@ fn on_values(
     ensures few { IfOk result (λ job. IfSome job (λ job. IsFew (task_of_job job).command)) }
 {
     Ok(match command {
-        Kind::Hyper => Some(Job::Hyper {
-            file: name_of(alloc, values[0])?,
-            turns,
-        }),
-        Kind::Traces => Some(Job::Traces {
-            file: name_of(alloc, values[0])?,
-            turns,
-        }),
-        Kind::Channel => Some(Job::Channel {
-            file: name_of(alloc, values[0])?,
-            turns,
-        }),
-        Kind::Trail => Some(Job::Trail {
-            file: name_of(alloc, values[0])?,
-            turns,
-        }),
+        Kind::OneFile(command) => {
+            let file = name_of(alloc, values[0])?;
+            Some(on_one_file(command, file, turns))
+        }
+        Kind::TwoFiles(command) => {
+            let a = name_of(alloc, values[0])?;
+            let b = name_of(alloc, values[1])?;
+            Some(on_two_files(command, a, b, turns))
+        }
         Kind::Leak => {
             let Some(gain) = gain_of_option(alloc, said.gain)? else {
                 return Ok(None);
@@ -325,20 +383,6 @@ fn on_values(
             cert: name_of(alloc, values[0])?,
             a: name_of(alloc, values[1])?,
             b: name_of(alloc, values[2])?,
-            turns,
-        }),
-        Kind::Capacity => Some(Job::Capacity {
-            file: name_of(alloc, values[0])?,
-            turns,
-        }),
-        Kind::Cascade => Some(Job::Cascade {
-            a: name_of(alloc, values[0])?,
-            b: name_of(alloc, values[1])?,
-            turns,
-        }),
-        Kind::Parallel => Some(Job::Parallel {
-            a: name_of(alloc, values[0])?,
-            b: name_of(alloc, values[1])?,
             turns,
         }),
         Kind::Choice => {
@@ -371,6 +415,17 @@ fn on_values(
                 file: name_of(alloc, values[0])?,
                 num,
                 den,
+                turns,
+            })
+        }
+        Kind::Quiet => {
+            let Some((from, to)) = block_said(values[1]) else {
+                return Ok(None);
+            };
+            Some(Job::Quiet {
+                file: name_of(alloc, values[0])?,
+                from,
+                to,
                 turns,
             })
         }

@@ -1,18 +1,21 @@
-ghost use Rattle.std.specs.Prelude.{◌≡◌, ◌≤◌, ◌∷◌, [], ℕ, List};
+ghost use Rattle.std.specs.Prelude.{◌≡◌, ◌≤◌, ◌<◌, ◌∷◌, [], ℕ, List};
 ghost use Rattle.std.specs.Option.{ForSome};
 ghost use Rattle.kf_core.specs.Views.{program_tree};
 ghost use Rattle.kf_support.specs.Cleared.{program_of, turns_of};
 ghost use Rattle.kf_top.specs.Outcome.{CommandOutcome, MadeOutcome, TaskOutcome};
-ghost use Rattle.kf_top.specs.Task.{Attack, Capacity, Check, Compose, Hyper, Leak, Reach, Refine, Traces, Channel, Trail, Task, on_file, on_files};
+ghost use Rattle.kf_top.specs.Task.{Attack, Blame, Capacity, Check, Compose, Covers, Hyper, Leak, Quiet, Reach, Refine, Traces, Channel, Trail, Task, on_file, on_files};
 ghost use Rattle.kf_top.specs.Stops.{Answers, Causes};
 ghost use Rattle.kf_top.specs.Views.{gain_of, task_of_job, HasTurns, IsFew, ShowsStatement};
 ghost use Rattle.kf_top.specs.CapacityViews.{way_of};
 
 use crate::attacking::{attack_said, reach_said};
 use crate::capacities::{Composition, capacity_said, composition_said};
-use crate::clearing::{file, two_files};
+use crate::clearing::{file, long_file, two_files};
+use crate::covering::covers_said;
+use crate::full_files::two_full_files;
 use crate::gain_words::GainWord;
 use crate::leaking::leak_said;
+use crate::quieting::{blame_said, quiet_said};
 use crate::refining::{check_said, refine_said};
 use crate::stops::{Done, Refusal, Stop};
 use crate::words::Job;
@@ -275,6 +278,58 @@ fn compose<'a, F: Files>(
     composition_said(alloc, &pair, way)
 }
 
+// The command `covers`.
+fn covers<'a, F: Files>(
+    alloc: Global,
+    files: &mut F,
+    a: &'a Name,
+    b: &'a Name,
+    turns: u32,
+) -> Result<Done, Stop<'a>>
+    requires some_turns { 1 ≤ turns }
+    requires few_turns { turns ≤ 65535 }
+    ensures answer { ForSome (F.contents files.old) (λ c. Answers ShowsStatement result (TaskOutcome c (on_files Covers (a.now ∷ b.now ∷ []) turns))) }
+    ensures causes { Causes (on_files Covers (a.now ∷ b.now ∷ []) turns) (F.faults files.old) (F.faults files.new) result }
+{
+    let pair = two_full_files(alloc, files, a.as_str(), b.as_str(), turns)?;
+    covers_said(alloc, &pair)
+}
+
+// The command `quiet`.
+fn quiet<'a, F: Files>(
+    alloc: Global,
+    files: &mut F,
+    name: &'a Name,
+    from: u32,
+    to: u32,
+    turns: u32,
+) -> Result<Done, Stop<'a>>
+    requires some { from < to }
+    requires some_turns { 1 ≤ turns }
+    requires few_turns { turns ≤ 65535 }
+    ensures answer { ForSome (F.contents files.old) (λ c. Answers ShowsStatement result (TaskOutcome c (on_file (Quiet from to) name.now turns))) }
+    ensures causes { Causes (on_file (Quiet from to) name.now turns) (F.faults files.old) (F.faults files.new) result }
+{
+    let cleared = long_file(alloc, files, name.as_str(), to, turns)?;
+    quiet_said(alloc, cleared, from, to)
+}
+
+// The command `blame`.
+fn blame<'a, F: Files>(
+    alloc: Global,
+    files: &mut F,
+    name: &'a Name,
+    turns: u32,
+) -> Result<Done, Stop<'a>>
+    requires some_turns { 1 ≤ turns }
+    requires few_turns { turns ≤ 65535 }
+    ensures answer { ForSome (F.contents files.old) (λ c. Answers ShowsStatement result (TaskOutcome c (on_file Blame name.now turns))) }
+    ensures causes { Causes (on_file Blame name.now turns) (F.faults files.old) (F.faults files.new) result }
+{
+    let cleared = file(alloc, files, name.as_str(), turns)?;
+    blame_said(alloc, cleared)
+}
+
 /// Does the job: what is to be written, or why there is no answer.
 pub fn work<'a, F: Files>(alloc: Global, files: &mut F, job: &'a Job) -> Result<Done, Stop<'a>>
     requires turns { HasTurns (task_of_job job.now) }
@@ -301,6 +356,14 @@ pub fn work<'a, F: Files>(alloc: Global, files: &mut F, job: &'a Job) -> Result<
         Job::Capacity { file, turns } => capacity(alloc, files, file, *turns),
         Job::Cascade { a, b, turns } => compose(alloc, files, a, b, Composition::Cascade, *turns),
         Job::Parallel { a, b, turns } => compose(alloc, files, a, b, Composition::Parallel, *turns),
+        Job::Covers { a, b, turns } => covers(alloc, files, a, b, *turns),
+        Job::Quiet {
+            file,
+            from,
+            to,
+            turns,
+        } => quiet(alloc, files, file, *from, *to, *turns),
+        Job::Blame { file, turns } => blame(alloc, files, file, *turns),
         Job::Choice {
             a,
             b,

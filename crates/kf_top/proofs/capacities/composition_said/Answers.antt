@@ -1,4 +1,4 @@
-use Rattle.std.proofs.Common.{inl, inr}
+use Rattle.std.proofs.Common.{inr}
 use Rattle.std.proofs.lemmas.Result.{err_from_is_err_and}
 use Rattle.kf_capacity.specs.Views.{channel_tree, grid_tree}
 use Rattle.kf_core.specs.Views.{program_tree}

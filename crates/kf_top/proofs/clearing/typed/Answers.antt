@@ -1,7 +1,10 @@
+use Rattle.std.proofs.Common.{ℕ, List, subst}
 use Rattle.std.proofs.lemmas.Result.{err_from_is_err_and}
+use Rattle.kf_lex.specs.Readings.{IsTokens}
+use Rattle.kf_parse.specs.Answers.{IsParsed}
 use Rattle.kf_ast.specs.Views.{source_tree}
-use Rattle.kf_top.specs.Outcome.{After, TokensOf, SourceOf, ProgramOf, TypedOf}
-use Rattle.kf_top.specs.Stops.{is_program}
+use Rattle.kf_top.specs.Outcome.{After, TokensOf, SourceOf, TextWith, TypedOf}
+use Rattle.kf_top.specs.Stops.{is_text}
 use Rattle.kf_top.proofs.Steps.{next_answers}
 use Rattle.kf_top.proofs.clearing.typed.Goals as goal
 
@@ -9,9 +12,11 @@ pub returns-clause-answer : goal.returns-clause-answer
 unfolding TypedOf
 returns-clause-answer c =
     let name = c.args.name.now in
-    let bytes = c.args.bytes.now in
-    next_answers is_program (TokensOf name bytes) (λ tokens. After (SourceOf name bytes tokens) (λ tree. ProgramOf name bytes tree)) c.program.result c.in_ok-tokens.tokens c.in_ok-tokens.ensures.tokens
-    (next_answers is_program (SourceOf name bytes c.in_ok-tokens.tokens) (λ tree. ProgramOf name bytes tree) c.program.result (source_tree c.in_ok-source.source) c.in_ok-source.ensures.parsed c.program.ensures.answer)
+    let bytes = c.args.bytes.items in
+    let tokens = subst (λ (bs : List ℕ). IsTokens bs c.in_ok-tokens.tokens) c.deref.ensures.value c.in_ok-tokens.ensures.tokens in
+    let parsed = subst (λ (bs : List ℕ). IsParsed bs c.in_ok-tokens.tokens (source_tree c.in_ok-source.source)) c.deref-2.ensures.value c.in_ok-source.ensures.parsed in
+    next_answers (is_text name) (TokensOf name bytes) (λ tokens. After (SourceOf name bytes tokens) (TextWith name bytes)) c.with_source.result c.in_ok-tokens.tokens tokens
+    (next_answers (is_text name) (SourceOf name bytes c.in_ok-tokens.tokens) (TextWith name bytes) c.with_source.result (source_tree c.in_ok-source.source) parsed c.with_source.ensures.answer)
 
 pub returns-in_err-tokens-clause-causes : goal.returns-in_err-tokens-clause-causes
 returns-in_err-tokens-clause-causes c task before named =

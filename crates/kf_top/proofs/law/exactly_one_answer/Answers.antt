@@ -20,10 +20,11 @@ returns c words contents =
     let mark = c.mark_laws.ensures in
     let attack = c.attack_laws.ensures in
     let reach = c.reach_laws.ensures in
-    let clear : AreClear = are_clear program.built typed.checked typed.sizes in
+    let blame = c.blame_laws.ensures in
+    let clear : AreClear = are_clear c.full_laws.ensures.built typed.checked typed.sizes program.built in
     let proper : AreProper = are_proper joint.whole run.positive run.least in
     let one = one_answer read program.one refused.both refused.refusal typed.one typed.typed table.one joint.one_rows joint.one_hyper average.one verdict.one mark.one clear proper
-    gain.one trail.only attack.one reach.one words contents (stated_text table.actions c.verdict_laws.ensures.prove proper contents clear words) in
-    let some = some_answer read.read refused.either program.built typed.either typed.told table.some joint.rows c.some_secrets.ensures joint.hyper average.some verdict.some c.cert_laws.ensures.read_sound mark.some clear proper
-    table.actions c.verdict_laws.ensures.prove gain.some trail.some attack.some reach.some words contents in
+    gain.one trail.only attack.one reach.one blame.only words contents (stated_text table.actions c.verdict_laws.ensures.prove proper contents clear words) in
+    let some = some_answer read.read refused.either program.built typed.either typed.told c.full_laws.ensures.built table.some joint.rows c.some_secrets.ensures joint.hyper average.some verdict.some c.cert_laws.ensures.read_sound mark.some clear proper
+    table.actions c.verdict_laws.ensures.prove gain.some trail.some attack.some reach.some blame.some words contents in
     (some.0, some.1, λ other is. one other some.0 is some.1)

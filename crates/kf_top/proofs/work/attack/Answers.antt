@@ -12,7 +12,7 @@ pub returns-in_err-program-clause-answer : goal.returns-in_err-program-clause-an
 returns-in_err-program-clause-answer g c x e =
     let p = err_from_is_err_and c.from_residual.result c.from_residual.ensures.1 in
     let command : Command = Attack (gain_of c.args.gain.now) in
-    rw (p.1, p.2) (task_stops x command c.args.turns c.args.name.now c.as_str.result.now c.as_str.ensures c.in_err-program.field-0.0 (c.in_err-program.ensures.answer command x e))
+    rw (p.1, p.2) (task_stops x command c.args.turns c.args.name.now c.as_str.result.now c.as_str.ensures c.in_err-program.field-0.0 (c.in_err-program.ensures.answer command (λ n ts r h. h) x e))
 
 pub returns-in_err-program-clause-causes : goal.returns-in_err-program-clause-causes
 returns-in_err-program-clause-causes g c =
@@ -25,7 +25,7 @@ returns-clause-answer g c x e =
     let cleared = c.in_ok-program.program in
     let command : Command = Attack (gain_of c.args.gain.now) in
     task_answers x command c.args.turns c.args.name.now c.as_str.result.now c.as_str.ensures (program_tree (program_of cleared)) (turns_of cleared) c.in_ok-program.ensures.turns
-    c.attack_said.result (c.in_ok-program.ensures.answer command x e) (c.attack_said.ensures.answer x (c.in_ok-program.ensures.unchanged ∙ e))
+    c.attack_said.result (c.in_ok-program.ensures.answer command (λ n ts r h. h) x e) (c.attack_said.ensures.answer x (c.in_ok-program.ensures.unchanged ∙ e))
 
 pub returns-clause-causes : goal.returns-clause-causes
 returns-clause-causes g c =

@@ -10,7 +10,7 @@ use Rattle.kf_top.proofs.work.capacity.Goals as goal
 pub returns-in_err-cleared-clause-answer : goal.returns-in_err-cleared-clause-answer
 returns-in_err-cleared-clause-answer g c x e =
     let p = err_from_is_err_and c.from_residual.result c.from_residual.ensures.1 in
-    rw (p.1, p.2) (task_stops x Capacity c.args.turns c.args.name.now c.as_str.result.now c.as_str.ensures c.in_err-cleared.field-0.0 (c.in_err-cleared.ensures.answer Capacity x e))
+    rw (p.1, p.2) (task_stops x Capacity c.args.turns c.args.name.now c.as_str.result.now c.as_str.ensures c.in_err-cleared.field-0.0 (c.in_err-cleared.ensures.answer Capacity (λ n ts r h. h) x e))
 
 pub returns-in_err-cleared-clause-causes : goal.returns-in_err-cleared-clause-causes
 returns-in_err-cleared-clause-causes g c =
@@ -22,7 +22,7 @@ pub returns-clause-answer : goal.returns-clause-answer
 returns-clause-answer g c x e =
     let cleared = c.in_ok-cleared.cleared in
     task_answers x Capacity c.args.turns c.args.name.now c.as_str.result.now c.as_str.ensures (program_tree (program_of cleared)) (turns_of cleared) c.in_ok-cleared.ensures.turns
-    c.capacity_said.result (c.in_ok-cleared.ensures.answer Capacity x e) (c.capacity_said.ensures.answer x)
+    c.capacity_said.result (c.in_ok-cleared.ensures.answer Capacity (λ n ts r h. h) x e) (c.capacity_said.ensures.answer x)
 
 pub returns-clause-causes : goal.returns-clause-causes
 returns-clause-causes g c =

@@ -14,7 +14,7 @@ returns-in_err-pair-clause-answer g c x e =
     let p = err_from_is_err_and c.from_residual.result c.from_residual.ensures.1 in
     let command : Command = Check c.args.cert.now in
     rw (p.1, p.2) (pair_stops x command c.args.turns c.args.a.now c.args.b.now c.as_str.result.now c.as_str-2.result.now c.as_str.ensures c.as_str-2.ensures
-    c.in_err-pair.field-0.0 (c.in_err-pair.ensures.answer command x e))
+    c.in_err-pair.field-0.0 (c.in_err-pair.ensures.answer command (λ n ts r h. h) x e))
 
 pub returns-in_err-pair-clause-causes : goal.returns-in_err-pair-clause-causes
 returns-in_err-pair-clause-causes g c =
@@ -30,7 +30,7 @@ returns-clause-answer g c x e =
     let command : Command = Check c.args.cert.now in
     pair_answers x command c.args.turns c.args.a.now c.args.b.now c.as_str.result.now c.as_str-2.result.now c.as_str.ensures c.as_str-2.ensures
     (program_tree (program_of pair.first)) (program_tree (program_of pair.second)) (turns_of pair.first) c.in_ok-pair.ensures.first_turns
-    c.check_said.result (c.in_ok-pair.ensures.answer command x e) (subst (λ (name : List ℕ). Answers ShowsStatement c.check_said.result (CheckOutcome x name (turns_of pair.first) (program_tree (program_of pair.first)) (program_tree (program_of pair.second))))
+    c.check_said.result (c.in_ok-pair.ensures.answer command (λ n ts r h. h) x e) (subst (λ (name : List ℕ). Answers ShowsStatement c.check_said.result (CheckOutcome x name (turns_of pair.first) (program_tree (program_of pair.first)) (program_tree (program_of pair.second))))
     c.as_str-3.ensures (c.check_said.ensures.answer x (c.in_ok-pair.ensures.unchanged ∙ e)))
 
 pub returns-clause-causes : goal.returns-clause-causes

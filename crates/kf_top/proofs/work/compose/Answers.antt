@@ -13,7 +13,7 @@ returns-in_err-pair-clause-answer g c x e =
     let p = err_from_is_err_and c.from_residual.result c.from_residual.ensures.1 in
     let command : Command = Compose (way_of c.args.way) in
     rw (p.1, p.2) (pair_stops x command c.args.turns c.args.a.now c.args.b.now c.as_str.result.now c.as_str-2.result.now c.as_str.ensures c.as_str-2.ensures
-    c.in_err-pair.field-0.0 (c.in_err-pair.ensures.answer command x e))
+    c.in_err-pair.field-0.0 (c.in_err-pair.ensures.answer command (λ n ts r h. h) x e))
 
 pub returns-in_err-pair-clause-causes : goal.returns-in_err-pair-clause-causes
 returns-in_err-pair-clause-causes g c =
@@ -29,7 +29,7 @@ returns-clause-answer g c x e =
     let command : Command = Compose (way_of c.args.way) in
     pair_answers x command c.args.turns c.args.a.now c.args.b.now c.as_str.result.now c.as_str-2.result.now c.as_str.ensures c.as_str-2.ensures
     (program_tree (program_of pair.first)) (program_tree (program_of pair.second)) (turns_of pair.first) c.in_ok-pair.ensures.first_turns
-    c.composition_said.result (c.in_ok-pair.ensures.answer command x e) (c.composition_said.ensures.answer x)
+    c.composition_said.result (c.in_ok-pair.ensures.answer command (λ n ts r h. h) x e) (c.composition_said.ensures.answer x)
 
 pub returns-clause-causes : goal.returns-clause-causes
 returns-clause-causes g c =

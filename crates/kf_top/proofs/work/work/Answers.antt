@@ -88,3 +88,21 @@ returns-in-Reach-clause-answer g c x e = rw c.in-Reach.is (c.reach.ensures.answe
 
 pub returns-in-Reach-clause-causes : goal.returns-in-Reach-clause-causes
 returns-in-Reach-clause-causes g c = rw c.in-Reach.is c.reach.ensures.causes
+
+pub returns-in-Covers-clause-answer : goal.returns-in-Covers-clause-answer
+returns-in-Covers-clause-answer g c x e = rw c.in-Covers.is (c.covers.ensures.answer x e)
+
+pub returns-in-Covers-clause-causes : goal.returns-in-Covers-clause-causes
+returns-in-Covers-clause-causes g c = rw c.in-Covers.is c.covers.ensures.causes
+
+pub returns-in-Quiet-clause-answer : goal.returns-in-Quiet-clause-answer
+returns-in-Quiet-clause-answer g c x e = rw c.in-Quiet.is (c.quiet.ensures.answer x e)
+
+pub returns-in-Quiet-clause-causes : goal.returns-in-Quiet-clause-causes
+returns-in-Quiet-clause-causes g c = rw c.in-Quiet.is c.quiet.ensures.causes
+
+pub returns-in-Blame-clause-answer : goal.returns-in-Blame-clause-answer
+returns-in-Blame-clause-answer g c x e = rw c.in-Blame.is (c.blame.ensures.answer x e)
+
+pub returns-in-Blame-clause-causes : goal.returns-in-Blame-clause-causes
+returns-in-Blame-clause-causes g c = rw c.in-Blame.is c.blame.ensures.causes

@@ -1,0 +1,48 @@
+use Rattle.std.proofs.Common.{List, [], ◌∷◌, refl}
+use Rattle.std.proofs.lemmas.Result.{err_from_is_err_and}
+use Rattle.kf_ast.specs.declared.decl.Source.{Source}
+use Rattle.kf_top.specs.Outcome.{Gives, Text, few_stores}
+use Rattle.kf_top.specs.Stops.{stands_for}
+use Rattle.kf_top.specs.Views.{text_of}
+use Rattle.kf_top.specs.declared.full_files.Sources.{Sources}
+use Rattle.kf_top.proofs.Steps.{both_of_two, first_of_two, is_this, second_of_two}
+use Rattle.kf_top.proofs.full_files.two_full_sources.Goals as goal
+
+pub returns-in_err-first_source-clause-answer : goal.returns-in_err-first_source-clause-answer
+returns-in_err-first_source-clause-answer c =
+    let e = err_from_is_err_and c.from_residual.result c.from_residual.ensures.1 in
+    let t = text_of c.args.first.now c.args.texts.now.first in
+    let u = text_of c.args.second.now c.args.texts.now.second in
+    let both : Sources → List Text → Type 0 = stands_for (t ∷ u ∷ []) in
+    let one : Source → Text → Type 0 = stands_for t in
+    rw (e.1, e.2) (first_of_two (λ v. Gives (few_stores v)) t u both one c.in_err-first_source.field-0.0 c.in_err-first_source.ensures.answer)
+
+pub returns-in_err-second_source-clause-answer : goal.returns-in_err-second_source-clause-answer
+returns-in_err-second_source-clause-answer c =
+    let e = err_from_is_err_and c.from_residual-in_err-second_source.result c.from_residual-in_err-second_source.ensures.1 in
+    let t = text_of c.args.first.now c.args.texts.now.first in
+    let u = text_of c.args.second.now c.args.texts.now.second in
+    let both : Sources → List Text → Type 0 = stands_for (t ∷ u ∷ []) in
+    let one : Source → Text → Type 0 = stands_for u in
+    rw (e.1, e.2) (second_of_two (λ v. Gives (few_stores v)) t u both one c.in_err-second_source.field-0.0 t
+    (is_this (Gives (few_stores t)) t c.in_ok-first_source.ensures.answer) c.in_err-second_source.ensures.answer)
+
+pub returns-clause-answer : goal.returns-clause-answer
+returns-clause-answer c =
+    let t = text_of c.args.first.now c.args.texts.now.first in
+    let u = text_of c.args.second.now c.args.texts.now.second in (
+      t ∷ u ∷ [],
+      refl,
+      both_of_two (λ v. Gives (few_stores v)) t u t u (is_this (Gives (few_stores t)) t c.in_ok-first_source.ensures.answer)
+          (is_this (Gives (few_stores u)) u c.in_ok-second_source.ensures.answer),
+    )
+
+pub returns-in_err-first_source-clause-causes : goal.returns-in_err-first_source-clause-causes
+returns-in_err-first_source-clause-causes c task before is named named_too =
+    let e = err_from_is_err_and c.from_residual.result c.from_residual.ensures.1 in
+    rw (e.1, e.2) (c.in_err-first_source.ensures.causes task before is named)
+
+pub returns-in_err-second_source-clause-causes : goal.returns-in_err-second_source-clause-causes
+returns-in_err-second_source-clause-causes c task before is named named_too =
+    let e = err_from_is_err_and c.from_residual-in_err-second_source.result c.from_residual-in_err-second_source.ensures.1 in
+    rw (e.1, e.2) (c.in_err-second_source.ensures.causes task before is named_too)

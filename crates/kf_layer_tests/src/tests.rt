@@ -4,14 +4,17 @@ ghost use Rattle.kf_core.specs.Views.{program_tree};
 ghost use Rattle.kf_core.specs.Checked.{IsChecked};
 
 mod choices;
+mod full_sources;
 mod lexing;
 mod making;
+mod memos;
 mod operator_values;
 mod operators;
 mod parsing;
 mod plain;
 mod plain_hypers;
 mod plain_traces;
+mod quieting;
 mod values;
 
 use kf_check::check;

@@ -166,7 +166,7 @@ fn merged(alloc: Global, scale: u128, columns: Vec<Column>) -> Result<String, Me
     requires { IsJoint (record { scale = scale; columns = columns.items }) }
 {
     let columns = Columns::new(scale, ColumnList::new(columns));
-    matrix(alloc, &merge(alloc, &columns)?)
+    matrix(alloc, &merge(alloc, columns)?)
 }
 
 #[test]

@@ -6,9 +6,11 @@ ghost use Rattle.kf_value.specs.Views.{items_of};
 ghost use Rattle.kf_hyper.specs.Columns.{IsColumn};
 ghost use Rattle.kf_hyper.specs.Shapes.{IsBelow};
 ghost use Rattle.kf_hyper.specs.Joint.{mass};
+ghost use Rattle.kf_hyper.specs.Views.{target_of};
 
 use kf_gain::{Action, GainTable};
 use kf_hyper::{Column, ColumnList, Columns, Entry, EntryList, Hyper, abstract_columns};
+use kf_prior::covers;
 use kf_refine::{Matrix, RefineError, Verdict, refine};
 use kf_simplex::FracList;
 use kf_value::{Mem, Name, Target, TargetItem, TargetItemList, Ty};
@@ -49,13 +51,16 @@ fn hyper(alloc: Global, name: &str, scale: u128, columns: Vec<Column>) -> Result
     requires narrow { scale ≤ limit }
     requires whole { mass columns.items ≡ scale }
     requires within { All (IsBelow 100) columns.items }
+    ensures { IfOk result (λ h. target_size (target_of h) ≡ 100) }
 {
     let columns = Columns::new(scale, ColumnList::new(columns));
     abstract_columns(alloc, target(alloc, name)?, columns)
 }
 
 // Four values, each told.
-fn told(alloc: Global, name: &str) -> Result<Hyper, Mem> {
+fn told(alloc: Global, name: &str) -> Result<Hyper, Mem>
+    ensures { IfOk result (λ h. target_size (target_of h) ≡ 100) }
+{
     let columns = vec![in alloc;
         column(alloc, &[0])?,
         column(alloc, &[1])?,
@@ -66,7 +71,9 @@ fn told(alloc: Global, name: &str) -> Result<Hyper, Mem> {
 }
 
 // Their parity.
-fn parity(alloc: Global) -> Result<Hyper, Mem> {
+fn parity(alloc: Global) -> Result<Hyper, Mem>
+    ensures { IfOk result (λ h. target_size (target_of h) ≡ 100) }
+{
     let columns = vec![in alloc; column(alloc, &[0, 2])?, column(alloc, &[1, 3])?]?;
     hyper(alloc, "x", 4, columns)
 }
@@ -165,6 +172,26 @@ fn separates_two_questions(rt: HostRuntime) -> Result<(), Fail> {
         text.as_str(),
         "over 1 rest 2 b0: 0=3 1=0 2=3 b1: 0=3 1=3 2=0"
     );
+    Ok(())
+}
+
+// The values as pairs of ten stores each.
+fn cover_text(alloc: Global, a: &Hyper, b: &Hyper) -> Result<String, Fail>
+    requires first { target_size (target_of a.now) ≡ 100 }
+    requires second { target_size (target_of b.now) ≡ 100 }
+{
+    match covers(alloc, a, b, 10, 1000) {
+        Ok(Verdict::Yes(matrix)) => matrix_text(alloc, &matrix),
+        Ok(Verdict::No(_)) => Ok("no".to_string(alloc)?),
+        Err(_) => Err("no verdict".into()),
+    }
+}
+
+#[test]
+fn covers_what_is_told_less(rt: HostRuntime) -> Result<(), Fail> {
+    let alloc = rt.alloc();
+    let text = cover_text(alloc, &told(alloc, "x")?, &parity(alloc)?)?;
+    assert_eq!(rt; text.as_str(), " 1 0 / 0 1 / 1 0 / 0 1 /");
     Ok(())
 }
 

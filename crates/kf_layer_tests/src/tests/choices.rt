@@ -18,7 +18,7 @@ fn choices_of(alloc: Global, dist: &str) -> Result<Result<Choice, ChoiceError>, 
 }
 
 // Each value and its weight, then the sum of the weights.
-fn print_choice(alloc: Global, choice: &Choice) -> Result<Vec<u8>, Fail> {
+pub(super) fn print_choice(alloc: Global, choice: &Choice) -> Result<Vec<u8>, Fail> {
     let mut text = Vec::new(alloc);
     let mut digits = Buffer::new();
     for item in choice.items.as_slice() {

@@ -68,6 +68,9 @@ fn parts(job: &Job) -> (&'static str, &str, u32) {
             turns,
         } => (reached(*num, *den), file.as_str(), *turns),
         Job::Capacity { file, turns } => ("capacity", file.as_str(), *turns),
+        Job::Covers { a, turns, .. } => ("covers", a.as_str(), *turns),
+        Job::Quiet { file, turns, .. } => ("quiet", file.as_str(), *turns),
+        Job::Blame { file, turns } => ("blame", file.as_str(), *turns),
         Job::Cascade { a, turns, .. } => ("cascade", a.as_str(), *turns),
         Job::Parallel { a, turns, .. } => ("parallel", a.as_str(), *turns),
         Job::Choice {
@@ -90,6 +93,7 @@ fn files_of(job: &Job) -> (&'static str, &str, &str, &str) {
         Job::Check { cert, a, b, .. } => ("check", cert.as_str(), a.as_str(), b.as_str()),
         Job::Cascade { a, b, .. } => ("cascade", "", a.as_str(), b.as_str()),
         Job::Parallel { a, b, .. } => ("parallel", "", a.as_str(), b.as_str()),
+        Job::Covers { a, b, .. } => ("covers", "", a.as_str(), b.as_str()),
         Job::Choice { a, b, num, den, .. } => {
             (chosen_by(*num, *den), "", a.as_str(), b.as_str())
         }

@@ -1,0 +1,43 @@
+# Completions of kuifje for fish: commands, options, gains and files. .ci/words compares the words with the code.
+set -l commands \
+    'hyper:each belief that a run may leave, and how likely it is' \
+    'traces:what can be shown, with the probability of each value beside it' \
+    'channel:how likely each trace is for each value of the target' \
+    'trail:how many beliefs there are behind each statement' \
+    'leak:how much better an adversary does for what it sees' \
+    'attack:what an adversary does best at each belief' \
+    'reach:with how many tries the target is guessed' \
+    'blame:what is left where each statement in turn shows nothing' \
+    'quiet:the hyper where some statements show nothing' \
+    'capacity:by how much a look helps at most, however the secret is drawn' \
+    'cascade:the capacity of B behind A' \
+    'parallel:the capacity of A and B side by side' \
+    'choice:the capacity of A with a probability, and else B' \
+    'refine:whether B leaks no more than A, as declared' \
+    'covers:whether B leaks no more than A, for every prior' \
+    'check:whether a certificate proves what it says' \
+    'make:a summary of a large program that kuifje makes itself'
+set -l with_gain leak attack
+set -l with_json refine
+set -l gains bayes tries: guessing table:
+
+# Folders, and the files whose names end in . and the first argument, each behind the second one.
+function __kuifje_files
+    set -l word (commandline -ct | string replace -r '^(--gain=)?table:' '')
+    for file in $word*.$argv[1] $word*/
+        printf '%s%s\n' "$argv[2]" $file
+    end
+end
+
+set -l words (string replace -r ':.*' '' $commands)
+complete -c kuifje -f
+for command in $commands
+    set -l parts (string split -m 1 : $command)
+    complete -c kuifje -n "not __fish_seen_subcommand_from $words" -a $parts[1] -d $parts[2]
+end
+complete -c kuifje -l turns -x -d 'how many turns a loop may have, 1 to 65535'
+complete -c kuifje -n "__fish_seen_subcommand_from $with_gain" -l gain -x -a "$gains (__kuifje_files json table:)" \
+    -d 'what the adversary does and gains'
+complete -c kuifje -n "__fish_seen_subcommand_from $with_json" -l json -d 'print the verdict as a certificate'
+complete -c kuifje -n '__fish_seen_subcommand_from check' -a '(__kuifje_files json)'
+complete -c kuifje -n "__fish_seen_subcommand_from $words; and not __fish_seen_subcommand_from make" -a '(__kuifje_files kf)'

@@ -73,7 +73,7 @@ def changed(text, chance):
 
 def words_for(number):
     """The commands in turn, each on the one file."""
-    return (
+    commands = (
         ["hyper", "p.kf"],
         ["traces", "p.kf", "--turns", "5"],
         ["channel", "p.kf", "--turns", "5"],
@@ -82,7 +82,17 @@ def words_for(number):
         ["leak", "p.kf", "--gain", "table:p.kf"],
         ["refine", "p.kf", "p.kf", "--turns", "20"],
         ["check", "p.kf", "p.kf", "p.kf"],
-    )[number % 8]
+        ["capacity", "p.kf", "--turns", "5"],
+        ["cascade", "p.kf", "p.kf", "--turns", "5"],
+        ["parallel", "p.kf", "p.kf", "--turns", "5"],
+        ["choice", "p.kf", "p.kf", "1/3", "--turns", "5"],
+        ["attack", "p.kf", "--gain", "guessing"],
+        ["reach", "p.kf", "1/2"],
+        ["covers", "p.kf", "p.kf", "--turns", "20"],
+        ["quiet", "p.kf", "0..1"],
+        ["blame", "p.kf"],
+    )
+    return commands[number % len(commands)]
 
 
 def cuts(text):

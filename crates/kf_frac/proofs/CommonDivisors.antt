@@ -2,7 +2,7 @@
 use Rattle.std.proofs.Common.{◌≡◌, ◌≢◌, ℕ, zero, suc, ◌+◌, ◌*◌, ◌/◌, ◌%◌, ◌<◌, ◌≤◌, max, refl, sym, ◌∙◌, ap, subst, arith, cond, true, false, Bool}
 use Rattle.std.proofs.Math.Nat.{mod-lt, le-max_left, mul-dvd-mul_left, dvd_of_mul-dvd-mul_left, mul-div_cancel', dvd-mul_right, one-dvd, dvd-mul_left}
 use Rattle.std.proofs.lemmas.Bool.Decides.{nat_tests}
-use Rattle.std.proofs.lemmas.Nat.Gcd.{dvd_trans, dvd-zero, dvd_antisymm, le_of_dvd, dvd_of_mod-eq-zero, mod-eq-zero_of_dvd, IsGcd-from_zero, IsGcd-from_mod, IsGcd-swap, le_from_IsGcd}
+use Rattle.std.proofs.lemmas.Nat.Gcd.{dvd_refl, dvd_trans, dvd-zero, dvd_antisymm, le_of_dvd, dvd_of_mod-eq-zero, mod-eq-zero_of_dvd, IsGcd-from_zero, IsGcd-from_mod, IsGcd-swap, le_from_IsGcd}
 use Rattle.std.specs.Int.{IsGcd, ◌∣◌}
 use Rattle.kf_frac.specs.Divisors.{divides_both, greatest_divisor, gcd_of}
 
@@ -67,6 +67,10 @@ gcd_is a b = let r : (g : ℕ) × IsGcd a b g = some_gcd b a b (omega arith) in 
 
 pub gcd_is_the : (a b g : ℕ) → IsGcd a b g → g ≡ gcd_of a b
 gcd_is_the a b g h = sym (the_gcd a b g h)
+
+-- that of a number and itself
+pub gcd_of_equals : (a b : ℕ) → a ≡ b → a ≡ gcd_of a b
+gcd_of_equals a b e = gcd_is_the a b a (dvd_refl a, subst (λ (n : ℕ). a ∣ n) e (dvd_refl a), λ d l m. l)
 
 pub gcd_positive : (a b : ℕ) → 0 < b → 0 < gcd_of a b
 gcd_positive a b p = positive a b (gcd_of a b) (omega arith) (gcd_is a b)

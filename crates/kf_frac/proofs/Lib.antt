@@ -5,3 +5,4 @@ pub mod Multiples
 pub mod Products
 pub mod Ring
 pub mod Scaling
+pub mod Twos

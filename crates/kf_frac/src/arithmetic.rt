@@ -8,7 +8,7 @@ ghost use Rattle.kf_frac.specs.Views.{num_of, den_of, value_of};
 
 use crate::making::{lowest_terms, sign_and_size};
 use crate::product::Product;
-use crate::{Frac, Wide, gcd, lcm};
+use crate::{Frac, Wide, gcd, lcm, quotient};
 use std::cmp::Ordering;
 
 /// The exact sum, or `Wide` where it can't be written over the least common multiple of the
@@ -19,8 +19,8 @@ pub fn add(a: Frac, b: Frac) -> Result<Frac, Wide>
     ensures fits { let m = lcm_of (den_of a) (den_of b) in IsOk result ↔ PartsFit (sum_over m a b) m }
 {
     let den = lcm(a.den, b.den).ok_or(Wide)?;
-    let (a_negative, a_size) = times(a, den / a.den);
-    let (b_negative, b_size) = times(b, den / b.den);
+    let (a_negative, a_size) = times(a, quotient(den, a.den));
+    let (b_negative, b_size) = times(b, quotient(den, b.den));
     let (negative, size) = sum(a_negative, a_size, b_negative, b_size).ok_or(Wide)?;
     lowest_terms(negative, size, den)
 }

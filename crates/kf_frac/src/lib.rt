@@ -9,7 +9,7 @@ mod product;
 mod shares;
 
 pub use arithmetic::{add, cmp, mul};
-pub use divisors::{gcd, lcm};
+pub use divisors::{gcd, lcm, quotient};
 pub use frac::Frac;
 pub use making::{Wide, make};
 pub use product::Product;

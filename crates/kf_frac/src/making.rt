@@ -3,7 +3,7 @@ ghost use Rattle.kf_frac.specs.Fractions.{reduced_num, reduced_den, limit};
 ghost use Rattle.kf_frac.specs.Parts.{PartsFit, signed};
 ghost use Rattle.kf_frac.specs.Views.{num_of, den_of};
 
-use crate::{Frac, LIMIT, gcd};
+use crate::{Frac, LIMIT, gcd, quotient};
 
 /// A part of the answer passes 2^127 - 1.
 #[derive(Clone, Copy, Debug, PartialEq, Eq)]
@@ -28,8 +28,8 @@ pub(crate) fn lowest_terms(negative: bool, size: u128, den: u128) -> Result<Frac
     ensures fits { IsOk result ↔ PartsFit (reduced_num (signed negative size) den) (reduced_den (signed negative size) den) }
 {
     let divisor = gcd(size, den);
-    let size = size / divisor;
-    let den = den / divisor;
+    let size = quotient(size, divisor);
+    let den = quotient(den, divisor);
     if size > LIMIT || den > LIMIT {
         return Err(Wide);
     }

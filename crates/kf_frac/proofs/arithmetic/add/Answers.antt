@@ -19,6 +19,10 @@ nothing (Some x) e p = absurd (cc)
 something : (o : Option (Bool × ℕ)) (x : Bool × ℕ) → o ≡ Some x → IsSome o
 something o x e = rw e refl
 
+-- the numerator times the factor that the code has
+times_factor : (f : Frac) {n m : ℕ} → n ≡ m → num_of f *ℤ pos n ≡ f.num *ℤ pos m
+times_factor f e = ap (λ (k : ℕ). f.num *ℤ pos k) e
+
 -- the two products add up to the sum over the least common multiple
 joined : (a b : Frac) (m : ℕ) (x y : ℤ) → x ≡ a.num *ℤ pos (m / a.den) → y ≡ b.num *ℤ pos (m / b.den) → x +ℤ y ≡ sum_over m a b
 joined a b m x y p q = ap (λ (z : ℤ). z +ℤ y) p ∙ ap (λ (z : ℤ). a.num *ℤ pos (m / a.den) +ℤ z) q
@@ -30,7 +34,7 @@ within x y z p q h = subst (λ (w : ℤ). unsigned_abs w ≤ limit) (sym (p ∙ 
 made : (c : goal.After-lowest_terms) → signed c.in_ok-negative.negative c.in_ok-negative.size ≡ sum_over c.in_ok-den.den c.args.a c.args.b
 made c =
     let is = rw c.in_ok-negative.ensures.ok_part at c.sum.ensures.exact in
-    is ∙ joined c.args.a c.args.b c.in_ok-den.den _ _ c.times-a_negative.ensures.value c.times-b_negative.ensures.value
+    is ∙ joined c.args.a c.args.b c.in_ok-den.den _ _ (c.times-a_negative.ensures.value ∙ times_factor c.args.a c.quotient.ensures) (c.times-b_negative.ensures.value ∙ times_factor c.args.b c.quotient-2.ensures)
 
 pub returns-in_err-negative-clause-fits : goal.returns-in_err-negative-clause-fits
 returns-in_err-negative-clause-fits c =
@@ -38,7 +42,7 @@ returns-in_err-negative-clause-fits c =
       λ e. absurd (not_both c.from_residual-in_err-negative.result c.from_residual-in_err-negative.ensures.0 e),
       λ h. absurd (nothing c.sum.result c.in_err-negative.ensures.ok_part
           (c.sum.ensures.fits.1
-          (within _ _ _ (joined c.args.a c.args.b c.in_ok-den.den _ _ c.times-a_negative.ensures.value c.times-b_negative.ensures.value)
+          (within _ _ _ (joined c.args.a c.args.b c.in_ok-den.den _ _ (c.times-a_negative.ensures.value ∙ times_factor c.args.a c.quotient.ensures) (c.times-b_negative.ensures.value ∙ times_factor c.args.b c.quotient-2.ensures))
           (ap (λ (x : ℕ). sum_over x c.args.a c.args.b) m.1) h.num))),
     )
 

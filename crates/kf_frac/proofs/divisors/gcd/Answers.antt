@@ -1,11 +1,9 @@
-use Rattle.std.proofs.lemmas.Nat.Gcd.{IsGcd-from_mod, IsGcd-from_zero}
-use Rattle.kf_frac.proofs.CommonDivisors.{gcd_is_the}
+use Rattle.kf_frac.proofs.CommonDivisors.{gcd_of_equals}
+use Rattle.kf_frac.proofs.Twos.{gcd_by_twos}
 use Rattle.kf_frac.proofs.divisors.gcd.Goals as goal
 
-pub loop-y-preserved : goal.loop-y-preserved
-loop-y-preserved c = λ g h. c.loop-y.invariant g (IsGcd-from_mod c.loop-y.x c.loop-y.y g h)
+pub returns-then-a-b : goal.returns-then-a-b
+returns-then-a-b c = gcd_of_equals c.args.a c.args.b c.if-a-b.true
 
 pub returns : goal.returns
-returns c =
-    gcd_is_the c.args.a c.args.b c.loop-y.x
-    (c.loop-y.invariant c.loop-y.x (IsGcd-from_zero c.loop-y.x c.loop-y.y c.loop-y-test.false))
+returns c = gcd_by_twos c.args.a c.args.b c.min-twos.result c.wide_gcd.result c.if-a-b.false c.ranges.a.fits c.ranges.b.fits c.min-twos.ensures c.wide_gcd.ensures

@@ -1,0 +1,11 @@
+use Rattle.std.proofs.lemmas.Nat.Gcd.{IsGcd-from_mod, IsGcd-from_zero}
+use Rattle.kf_frac.proofs.CommonDivisors.{gcd_is_the}
+use Rattle.kf_frac.proofs.divisors.narrow_gcd.Goals as goal
+
+pub loop-y-preserved : goal.loop-y-preserved
+loop-y-preserved c = λ g h. c.loop-y.invariant g (IsGcd-from_mod c.loop-y.x c.loop-y.y g h)
+
+pub returns : goal.returns
+returns c =
+    gcd_is_the c.args.x c.args.y c.loop-y.x
+    (c.loop-y.invariant c.loop-y.x (IsGcd-from_zero c.loop-y.x c.loop-y.y c.loop-y-test.false))

@@ -6,13 +6,14 @@ use Rattle.std.proofs.lemmas.Option.{slice_get_within, get_or_from_slice_get}
 use Rattle.std.specs.List.{All}
 use Rattle.std.proofs.lemmas.List.Elements.{All-head, All-tail}
 use Rattle.kf_value.proofs.Sizing.{some_values, few_values}
-use Rattle.std.proofs.lemmas.List.{get_or_default}
+use Rattle.std.proofs.lemmas.List.{length-map}
 use Rattle.kf_value.specs.Values.{ValueTree}
 use Rattle.kf_value.specs.Types.{TypeTree, values, combinations, product, count}
 use Rattle.kf_value.specs.Sizes.{fault_of, HasSize, HasNumber}
 use Rattle.kf_value.specs.Stores.{stores}
 use Rattle.kf_value.specs.Numbers.{IsStore, HasDigit, weights, digits, mixed_radix, AreDigits}
 use Rattle.kf_value.proofs.Parts.{total, length-choices}
+use Rattle.kf_value.proofs.ListLemmas.{mapped_read}
 use Rattle.kf_value.proofs.Places.{combination_at, combination_split}
 
 -- each size is at least 1
@@ -142,7 +143,7 @@ some_below : (a b n : ℕ) → n < a * b → 0 < b
 some_below a zero n h = absurd (omega arith)
 some_below a (suc b) n h = omega arith
 
-choices_stored : (ts : List TypeTree) (n : ℕ) (s : List ValueTree) → slice_get (combinations (map values ts)) n ≡ Some s → Stored ts (digits (sizes ts) n) s
+pub choices_stored : (ts : List TypeTree) (n : ℕ) (s : List ValueTree) → slice_get (combinations (map values ts)) n ≡ Some s → Stored ts (digits (sizes ts) n) s
 choices_stored [] zero s h = let same : s ≡ [] = (cc) in (refl, same)
 choices_stored [] (suc n) s h = (cc)
 choices_stored (t ∷ ts) n s h =
@@ -152,7 +153,7 @@ choices_stored (t ∷ ts) n s h =
     let later = choices_stored ts (n % total ts) found.1 (ap (λ l. slice_get (combinations (map values ts)) (n % l)) (sym size) ∙ found.3) in
     subst (λ vs. Stored (t ∷ ts) (n / total ts ∷ digits (sizes ts) (n % total ts)) vs) (sym found.4) (first, later)
 
-stored_choices : (ts : List TypeTree) (n : ℕ) (s : List ValueTree) → n < total ts → Stored ts (digits (sizes ts) n) s
+pub stored_choices : (ts : List TypeTree) (n : ℕ) (s : List ValueTree) → n < total ts → Stored ts (digits (sizes ts) n) s
     → slice_get (combinations (map values ts)) n ≡ Some s
 stored_choices [] n s below h = let first : n ≡ 0 = omega arith in ap (slice_get ([] ∷ [])) first ∙ ap (λ vs. Some vs) (sym h.1)
 stored_choices (t ∷ ts) n [] below h = elim h [ ]
@@ -210,9 +211,12 @@ pub length-weights : (ss : List ℕ) → length (weights ss) ≡ length ss
 length-weights [] = refl
 length-weights (s ∷ ss) = ap suc (length-weights ss)
 
--- what reads of the lists of sizes and weights give
-pub entry : (xs ys : List ℕ) (i r : ℕ) → xs ≡ ys → i < length ys → r ≡ get_or xs i r → r ≡ get_or ys i 0
-entry xs ys i r same within read = read ∙ (ap (λ zs. get_or zs i r) same ∙ get_or_default ys i r 0 within)
+-- what a read of a list tells of a list of numbers of its elements
+pub entry : {X : Type 0} (f : X → ℕ) (xs : List X) (ys : List ℕ) (i : ℕ) (x : X) → map f xs ≡ ys → i < length ys → x ≡ get_or xs i x → f x ≡ get_or ys i 0
+entry f xs ys i x same within read =
+    let long = length-map xs f in
+    let as_long = ap length same in
+    sym (get_or_from_slice_get ys i (f x) 0 (rw (← same) (mapped_read f xs i x (omega arith) read)))
 
 pub size_small : (ts : List TypeTree) (i : ℕ) → All (λ t. fault_of t ≡ None) ts → i < length ts → get_or (sizes ts) i 0 ≤ 65536
 size_small [] i h within = absurd (omega arith)

@@ -37,7 +37,7 @@ pub record PartsFound (types : List TypeTree) (n : ℕ) (later : List TypeTree) 
   pub whole : (rest : List ValueTree) → slice_get (combinations (map values later)) left ≡ Some rest
       → slice_get (combinations (map values types)) n ≡ Some (map value_tree done ++ rest)
 
-below_itself : (n m : ℕ) → n < m → n % m ≡ n
+pub below_itself : (n m : ℕ) → n < m → n % m ≡ n
 below_itself n m below = let start : n ≡ 0 * m + n = omega arith in ap (λ z. z % m) start ∙ mod-mul-add 0 m n below
 
 grouped : (q c p a b : ℕ) → q * (c * p) + (a * p + b) ≡ (q * c + a) * p + b
@@ -62,7 +62,7 @@ find_tuple_start types n weight sized below weighs =
     find_parts_start types n weight (tuple_sized types sized).0 (rw (← counts-type_parts types) below) weighs
 
 -- a digit, seen from the whole number
-digit_is : (n c p : ℕ) → 0 < c → 0 < p → (n % (c * p) / p ≡ n / p % c) × (n % (c * p) % p ≡ n % p)
+pub digit_is : (n c p : ℕ) → 0 < c → 0 < p → (n % (c * p) / p ≡ n / p % c) × (n % (c * p) % p ≡ n % p)
 digit_is n c p some_c some_p =
     let m = c * p in
     let q = n / m in

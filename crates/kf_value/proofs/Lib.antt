@@ -3,10 +3,12 @@ mod Apart
 pub mod Ascending
 pub mod Comparing
 mod Deciding
+mod Dividing
 mod Digits
 mod Examples
 mod Finding
 mod Items
+mod LastItem
 pub mod ListLemmas
 pub mod Orders
 mod ByForm

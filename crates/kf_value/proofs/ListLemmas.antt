@@ -1,6 +1,6 @@
 -- Facts about lists of any kind.
 use Rattle.std.proofs.Common.{◌≡◌, ℕ, ◌+◌, ◌<◌, ◌≤◌, List, [], ◌∷◌, map, reverse, drop, length, get_or, slice_get, Some, zero, suc, ◌++◌, subst, refl, sym, ap, ◌∙◌}
-use Rattle.std.proofs.lemmas.List.{drop_more, drop_all}
+use Rattle.std.proofs.lemmas.List.{drop_more, drop_all, map-append}
 use Rattle.std.proofs.lemmas.Option.{slice_get-map, slice_get-get_or}
 use Rattle.std.specs.Option.{option_map}
 use mathlib.Core.List.{reverse_aux}
@@ -63,3 +63,7 @@ each_both P Q R go (x ∷ xs) hp hq = (go x hp.0 hq.0, each_both P Q R go xs hp.
 pub mapped_read : {X Y : Type 0} (f : X → Y) (xs : List X) (i : ℕ) (x : X) → i < length xs → x ≡ get_or xs i x → slice_get (map f xs) i ≡ Some (f x)
 mapped_read f xs i x within read =
     slice_get-map f xs i ∙ (ap (option_map f) (slice_get-get_or xs i x within) ∙ ap (λ y. Some (f y)) (sym read))
+
+-- what one more element tells of the mapped list
+pub mapped_push : {X Y : Type 0} (f : X → Y) (xs ys : List X) (x : X) (y : Y) → ys ≡ xs ++ x ∷ [] → f x ≡ y → map f ys ≡ map f xs ++ y ∷ []
+mapped_push f xs ys x y pushed is = ap (map f) pushed ∙ (map-append f xs (x ∷ []) ∙ ap (λ z. map f xs ++ z ∷ []) is)

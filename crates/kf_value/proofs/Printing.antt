@@ -1,12 +1,12 @@
 -- Texts written piece by piece.
-use Rattle.std.proofs.Common.{◌≡◌, ◌≢◌, ℕ, List, [], ◌∷◌, ◌++◌, length, map, slice_get, Option, Some, None, codes, arith, refl, sym, ap, ◌∙◌}
+use Rattle.std.proofs.Common.{◌≡◌, ◌≢◌, ℕ, List, [], ◌∷◌, ◌++◌, length, map, slice_get, Option, Some, None, codes, refl, sym, ap, ◌∙◌}
 use Rattle.std.proofs.lemmas.List.{append_assoc}
 use Rattle.kf_value.specs.Values.{ValueTree, Tuple, Set, parts}
 use Rattle.kf_value.specs.Texts.{text, separated}
 use Rattle.kf_value.specs.Targets.{Item, target_values, target_value_text, shown}
 use Rattle.kf_value.proofs.Trees.{texts-parts}
 
-bracketed : (out first mid last a b c : List ℕ) → a ≡ out ++ first → b ≡ a ++ mid → c ≡ b ++ last → c ≡ out ++ (first ++ (mid ++ last))
+pub bracketed : (out first mid last a b c : List ℕ) → a ≡ out ++ first → b ≡ a ++ mid → c ≡ b ++ last → c ≡ out ++ (first ++ (mid ++ last))
 bracketed out first mid last a b c h k l =
     l
     ∙ (ap (λ z. z ++ last) (k ∙ ap (λ z. z ++ mid) h)
@@ -33,11 +33,6 @@ pub shown_many : (vs : List ValueTree) → length vs ≢ 1 → shown vs ≡ text
 shown_many [] many = refl
 shown_many (v ∷ []) many = absurd (many refl)
 shown_many (v ∷ (w ∷ vs)) many = refl
-
-pub shown_one : (vs : List ValueTree) (v : ValueTree) → length vs ≡ 1 → slice_get vs 0 ≡ Some v → shown vs ≡ text v
-shown_one [] v one at = (cc)
-shown_one (w ∷ []) v one at = let same : w ≡ v = (cc) in ap text same
-shown_one (w ∷ (u ∷ vs)) v one at = absurd (omega arith)
 
 shown_or_nothing : (o : Option (List ValueTree)) (vs : List ValueTree) → o ≡ Some vs → elim o as (λ x. List ℕ) [ None ↦ [] | Some us ↦ shown us ] ≡ shown vs
 shown_or_nothing None vs h = (cc)

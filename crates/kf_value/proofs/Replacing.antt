@@ -3,12 +3,11 @@ use Rattle.std.proofs.Common.{◌≡◌, ℕ, ◌+◌, ◌-◌, ◌*◌, ◌<◌
 use Rattle.std.specs.List.{All}
 use Rattle.std.proofs.lemmas.List.{length-map}
 use Rattle.kf_value.specs.declared.ty.Ty.{Ty}
-use Rattle.kf_value.specs.Values.{ValueTree}
 use Rattle.kf_value.specs.Types.{TypeTree, count, product}
-use Rattle.kf_value.specs.Sizes.{fault_of, HasNumber}
+use Rattle.kf_value.specs.Sizes.{fault_of}
 use Rattle.kf_value.specs.TypeViews.{type_tree}
-use Rattle.kf_value.specs.Numbers.{IsStore, weights, digits}
-use Rattle.kf_value.proofs.Digits.{sizes, Changed, change_digit, positive_sizes, store_changed, size_at}
+use Rattle.kf_value.specs.Numbers.{weights, digits}
+use Rattle.kf_value.proofs.Digits.{sizes, Changed, change_digit, positive_sizes}
 use Rattle.kf_value.proofs.ListLemmas.{mapped_read}
 
 pub variable_type : (items all : List Ty) (i : ℕ) (x : Ty) → items ≡ all → i < length (map type_tree all) → x ≡ get_or items i x
@@ -17,13 +16,13 @@ variable_type items all i x same within read =
     let long = length-map all type_tree in
     mapped_read type_tree all i x (omega arith) (read ∙ ap (λ xs. get_or xs i x) same)
 
-module _ (ts : List TypeTree) (sized : All (λ t. fault_of t ≡ None) ts) (store i old weight new : ℕ) (t : TypeTree) (v : ValueTree)
-    (below : store < product (sizes ts)) (within : i < length ts) (at : slice_get ts i ≡ Some t) (has : HasNumber t v new)
-    (old_is : old ≡ get_or (digits (sizes ts) store) i 0) (weight_is : weight ≡ get_or (weights (sizes ts)) i 0) (new_below : new < count t) where
+module _ (ts : List TypeTree) (sized : All (λ t. fault_of t ≡ None) ts) (store i old weight new : ℕ)
+    (below : store < product (sizes ts)) (within : i < length ts) (small : new < get_or (sizes ts) i 0)
+    (old_is : old ≡ get_or (digits (sizes ts) store) i 0) (weight_is : weight ≡ get_or (weights (sizes ts)) i 0) where
   changed : Changed (sizes ts) store i new
   changed =
       let long = length-map ts count in
-      change_digit (sizes ts) store i new (positive_sizes ts sized) below (omega arith) (rw (size_at ts i t at) new_below)
+      change_digit (sizes ts) store i new (positive_sizes ts sized) below (omega arith) small
 
   pub replaced_held : old * weight ≤ store
   replaced_held = rw (old_is, weight_is) changed.held
@@ -33,6 +32,3 @@ module _ (ts : List TypeTree) (sized : All (λ t. fault_of t ≡ None) ts) (stor
 
   pub replaced_digits : digits (sizes ts) (store - old * weight + new * weight) ≡ set (digits (sizes ts) store) i new
   replaced_digits = rw (old_is, weight_is) changed.now
-
-  pub replaced_store : (s : List ValueTree) → IsStore ts store s → IsStore ts (store - old * weight + new * weight) (set s i v)
-  replaced_store = store_changed ts store (store - old * weight + new * weight) i new t v at has replaced_below replaced_digits

@@ -14,3 +14,4 @@ pub mod Shapes
 pub mod Sizes
 pub mod TypeViews
 pub mod Views
+pub mod Written

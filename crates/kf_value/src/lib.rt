@@ -1,6 +1,7 @@
 //! Types and values, their order and numbers, stores and targets, and what values print as.
 #![tactic(auto)]
 
+mod divisor;
 mod equality;
 mod kind;
 mod laws;

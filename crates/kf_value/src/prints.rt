@@ -1,17 +1,19 @@
-ghost use Rattle.std.specs.Prelude.{◌≡◌, ◌≤◌, ◌<◌, ◌^◌, ◌-◌, ◌++◌, min, map, slice_get, None, Some, OnOk, OnErr, IfOk};
+ghost use Rattle.std.specs.Prelude.{◌≡◌, ◌≤◌, ◌<◌, ◌^◌, ◌-◌, ◌++◌, min, List, length, map, slice_get, None, Some, OnOk, OnErr, IfOk};
 ghost use Rattle.std.specs.List.{All};
-ghost use Rattle.kf_value.specs.Sizes.{fault_of};
-ghost use Rattle.kf_value.specs.Values.{Tuple, parts};
+ghost use Rattle.kf_value.specs.Sizes.{fault_of, HasSize, HasNumber};
+ghost use Rattle.kf_value.specs.Values.{ValueTree, Tuple, parts};
+ghost use Rattle.kf_value.specs.Types.{count};
 ghost use Rattle.kf_value.specs.Texts.{text, separated};
-ghost use Rattle.kf_value.specs.Targets.{target_values, target_value_text, shown};
+ghost use Rattle.kf_value.specs.Written.{ended};
+ghost use Rattle.kf_value.specs.Targets.{target_values, target_value_text};
 ghost use Rattle.kf_value.specs.Numbers.{target_size, IsNumberOf};
-ghost use Rattle.kf_value.specs.TypeViews.{item_of};
+ghost use Rattle.kf_value.specs.TypeViews.{type_tree, item_of};
 ghost use Rattle.kf_value.specs.Views.{value_tree, value_trees, items_of};
 
 use crate::nth::value_at;
 use crate::readings::candidate;
 use crate::sizes::known_size;
-use crate::{Mem, Target, TargetItem, Value, ValueList};
+use crate::{Mem, Target, TargetItem, Ty, Value, ValueList};
 use itoa::Buffer;
 use std::alloc::Global;
 
@@ -43,8 +45,12 @@ pub fn write_target(alloc: Global, target: &Target, n: u64, out: &mut Vec<u8>) -
     requires { n < target_size (items_of target.now) }
     ensures printed { OnOk result (out.new.items ≡ out.old.items ++ target_value_text (items_of target.now) n) }
 {
-    let values = values_at(alloc, target.items.as_slice(), n)?;
-    write_shown(values.as_slice(), out)
+    let items = target.items.as_slice();
+    if items.len() == 1 {
+        write_nth(alloc, &items[0].ty, n as u32, out)
+    } else {
+        write_in_parentheses(alloc, items, n, out)
+    }
 }
 
 #[cycle(write_value)]
@@ -88,24 +94,56 @@ fn write_separated(values: &[Value], out: &mut Vec<u8>) -> Result<(), Mem>
     Ok(())
 }
 
-/// Writes one value as it is, and several in parentheses.
-fn write_shown(values: &[Value], out: &mut Vec<u8>) -> Result<(), Mem>
-    ensures { OnOk result (out.new.items ≡ out.old.items ++ shown (map value_tree values.now)) }
+/// Writes the text of the type's value with the number `n`.
+fn write_nth(alloc: Global, ty: &Ty, n: u32, out: &mut Vec<u8>) -> Result<(), Mem>
+    requires sized { HasSize (type_tree ty.now) }
+    requires below { n < count (type_tree ty.now) }
+    ensures { OnOk result ((v : ValueTree) → HasNumber (type_tree ty.now) v n → out.new.items ≡ out.old.items ++ text v) }
 {
-    if values.len() == 1 {
-        write_value(&values[0], out)
-    } else {
-        write_in_parentheses(values, out)
-    }
+    let value = value_at(alloc, ty, n)?;
+    write_value(&value, out)
 }
 
-fn write_in_parentheses(values: &[Value], out: &mut Vec<u8>) -> Result<(), Mem>
-    ensures { OnOk result (out.new.items ≡ out.old.items ++ text (Tuple (parts (map value_tree values.now)))) }
+/// Writes the texts of the values at place `n` of the items' lists of values: behind the last one `end`, and behind each
+/// other one a comma and a space. The last item's number is the last digit of `n`, so each item takes one division.
+#[cycle(write_items)]
+fn write_items(
+    alloc: Global,
+    items: &[TargetItem],
+    n: u64,
+    end: &[u8],
+    out: &mut Vec<u8>,
+) -> Result<(), Mem>
+    requires sized { All (λ i. fault_of (item_of i).ty ≡ None) items.now }
+    requires below { n < target_size (map item_of items.now) }
+    ensures { OnOk result ((vs : List ValueTree) → slice_get (target_values (map item_of items.now)) n ≡ Some vs
+        → out.new.items ≡ out.old.items ++ ended end.now (map text vs)) }
+{
+    let [front @ .., last] = items else {
+        return Ok(());
+    };
+    let size = u64::from(known_size(&last.ty));
+    let before = n / size;
+    write_items(alloc, front, before, b", ", out)?;
+    write_nth(alloc, &last.ty, (n - before * size) as u32, out)?;
+    out.extend_from_slice(end)?;
+    Ok(())
+}
+
+fn write_in_parentheses(
+    alloc: Global,
+    items: &[TargetItem],
+    n: u64,
+    out: &mut Vec<u8>,
+) -> Result<(), Mem>
+    requires some { 1 ≤ length items.now }
+    requires sized { All (λ i. fault_of (item_of i).ty ≡ None) items.now }
+    requires below { n < target_size (map item_of items.now) }
+    ensures { OnOk result ((vs : List ValueTree) → slice_get (target_values (map item_of items.now)) n ≡ Some vs
+        → out.new.items ≡ out.old.items ++ text (Tuple (parts vs))) }
 {
     out.push(b'(')?;
-    write_separated(values, out)?;
-    out.push(b')')?;
-    Ok(())
+    write_items(alloc, items, n, b")", out)
 }
 
 /// The values at place `n`, from 0, of all lists of values, one for each item, in their order.

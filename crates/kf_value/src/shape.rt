@@ -6,6 +6,7 @@ ghost use Rattle.kf_value.specs.TypeViews.{type_tree};
 ghost use Rattle.kf_value.specs.Numbers.{weights as place_weights};
 ghost use Rattle.kf_value.specs.Views.{type_trees};
 
+use crate::divisor::Divisor;
 use crate::numbers::number;
 use crate::sizes::known_size;
 use crate::{Mem, Ty, TyList, Value};
@@ -18,15 +19,21 @@ use std::alloc::{AllocError, AllocFailed, Global};
 #[derive(Drop)]
 pub struct Shape {
     types: TyList,
-    sizes: Vec<u32>,
-    weights: Vec<u64>,
+    places: Vec<Place>,
     pub ghost formed: { IsTrue (list_all well_formed (type_trees types)) },
     pub ghost sized: { All (λ t. fault_of t ≡ None) (type_trees types) },
     pub ghost some: { 1 ≤ length (type_trees types) },
     pub ghost few: { length (type_trees types) ≤ 32 },
     pub ghost fits: { product (map count (type_trees types)) ≤ 2 ^ 63 },
-    ghost sizes_are: { sizes.items ≡ map count (type_trees types) },
-    ghost weights_are: { weights.items ≡ place_weights (map count (type_trees types)) },
+    ghost sizes_are: { map (λ p. p.size.divisor) places.items ≡ map count (type_trees types) },
+    ghost weights_are: { map (λ p. p.weight.divisor) places.items ≡ place_weights (map count (type_trees types)) },
+}
+
+/// What one step of a variable's digit weighs in a store's number, and how many values the variable's type has.
+#[derive(Drop)]
+struct Place {
+    weight: Divisor,
+    size: Divisor,
 }
 
 /// Why types make no shape.
@@ -84,20 +91,17 @@ impl Shape {
         if stores > 1 << 63 {
             return Err(ShapeError::StoreTooWide);
         }
-        let mut sizes = Vec::new(alloc);
-        let mut weights = Vec::new(alloc);
+        let mut places = Vec::new(alloc);
         let mut weight = stores;
         for ty in types.as_slice() {
-            let size = known_size(ty);
-            weight /= u64::from(size);
-            sizes.push(size)?;
-            weights.push(weight)?;
+            let size = u64::from(known_size(ty));
+            weight /= size;
+            places.push(Place {
+                weight: Divisor::new(weight),
+                size: Divisor::new(size),
+            })?;
         }
-        Ok(Shape {
-            types,
-            sizes,
-            weights,
-        })
+        Ok(Shape { types, places })
     }
 
     /// The types of the variables, in their order.
@@ -112,7 +116,7 @@ impl Shape {
         requires { i < length (shape_types self.now) }
         ensures { result ≡ slice_index (shape_sizes self.now) i }
     {
-        self.sizes[i]
+        self.places[i].size.number() as u32
     }
 
     /// The number, in its type, of the value of variable `i` in a store.
@@ -123,7 +127,9 @@ impl Shape {
         ensures value { HasDigit (shape_types self.now) store i result }
         ensures below { result < slice_index (shape_sizes self.now) i }
     {
-        (store / self.weights[i] % u64::from(self.sizes[i])) as u32
+        let place = &self.places[i];
+        let steps = place.weight.quotient(store);
+        place.size.remainder(steps) as u32
     }
 
     /// The store with variable `i` changed to the value, and all others as before.
@@ -144,10 +150,21 @@ impl Shape {
         let Some(n) = number(ty, v) else {
             return Err(OutOfRange);
         };
-        let weight = self.weights[i];
+        Ok(self.with_digit(store, i, n))
+    }
+
+    /// The store with variable `i` changed to the value with the number `n` in its type, and all others as before.
+    pub fn with_digit(&self, store: u64, i: usize, n: u32) -> u64
+        requires store { store < shape_size self.now }
+        requires variable { i < length (shape_types self.now) }
+        requires digit { n < slice_index (shape_sizes self.now) i }
+        ensures digits { digits (shape_sizes self.now) result ≡ slice_set (digits (shape_sizes self.now) store) i n }
+        ensures below { result < shape_size self.now }
+    {
+        let weight = self.places[i].weight.number();
         let old = u64::from(self.slot(store, i));
         let new = u64::from(n);
-        Ok(store - old * weight + new * weight)
+        store - old * weight + new * weight
     }
 }
 

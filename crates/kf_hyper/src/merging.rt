@@ -9,6 +9,7 @@ ghost use Rattle.kf_hyper.specs.Merged.{AreMerged};
 use crate::class::Class;
 use crate::classes::classes_of;
 use crate::{Column, ColumnList, Columns, EntryList};
+use kf_frac::quotient;
 use kf_value::Mem;
 use std::alloc::Global;
 
@@ -28,7 +29,7 @@ fn multiplied(class: Class) -> Column
     requires { IsWhole (class_of class) }
     ensures { result ≡ joint_column (inner_of class) }
 {
-    let times = class.total / class.whole;
+    let times = quotient(class.total, class.whole);
     if times == 1 {
         return class.inner;
     }

@@ -8,7 +8,7 @@ ghost use Rattle.kf_hyper.specs.Classes.{IsCommonFactor, IsReduced};
 
 use crate::class::Class;
 use crate::{Column, Entry, EntryList};
-use kf_frac::gcd;
+use kf_frac::{gcd, quotient};
 
 // The greatest number that divides every weight.
 fn common_factor(entries: &[Entry]) -> u128
@@ -32,7 +32,8 @@ fn divided(column: Column, factor: u128) -> Column
 {
     let mut entries = column.into_entries();
     for i in 0..entries.len() {
-        entries[i].weight /= factor;
+        let entry = &mut entries[i];
+        entry.weight = quotient(entry.weight, factor);
     }
     Column::new(EntryList::new(entries))
 }
@@ -55,7 +56,7 @@ pub fn reduced(column: Column) -> Class
     let inner = divided(column, factor);
     Class {
         inner,
-        whole: total / factor,
+        whole: quotient(total, factor),
         total,
     }
 }

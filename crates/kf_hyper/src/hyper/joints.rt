@@ -8,6 +8,7 @@ ghost use Rattle.kf_hyper.specs.Views.{inners_of, inner_at, scale_of, target_of}
 use super::Hyper;
 use crate::Column;
 use crate::adding::{gathered, push_times};
+use kf_frac::quotient;
 use kf_value::Mem;
 use std::alloc::Global;
 
@@ -19,7 +20,7 @@ impl Hyper {
         ensures { result ≡ joint_weight x (inner_at self.now i) }
     {
         let class = &self.classes[i];
-        let multiple = class.total / class.whole;
+        let multiple = quotient(class.total, class.whole);
         class.inner.weight(x) * multiple
     }
 
@@ -31,7 +32,7 @@ impl Hyper {
     {
         let mut entries = Vec::new(alloc);
         for class in &self.classes {
-            let times = class.total / class.whole;
+            let times = quotient(class.total, class.whole);
             push_times(&mut entries, class.inner.entries().as_slice(), times)?;
         }
         Ok(gathered(entries))

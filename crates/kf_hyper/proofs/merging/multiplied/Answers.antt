@@ -15,12 +15,15 @@ use Rattle.kf_hyper.proofs.merging.multiplied.Goals as goal
 by_whole : (class : Class) → map (scaled (class.total / class.whole)) class.inner ≡ joint_column (inner_of class)
 by_whole class = ap (λ (n : ℕ). map (scaled (class.total / n)) class.inner) class.summed
 
+by_times : (class : Class) (times : ℕ) → times ≡ class.total / class.whole → map (scaled times) class.inner ≡ joint_column (inner_of class)
+by_times class times is = ap (λ (n : ℕ). map (scaled n) class.inner) is ∙ by_whole class
+
 pub returns-then-times-eq1 : goal.returns-then-times-eq1
-returns-then-times-eq1 c = sym (scaled_one c.args.class.inner) ∙ ap (λ (n : ℕ). map (scaled n) c.args.class.inner) (sym c.if-times-eq1.true) ∙ by_whole c.args.class
+returns-then-times-eq1 c = sym (scaled_one c.args.class.inner) ∙ ap (λ (n : ℕ). map (scaled n) c.args.class.inner) (sym c.if-times-eq1.true) ∙ by_times c.args.class c.quotient-times.result c.quotient-times.ensures
 
 pub loop-i-preserved : goal.loop-i-preserved
 loop-i-preserved c =
-    let times : ℕ = c.args.class.total / c.args.class.whole in
+    let times : ℕ = c.quotient-times.result in
     let within : c.loop-i.i < length c.into_entries-entries.result.items = omega (arith, c.len-i-end.ensures, c.loop-i-test.true) in
     ap (λ (e : Entry). set c.loop-i.entries.items c.loop-i.i (record { value = e.value; weight = e.weight * times })) c.index_mut.ensures.value
     ∙ sym (ap (λ (e : Entry). set c.loop-i.entries.items c.loop-i.i (record { value = e.value; weight = e.weight * times })) c.index_mut.ensures.value)
@@ -30,5 +33,5 @@ loop-i-preserved c =
 
 pub new-requires-2 : goal.new-requires-2
 new-requires-2 c =
-    let all = mapped_all (scaled (c.args.class.total / c.args.class.whole)) c.into_entries-entries.result.items c.loop-i.i (omega (arith, c.len-i-end.ensures, c.loop-i-test.false)) in
-    rw (c.new.ensures, c.loop-i.invariant, all, c.into_entries-entries.ensures.kept) (subst IsColumn (sym (by_whole c.args.class)) (class_column (class_of c.args.class) c.requires))
+    let all = mapped_all (scaled c.quotient-times.result) c.into_entries-entries.result.items c.loop-i.i (omega (arith, c.len-i-end.ensures, c.loop-i-test.false)) in
+    rw (c.new.ensures, c.loop-i.invariant, all, c.into_entries-entries.ensures.kept) (subst IsColumn (sym (by_times c.args.class c.quotient-times.result c.quotient-times.ensures)) (class_column (class_of c.args.class) c.requires))

@@ -1,17 +1,18 @@
-use Rattle.std.proofs.Common.{◌<◌, ◌∙◌, ap, arith, length, set}
+use Rattle.std.proofs.Common.{ℕ, ◌<◌, ◌∙◌, ap, arith, length, set}
 use Rattle.kf_hyper.specs.declared.entry.Entry.{Entry}
 use Rattle.kf_hyper.proofs.Factors.{quotient, some_factor, reduced_is, multiplied}
 use Rattle.kf_hyper.proofs.InPlace.{mapped_more, mapped_all}
 use Rattle.kf_hyper.proofs.reducing.divided.Goals as goal
 
-pub nonzero_div-index_mut : goal.nonzero_div-index_mut
-nonzero_div-index_mut c = some_factor c.args.factor c.args.column c.requires c.into_entries-entries.ensures.column
+pub quotient-entry-requires : goal.quotient-entry-requires
+quotient-entry-requires c = some_factor c.args.factor c.args.column c.requires c.into_entries-entries.ensures.column
 
 pub loop-i-preserved : goal.loop-i-preserved
 loop-i-preserved c =
     let within : c.loop-i.i < length c.into_entries-entries.result.items = omega (arith, c.len-i-end.ensures, c.loop-i-test.true) in
-    ap (λ (e : Entry). set c.loop-i.entries.items c.loop-i.i (quotient c.args.factor e)) c.index_mut.ensures.value
-    ∙ mapped_more (quotient c.args.factor) c.into_entries-entries.result.items c.loop-i.entries.items c.loop-i.i c.index_mut.result.now within c.loop-i.invariant
+    ap (λ (n : ℕ). set c.loop-i.entries.items c.loop-i.i (record { value = c.index_mut-entry.result.now.value; weight = n })) c.quotient-entry.ensures
+    ∙ ap (λ (e : Entry). set c.loop-i.entries.items c.loop-i.i (quotient c.args.factor e)) c.index_mut-entry.ensures.value
+    ∙ mapped_more (quotient c.args.factor) c.into_entries-entries.result.items c.loop-i.entries.items c.loop-i.i c.index_mut-entry.result.now within c.loop-i.invariant
 
 pub new-requires-2 : goal.new-requires-2
 new-requires-2 c =

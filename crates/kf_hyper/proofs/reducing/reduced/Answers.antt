@@ -20,14 +20,14 @@ module _ (factor column-total : ℕ) (column shown entries inner : List Entry) (
   whole : column-total ≡ total column → column ≡ map (scaled factor) inner → column-total / factor ≡ total inner
   whole summed multiple = ap (λ (n : ℕ). n / factor) (summed ∙ ap total multiple ∙ total-scaled factor inner) ∙ mul-div_cancel_left (total inner) some
 
-pub nonzero_div-result : goal.nonzero_div-result
-nonzero_div-result c =
+pub quotient-requires : goal.quotient-requires
+quotient-requires c =
     some c.common_factor-factor.result c.total-total.result c.args.column c.entries.result.now c.as_slice.result.now c.divided-inner.result c.as_slice.ensures
     c.common_factor-factor.ensures c.entries.ensures.column
 
 pub invariant_of-result-2 : goal.invariant_of-result-2
 invariant_of-result-2 c = record {
-  summed = whole c.common_factor-factor.result c.total-total.result c.args.column c.entries.result.now c.as_slice.result.now c.divided-inner.result c.as_slice.ensures
+  summed = c.quotient.ensures ∙ whole c.common_factor-factor.result c.total-total.result c.args.column c.entries.result.now c.as_slice.result.now c.divided-inner.result c.as_slice.ensures
       c.common_factor-factor.ensures c.entries.ensures.column c.total-total.ensures c.divided-inner.ensures.multiple;
 }
 

@@ -14,8 +14,8 @@ use Rattle.kf_hyper.proofs.Reading.{whole_some, times_some, times_whole, values_
 use Rattle.kf_hyper.proofs.Averaging.{one_more, one_more_le, all_seen}
 use Rattle.kf_hyper.proofs.hyper.Hyper.average.Goals as goal
 
-pub nonzero_div-times : goal.nonzero_div-times
-nonzero_div-times c =
+pub quotient-times-requires : goal.quotient-times-requires
+quotient-times-requires c =
     let all : c.deref-class-items.result.now ≡ c.args.self.now.classes.items = c.deref-class-items.ensures.value in
     whole_some c.args.self.now.classes.items c.loop-class.class-index c.class-item.result _ _ c.args.self.now.shape
     (rw (length-map, ← all) c.loop-class-test.true) (subst (λ (cs : List Class). c.class-item.result ≡ get_or cs c.loop-class.class-index c.class-item.result) all c.class-item.is) c.class-item.result.summed
@@ -30,13 +30,14 @@ push_times-requires c =
     let part = one_more_le inner_of (λ (j : Inner). j.total) c.args.self.now.classes.items c.loop-class.class-index c.class-item.result inside is in
     let times = times_whole c.args.self.now.classes.items c.loop-class.class-index c.class-item.result _ _ c.args.self.now.shape (rw length-map inside) is c.class-item.result.summed in
     record {
-      some = times_some c.args.self.now.classes.items c.loop-class.class-index c.class-item.result _ _ c.args.self.now.shape (rw length-map inside) is c.class-item.result.summed;
+      some = rw c.quotient-times.ensures (times_some c.args.self.now.classes.items c.loop-class.class-index c.class-item.result _ _ c.args.self.now.shape (rw length-map inside) is c.class-item.result.summed);
       positive = subst ArePositive (sym c.as_slice.ensures) c.entries.ensures.column.positive;
       fits = omega (
         arith,
         part,
         c.loop-class.invariant.totals,
         times,
+        ap (λ (n : ℕ). n * total c.as_slice.result.now) c.quotient-times.ensures,
         ap (λ (es : List Entry). (c.class-item.result.total / c.class-item.result.whole) * total es) column,
         c.args.self.now.shape.whole,
         c.args.self.now.shape.narrow,
@@ -61,8 +62,9 @@ loop-class-preserved c =
     let times = times_whole c.args.self.now.classes.items c.loop-class.class-index c.class-item.result _ _ c.args.self.now.shape (rw length-map inside) is c.class-item.result.summed in
     record {
       weights = λ x.
-          let gained : (c.class-item.result.total / c.class-item.result.whole) * weight_at c.as_slice.result.now x ≡ joint_weight x (inner_of c.class-item.result) =
-          mul_comm (c.class-item.result.total / c.class-item.result.whole) (weight_at c.as_slice.result.now x)
+          let gained : c.quotient-times.result * weight_at c.as_slice.result.now x ≡ joint_weight x (inner_of c.class-item.result) =
+          ap (λ (n : ℕ). n * weight_at c.as_slice.result.now x) c.quotient-times.ensures
+          ∙ mul_comm (c.class-item.result.total / c.class-item.result.whole) (weight_at c.as_slice.result.now x)
           ∙ ap (λ (es : List Entry). weight_at es x * (c.class-item.result.total / c.class-item.result.whole)) column
           ∙ ap (λ (n : ℕ). weight_at c.class-item.result.inner x * (c.class-item.result.total / n)) c.class-item.result.summed in
           omega (arith, c.in_ok-push_times.ensures.gains.weights x, c.loop-class.invariant.weights x, gained, one_more inner_of (joint_weight x) c.args.self.now.classes.items c.loop-class.class-index c.class-item.result inside is);
@@ -71,6 +73,7 @@ loop-class-preserved c =
         c.in_ok-push_times.ensures.gains.total,
         c.loop-class.invariant.totals,
         times,
+        ap (λ (n : ℕ). n * total c.as_slice.result.now) c.quotient-times.ensures,
         ap (λ (es : List Entry). (c.class-item.result.total / c.class-item.result.whole) * total es) column,
         one_more inner_of (λ (j : Inner). j.total) c.args.self.now.classes.items c.loop-class.class-index c.class-item.result inside is,
       );

@@ -96,12 +96,18 @@ abbrev pub Needs : Op → ℕ → Type 0
 Needs op.Or n = n ≡ 2
 Needs op.And n = n ≡ 2
 Needs op.Cond n = n ≡ 3
+Needs op.Equal n = n ≡ 2
+Needs op.NotEqual n = n ≡ 2
+Needs op.Elem n = n ≡ 2
 Needs code n = Unit {0}
 
 need : (code : Op) → Needs (row_at code).code (length (take (row_at code).arity (row_at code).args))
 need op.Or = refl
 need op.And = refl
 need op.Cond = refl
+need op.Equal = refl
+need op.NotEqual = refl
+need op.Elem = refl
 need _ = tt
 
 row_needs : Each (λ r. Needs r.code (length (take r.arity r.args))) operators

@@ -2,10 +2,13 @@ mod Holding
 mod Inserting
 mod Checking
 mod Chosen
+mod Comparing
+mod Finding
 mod Agreeing
 mod Numbered
 mod Listing
 mod Remembering
+mod TotalRows
 mod Adding
 mod Placing
 mod Weighing

@@ -10,6 +10,7 @@ use Rattle.std.proofs.lemmas.List.{append-nil, map-append, drop-map, drop_all, t
 use Rattle.std.proofs.lemmas.List.Edits.{map_over_more}
 use Rattle.std.proofs.lemmas.List.Sums.{sum_by-cons}
 use Rattle.std.proofs.lemmas.Nat.Gcd.{dvd_trans, IsGcd-from_zero}
+use Rattle.std.proofs.Math.Nat.{div-one, one-dvd}
 use Rattle.kf_frac.specs.Divisors.{gcd_of}
 use Rattle.kf_frac.proofs.CommonDivisors.{gcd_is, gcd_is_the, gcd_swap}
 use Rattle.kf_value.specs.Values.{ValueTree, order}
@@ -129,11 +130,19 @@ gcd_assoc a b c =
       λ d da dbc. whole.2 d (first.2 d da (dvd_trans d dbc last.0)) (dvd_trans d dbc last.1),
     )
 
+-- 1 and any number have no common factor above 1
+pub gcd_one : (n : ℕ) → gcd_of 1 n ≡ 1
+gcd_one n = sym (gcd_is_the 1 n 1 (one-dvd 1, one-dvd n, λ d da db. da))
+
 pub factor_nonzero : (ws : List core.Weighted) (k : ℕ) → ArePositive ws → k < length ws → 0 < common_factor ws
 factor_nonzero [] k h within = absurd (omega arith)
 factor_nonzero (w ∷ ws) k h within = factor_positive w ws h.0
 
 -- ---- lowest terms
+
+pub over_one : (ws : List core.Weighted) → over 1 ws ≡ ws
+over_one [] = refl
+over_one (w ∷ ws) = ap (λ n. record { value = w.value; weight = n } ∷ over 1 ws) (div-one w.weight) ∙ ap (λ us. w ∷ us) (over_one ws)
 
 abbrev pub parted_by : ℕ → Weighted → Weighted
 parted_by g w = record { value = w.value; weight = w.weight / g }

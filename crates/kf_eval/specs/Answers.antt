@@ -1,6 +1,6 @@
 -- For bodies: what the program may answer where a value or a fault is defined.
-use Rattle.std.specs.Prelude.{◌≡◌, false, List, Option, Some, None, Result, Ok, Err, MatchResult}
-use Rattle.kf_value.specs.Values.{Truth}
+use Rattle.std.specs.Prelude.{◌≡◌, Bool, false, List, [], ◌∷◌, Option, Some, None, Result, Ok, Err, MatchResult}
+use Rattle.kf_value.specs.Values.{ValueTree, Truth, is_equal}
 use Rattle.kf_value.specs.Views.{value_tree}
 use Rattle.kf_value.specs.declared.value.Value.{Value}
 use Rattle.kf_ops.specs.Values.{Fault, DivZero, ArithWide, applied}
@@ -32,3 +32,10 @@ Answers result defined = MatchResult result (λ v. defined ≡ Ok (value_tree v)
 abbrev pub at_all : Option Op → List Evaluated → Evaluated
 at_all (Some code) es = then_ok (all_values es) (applied code)
 at_all None es = Ok (Truth false)
+
+-- two expressions have values, and this says whether these are equal
+pub record Compares (es : List Evaluated) (same : Bool) : Type 0 where
+  pub left : ValueTree
+  pub right : ValueTree
+  pub values : es ≡ Ok left ∷ Ok right ∷ []
+  pub told : same ≡ is_equal left right

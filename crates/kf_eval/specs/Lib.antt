@@ -6,3 +6,4 @@ pub mod Choices
 pub mod Gathering
 pub mod Memos
 pub mod Reads
+pub mod Totals

@@ -1,4 +1,4 @@
-ghost use Rattle.std.specs.Prelude.{◌≡◌};
+ghost use Rattle.std.specs.Prelude.{◌≡◌, []};
 ghost use Rattle.kf_eval.specs.Choices.{weighted_items};
 
 use crate::EvalError;
@@ -28,6 +28,15 @@ impl WeightedList {
         ensures { result.now ≡ weighted_items self.now }
     {
         self.items.as_slice()
+    }
+
+    /// An empty list in the memory of this one.
+    pub(crate) fn emptied(self) -> Vec<Weighted>
+        ensures { result.items ≡ [] }
+    {
+        let mut items = self.items;
+        items.clear();
+        items
     }
 }
 

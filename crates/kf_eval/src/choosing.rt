@@ -1,6 +1,6 @@
 //! What a distribution chooses in a store.
 
-ghost use Rattle.std.specs.Prelude.{◌≡◌, ◌<◌, ◌≤◌, ◌+◌, ◌^◌, List, length, map, IfOk, IfSome, OnOk};
+ghost use Rattle.std.specs.Prelude.{◌≡◌, [], ◌<◌, ◌≤◌, ◌+◌, ◌^◌, List, length, map, IfOk, IfSome, OnOk};
 ghost use Rattle.std.specs.List.{All};
 ghost use Rattle.kf_value.specs.Values.{ValueTree};
 ghost use Rattle.kf_value.specs.Forms.{IsWellFormed, HasKind};
@@ -33,9 +33,28 @@ pub fn choices(alloc: Global, d: &Dx, shape: &Shape, store: u64) -> Result<Choic
         → IfOk result (λ c. All (λ w. HasKind w.value k × IsWellFormed w.value) (weighted_trees c)) }
     ensures some { IfOk result (λ c. 1 ≤ length (weighted_trees c)) }
 {
+    choices_in(alloc, Vec::new(alloc), d, shape, store)
+}
+
+/// The same, in the memory of an empty list where one value is chosen for certain.
+pub(crate) fn choices_in(
+    alloc: Global,
+    room: Vec<Weighted>,
+    d: &Dx,
+    shape: &Shape,
+    store: u64,
+) -> Result<Choice, ChoiceError>
+    requires empty { room.items ≡ [] }
+    requires store { store < shape_size shape.now }
+    requires kinded { (k : KindTree) × DistKinded (shape_kinds shape.now) (dx_tree d.now) k }
+    ensures choice { (s : List ValueTree) → IsStore (shape_types shape.now) store s → AnswersChoice result (choices_of s (dx_shape d.now.node)) }
+    ensures kind { (k : KindTree) → DistKinded (shape_kinds shape.now) (dx_tree d.now) k
+        → IfOk result (λ c. All (λ w. HasKind w.value k × IsWellFormed w.value) (weighted_trees c)) }
+    ensures some { IfOk result (λ c. 1 ≤ length (weighted_trees c)) }
+{
     evaluation_laws();
     choice_laws();
-    let items = weights_of(alloc, d, shape, store)?;
+    let items = weights_of(alloc, room, d, shape, store)?;
     let total = total_of(&items);
     Ok(Choice {
         items: WeightedList::new(items),
@@ -45,16 +64,18 @@ pub fn choices(alloc: Global, d: &Dx, shape: &Shape, store: u64) -> Result<Choic
 
 fn weights_of(
     alloc: Global,
+    room: Vec<Weighted>,
     d: &Dx,
     shape: &Shape,
     store: u64,
 ) -> Result<Vec<Weighted>, ChoiceError>
+    requires empty { room.items ≡ [] }
     requires store { store < shape_size shape.now }
     requires kinded { (k : KindTree) × DistKinded (shape_kinds shape.now) (dx_tree d.now) k }
     ensures { AnswersWeights result (choices_of (store_at (shape_types shape.now) store) (dx_shape d.now.node)) }
 {
     match &d.node {
-        DxNode::Sure(x) => sure(alloc, x, shape, store),
+        DxNode::Sure(x) => sure(alloc, room, x, shape, store),
         DxNode::UniformSet(x) => uniform_set(alloc, x, shape, store),
         DxNode::UniformRange(x, y) => uniform_range(alloc, x, y, shape, store),
         DxNode::Choose(cases) => choose(alloc, cases.as_slice(), shape, store),

@@ -31,6 +31,9 @@ pub fn in_lowest_terms(mut items: Vec<Weighted>) -> Vec<Weighted>
     ensures { map weighted_tree result.items ≡ lowest (map weighted_tree items.items) }
 {
     let factor = common_factor(&items);
+    if factor == 1 {
+        return items;
+    }
     for item in items.iter_mut() {
         item.weight /= factor;
     }
@@ -44,6 +47,9 @@ fn common_factor(items: &[Weighted]) -> u128
     let mut factor = 0;
     for item in items {
         factor = gcd(factor, item.weight);
+        if factor == 1 {
+            return 1;
+        }
     }
     factor
 }

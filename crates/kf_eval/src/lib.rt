@@ -10,6 +10,7 @@ mod memo;
 mod parts;
 mod reading;
 mod sets;
+mod sureness;
 mod weights;
 
 pub use choice::{Choice, ChoiceError, Weighted, WeightedList};
@@ -18,3 +19,4 @@ pub use evaluation::eval;
 pub use fault::EvalError;
 pub use memo::Memo;
 pub use parts::value_in;
+pub use sureness::is_always_sure;

@@ -1,6 +1,6 @@
 //! What a distribution chose, kept for all stores that agree in the variables that it reads.
 
-ghost use Rattle.std.specs.Prelude.{◌≡◌, ◌<◌, ◌≤◌, ◌^◌, All, List, length, IfErr, IfOk};
+ghost use Rattle.std.specs.Prelude.{◌≡◌, [], ◌<◌, ◌≤◌, ◌^◌, All, List, length, IfErr, IfOk};
 ghost use Rattle.kf_value.specs.Kinds.{KindTree};
 ghost use Rattle.kf_value.specs.Numbers.{IsStore};
 ghost use Rattle.kf_value.specs.Shapes.{shape_size, shape_sizes, shape_types};
@@ -13,8 +13,8 @@ ghost use Rattle.kf_eval.specs.Kinds.{shape_kinds};
 ghost use Rattle.kf_eval.specs.Memos.{IsChosen, number_in};
 ghost use Rattle.kf_eval.specs.Reads.{span};
 
-use crate::choice::{Choice, ChoiceError};
-use crate::choosing::choices;
+use crate::choice::{Choice, ChoiceError, Weighted};
+use crate::choosing::choices_in;
 use crate::reading::slots_read;
 use kf_core::{Dx, choice_laws};
 use kf_value::{Mem, Shape, store_laws};
@@ -63,15 +63,32 @@ fn number_at(shape: &Shape, slots: &[usize], store: u64) -> usize
     number
 }
 
+/// An empty list, in the memory of the last choice where there is one.
+fn room_of(alloc: Global, choices: &mut Vec<Choice>) -> Vec<Weighted>
+    ensures { result.items ≡ [] }
+{
+    match choices.pop() {
+        Some(choice) => choice.items.emptied(),
+        None => Vec::new(alloc),
+    }
+}
+
 /// What a distribution chooses in a store.
-fn chosen_in(alloc: Global, shape: &Shape, dist: &Dx, store: u64) -> Result<Choice, ChoiceError>
+fn chosen_in(
+    alloc: Global,
+    room: Vec<Weighted>,
+    shape: &Shape,
+    dist: &Dx,
+    store: u64,
+) -> Result<Choice, ChoiceError>
+    requires empty { room.items ≡ [] }
     requires store { store < shape_size shape.now }
     requires kinded { (k : KindTree) × DistKinded (shape_kinds shape.now) (dx_tree dist.now) k }
     ensures choice { IfOk result (λ c. IsChosen shape.now (dx_tree dist.now) (store, c)) }
     ensures fault { IfErr result (λ e. (s : List ValueTree) → IsStore (shape_types shape.now) store s → IsChoiceFaultOf (choices_of s (dx_shape dist.now.node)) e) }
 {
     choice_laws();
-    match choices(alloc, dist, shape, store) {
+    match choices_in(alloc, room, dist, shape, store) {
         Ok(choice) => Ok(choice),
         Err(error) => Err(error),
     }
@@ -121,7 +138,8 @@ impl Memo {
         ensures fault { IfErr result (λ e. (s : List ValueTree) → IsStore (shape_types shape.now) store s → IsChoiceFaultOf (choices_of s (dx_shape dist.now.node)) e) }
     {
         if self.places.is_empty() {
-            let choice = chosen_in(alloc, shape, dist, store)?;
+            let room = room_of(alloc, &mut self.choices);
+            let choice = chosen_in(alloc, room, shape, dist, store)?;
             self.choices.clear();
             self.choices.push(choice)?;
             return Ok(0);
@@ -132,7 +150,8 @@ impl Memo {
             return Ok(known - 1);
         }
         store_laws();
-        let choice = chosen_in(alloc, shape, dist, store)?;
+        let room = Vec::with_capacity(alloc, 1)?;
+        let choice = chosen_in(alloc, room, shape, dist, store)?;
         self.choices.push(choice)?;
         self.places[number] = self.choices.len();
         Ok(self.choices.len() - 1)

@@ -15,7 +15,7 @@ use std::alloc::Global;
 pub fn set_of(alloc: Global, mut members: Vec<Value>) -> Result<Vec<Value>, Mem>
     ensures { IfOk result (λ set. map value_tree set.items ≡ members_of (map value_tree members.items)) }
 {
-    let mut set = Vec::new(alloc);
+    let mut set = Vec::with_capacity(alloc, members.len())?;
     while let Some(member) = members.pop() {
         insert(&mut set, member)?;
     }

@@ -1,6 +1,6 @@
 //! The weights that each form of distribution gives its values.
 
-ghost use Rattle.std.specs.Prelude.{◌≡◌, ◌<◌, ◌≤◌, ◌+◌, ◌^◌, List, length, map, pos, ◌-◌, ◌+ℤ◌, ◌≤ℤ◌, IfOk, IfSome, Ok};
+ghost use Rattle.std.specs.Prelude.{◌≡◌, [], ◌<◌, ◌≤◌, ◌+◌, ◌^◌, List, length, map, pos, ◌-◌, ◌+ℤ◌, ◌≤ℤ◌, IfOk, IfSome, Ok};
 ghost use Rattle.std.specs.List.Sorted.{IsStrictlySortedBy};
 ghost use Rattle.kf_value.specs.Kinds.{KindTree, SetKind, WholeKind};
 ghost use Rattle.kf_value.specs.Shapes.{shape_size, shape_types};
@@ -24,16 +24,22 @@ use kf_core::{DxCase, Ex};
 use kf_value::{Shape, Value};
 use std::alloc::Global;
 
-/// The value of the expression, for certain.
-pub fn sure(alloc: Global, x: &Ex, shape: &Shape, store: u64) -> Result<Vec<Weighted>, ChoiceError>
+/// The value of the expression, for certain, in the memory of an empty list.
+pub fn sure(
+    alloc: Global,
+    mut room: Vec<Weighted>,
+    x: &Ex,
+    shape: &Shape,
+    store: u64,
+) -> Result<Vec<Weighted>, ChoiceError>
+    requires empty { room.items ≡ [] }
     requires store { store < shape_size shape.now }
     requires kinded { IsKinded (shape_kinds shape.now) (ex_tree x.now) }
     ensures { AnswersWeights result (choices_of (store_at (shape_types shape.now) store) (Sure (ex_tree x.now))) }
 {
     let value = eval(alloc, x, shape, store)?;
-    let mut items = Vec::new(alloc);
-    items.push(Weighted { value, weight: 1 })?;
-    Ok(items)
+    room.push(Weighted { value, weight: 1 })?;
+    Ok(room)
 }
 
 /// Each element of a set alike.
@@ -89,7 +95,7 @@ pub fn choose(
     requires kinded { (k : KindTree) × CasesKinded (shape_kinds shape.now) (map dx_case_tree cases.now) k }
     ensures { AnswersWeights result (choices_of (store_at (shape_types shape.now) store) (Choose (map dx_case_tree cases.now))) }
 {
-    let mut items = Vec::new(alloc);
+    let mut items = Vec::with_capacity(alloc, cases.len())?;
     for case in cases {
         if let Some(item) = weighed(alloc, case, shape, store)? {
             add(&mut items, item)?;
@@ -108,7 +114,7 @@ pub fn flip(alloc: Global, num: u32, den: u32) -> Result<Vec<Weighted>, ChoiceEr
     requires within { num ≤ den }
     ensures { (s : List ValueTree) → AnswersWeights result (choices_of s (Flip num den)) }
 {
-    let mut items = Vec::new(alloc);
+    let mut items = Vec::with_capacity(alloc, 2)?;
     if num < den {
         items.push(Weighted {
             value: Value::Bool(false),
@@ -170,7 +176,7 @@ fn each_once(alloc: Global, values: &[Value]) -> Result<Vec<Weighted>, ChoiceErr
     if values.is_empty() {
         return Err(ChoiceError::NoWeight);
     }
-    let mut items = Vec::new(alloc);
+    let mut items = Vec::with_capacity(alloc, values.len())?;
     for value in values {
         items.push(Weighted {
             value: value.copy(alloc)?,
@@ -186,7 +192,7 @@ fn each_number(alloc: Global, first: i64, count: u32) -> Result<Vec<Weighted>, C
     requires fits { (first +ℤ pos count) ≤ℤ pos (2 ^ 63) }
     ensures { AnswersWeights result (then_ok (some_of (map once (values (Range first (first +ℤ pos (count - 1)))))) (λ ws. Ok (lowest (gathered ws)))) }
 {
-    let mut items = Vec::new(alloc);
+    let mut items = Vec::with_capacity(alloc, count as usize)?;
     for k in 0..count {
         items.push(Weighted {
             value: Value::Int(first + i64::from(k)),

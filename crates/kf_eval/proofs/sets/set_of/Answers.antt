@@ -4,7 +4,7 @@ use Rattle.kf_eval.proofs.Inserting.{set_start, set_step, set_end}
 use Rattle.kf_eval.proofs.sets.set_of.Goals as goal
 
 pub loop-member-init : goal.loop-member-init
-loop-member-init c = set_start (map value_tree c.args.members.items) c.new-set.result.items c.new-set.ensures.items
+loop-member-init c = set_start (map value_tree c.args.members.items) c.in_ok-set.set.items c.in_ok-set.ensures.items
 
 pub loop-member-preserved : goal.loop-member-preserved
 loop-member-preserved c =

@@ -14,7 +14,7 @@ use Rattle.kf_eval.proofs.weights.choose.Goals.{in-Some+in_ok-add, in_default}
 
 pub loop-case-init : goal.loop-case-init
 loop-case-init c =
-    cases_start (shape_kinds c.args.shape.now) (store_at (shape_types c.args.shape.now) c.args.store) (map dx_case_tree c.args.cases.now) c.new-items.result.items c.new-items.ensures.items
+    cases_start (shape_kinds c.args.shape.now) (store_at (shape_types c.args.shape.now) c.args.store) (map dx_case_tree c.args.cases.now) c.in_ok-items.items.items c.in_ok-items.ensures.items
     c.requires.kinded
 
 pub weighed-requires-clause-value : goal.weighed-requires-clause-value
@@ -39,12 +39,12 @@ loop-case-preserved c =
     let y = ex_tree c.case-item.result.weight in
     let here = left_step dx_case_tree c.args.cases.now c.loop-case.case-index c.case-item.result (omega arith) c.case-item.is in
     let so_far = rw here at c.loop-case.invariant in
-    elim c.match-branch-2.branch [
+    elim c.match-branch-3.branch [
       | in-Some+in_ok-add w ↦
           let known = c.in_ok-item.ensures.listed ∙ ap (λ o. Ok (at_most_one o)) w.in-Some.is in
           let within = rw (w.in-Some.is) at c.in_ok-item.ensures.within in
           let grown = ap (λ v. trees v.items) w.items-is ∙ w.in_ok-add.ensures in
-          cases_add ks s all left x y (trees c.loop-case.items.items) c.loop-case.case-index so_far (weighted_tree w.in-Some.item) (trees c.match-branch-2.items.items) known within.0 within.1 grown
+          cases_add ks s all left x y (trees c.loop-case.items.items) c.loop-case.case-index so_far (weighted_tree w.in-Some.item) (trees c.match-branch-3.items.items) known within.0 within.1 grown
       | in_default w ↦
           let known = c.in_ok-item.ensures.listed ∙ ap (λ o. Ok (at_most_one o)) w.in_default.is in
           let kept = ap (λ v. trees v.items) w.items-is in

@@ -20,5 +20,5 @@ returns-in_err-value c =
 pub returns : goal.returns
 returns c =
     let s = store_at (shape_types c.args.shape.now) c.args.store in
-    sure_weights s (ex_tree c.args.x.now) c.in_ok-value.value c.new-items.result.items c.push.new.self.items
-    (c.in_ok-value.ensures.value s (store_is (shape_types c.args.shape.now) c.args.store c.requires.store)) c.new-items.ensures.items c.in_ok-push.ensures.items
+    sure_weights s (ex_tree c.args.x.now) c.in_ok-value.value c.args.room.items c.push.new.self.items
+    (c.in_ok-value.ensures.value s (store_is (shape_types c.args.shape.now) c.args.store c.requires.store)) c.requires.empty c.in_ok-push.ensures.items

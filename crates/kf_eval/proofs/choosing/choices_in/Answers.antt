@@ -5,7 +5,7 @@ use Rattle.kf_eval.specs.Kinds.{shape_kinds}
 use Rattle.kf_eval.proofs.Checking.{store_kinds}
 use Rattle.kf_eval.proofs.Placing.{trees}
 use Rattle.kf_eval.proofs.Weighing.{are_kinded}
-use Rattle.kf_eval.proofs.choosing.choices.Goals as goal
+use Rattle.kf_eval.proofs.choosing.choices_in.Goals as goal
 
 pub returns-clause-kind : goal.returns-clause-kind
 returns-clause-kind c = λ k kinded.

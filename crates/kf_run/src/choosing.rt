@@ -11,6 +11,7 @@ ghost use Rattle.kf_eval.specs.Memos.{IsKeptAt, IsMemoOf, kept};
 
 use kf_core::Dx;
 use kf_eval::{ChoiceError, Memo};
+use kf_frac::quotient;
 use kf_value::{Mem, Shape};
 use std::alloc::Global;
 
@@ -44,5 +45,5 @@ pub fn share_of(weight: u128, total: u128) -> u128
     requires some { 0 < total }
     ensures { result ≡ weight / total }
 {
-    if total == 1 { weight } else { weight / total }
+    quotient(weight, total)
 }

@@ -108,19 +108,14 @@ pub fn move_column(
 }
 
 /// Adds the store with its carried copies set, with the weight.
-fn copy_entry(
-    alloc: Global,
-    program: &Program,
-    entry: Entry,
-    behind: &mut Vec<Entry>,
-) -> Result<(), Mem>
+fn copy_entry(program: &Program, entry: Entry, behind: &mut Vec<Entry>) -> Result<(), Mem>
     requires checked { IsChecked (program_tree program.now) }
     requires store { entry.value < shape_size program.now.shape }
     requires some { 0 < entry.weight }
     ensures added { OnOk result (Adds (λ n. stay (copied (program_tree program.now) n)) (entry ∷ []) (map (along []) behind.old.items) (map (along []) behind.new.items)) }
     ensures below { OnOk result (IsBelow (shape_size program.now.shape) behind.old.items → IsBelow (shape_size program.now.shape) behind.new.items) }
 {
-    let value = copied_store(alloc, program, entry.value)?;
+    let value = copied_store(program, entry.value);
     behind.push(Entry {
         value,
         weight: entry.weight,
@@ -143,7 +138,7 @@ pub fn copy_column(
     let entries = column.entries().as_slice();
     let mut behind = Vec::with_capacity(alloc, entries.len())?;
     for entry in entries {
-        copy_entry(alloc, program, *entry, &mut behind)?;
+        copy_entry(program, *entry, &mut behind)?;
     }
     add_column(behind, list)?;
     Ok(())

@@ -1,34 +1,77 @@
 -- The store with the carried copies set, one after the other.
-use Rattle.std.proofs.Common.{◌≡◌, ℕ, zero, suc, ◌+◌, ◌<◌, ◌≤◌, List, [], ◌∷◌, ◌++◌, length, map, take, drop, get_or, slice_get, slice_set, Option, Some, None, refl, sym, ap, ◌∙◌, arith, append_assoc}
+use Rattle.std.proofs.Common.{◌≡◌, ℕ, zero, suc, ◌+◌, ◌%◌, ◌<◌, ◌≤◌, List, [], ◌∷◌, ◌++◌, length, map, take, drop, get_or, slice_get, slice_set, Option, Some, None, refl, sym, ap, ◌∙◌, subst, arith, append_assoc}
+use mathlib.Core.Logic.{dite}
+use native.Mathlib.Decide.{ℕ_discrete}
 use Rattle.std.proofs.Math.Seq.{set-append_seam}
-use Rattle.std.proofs.lemmas.List.{get_or_append_left, get_or-take, take-append-drop, length_push, length-take-le, length-drop}
-use Rattle.std.proofs.lemmas.Option.{slice_get-get_or, get_or_from_slice_get}
-use Rattle.std.specs.Prelude.{false}
+use Rattle.std.proofs.lemmas.List.{get_or_append_left, get_or_default, get_or-map, get_or-set_same, get_or-set_other, get_or-take, take-append-drop, length_push, length-map, length-set, length-take-le, length-drop, same_lists}
+use Rattle.std.proofs.lemmas.Option.{slice_get-get_or, unwrap_or-slice_get}
+use Rattle.std.specs.Prelude.{false, unwrap_or}
 use Rattle.std.specs.List.{AllByRecursion as Each}
 use Rattle.kf_value.specs.Values.{ValueTree, Truth}
-use Rattle.kf_value.specs.Types.{TypeTree, Boolean, count, product}
-use Rattle.kf_value.specs.Sizes.{HasNumber}
-use Rattle.kf_value.specs.Numbers.{IsStore}
+use Rattle.kf_value.specs.Types.{TypeTree, Boolean, values, count, product}
+use Rattle.kf_value.specs.Numbers.{IsStore, digits}
 use Rattle.kf_core.specs.Checked.{IsChecked}
 use Rattle.kf_core.specs.Programs.{ProgramTree}
 use Rattle.kf_core.specs.Runs.{store_at, store_number, carried, copied}
-use Rattle.kf_core.proofs.Stores.{store_is, store_of, store_value, store_number_is, length-store}
+use Rattle.kf_core.proofs.Stores.{store_is, store_number_is, length-store}
 
 -- ---- a variable's value
 
--- a value of a variable is one of each variable of its type
-pub fits_type : (ts : List TypeTree) (n i j : ℕ) (v : ValueTree) → n < product (map count ts) → j < length ts → slice_get ts j ≡ slice_get ts i → slice_get (store_at ts n) i ≡ Some v
-    → ((t : TypeTree) → slice_get ts j ≡ Some t → (k : ℕ) → ¬ HasNumber t v k) → ⊥
-fits_type ts n i j v below within alike value none =
-    let typed = slice_get-get_or ts j Boolean within in
-    let known = store_value ts n (store_at ts n) i (get_or ts j Boolean) v (store_is ts n below) (sym alike ∙ typed) value in
-    none (get_or ts j Boolean) typed known.0 known.1
+-- what a list reads is what the option of it reads
+get_or_by : {X : Type 0} (xs ys : List X) (i j : ℕ) (d : X) → slice_get xs i ≡ slice_get ys j → get_or xs i d ≡ get_or ys j d
+get_or_by xs ys i j d same = sym (unwrap_or-slice_get xs i d) ∙ (ap (λ o. unwrap_or o d) same ∙ unwrap_or-slice_get ys j d)
 
-pub copied_value : (ts : List TypeTree) (n i j after : ℕ) (v : ValueTree) → n < product (map count ts) → slice_get (store_at ts n) i ≡ Some v
-    → ((s : List ValueTree) → IsStore ts n s → IsStore ts after (slice_set s j v)) → store_at ts after ≡ slice_set (store_at ts n) j (get_or (store_at ts n) i (Truth false))
-copied_value ts n i j after v below value changed =
-    store_of ts after (slice_set (store_at ts n) j v) (changed (store_at ts n) (store_is ts n below))
-    ∙ ap (slice_set (store_at ts n) j) (sym (get_or_from_slice_get (store_at ts n) i v (Truth false) value))
+-- variables of one type have as many values
+pub same_size : (ts : List TypeTree) (i j : ℕ) → i < length ts → j < length ts → slice_get ts j ≡ slice_get ts i → get_or (map count ts) j 0 ≡ get_or (map count ts) i 0
+same_size ts i j first second alike =
+    get_or-map count ts j Boolean 0 second ∙ (ap count (get_or_by ts ts j i Boolean alike) ∙ sym (get_or-map count ts i Boolean 0 first))
+
+length-digits : (sizes : List ℕ) (n : ℕ) → length (digits sizes n) ≡ length sizes
+length-digits [] n = refl
+length-digits (size ∷ sizes) n = ap suc (length-digits sizes (n % product sizes))
+
+-- each variable of a store has the value of its type at its digit
+abbrev AtDigits : Type 0
+AtDigits = (ts : List TypeTree) (n i : ℕ) (t : TypeTree) (s : List ValueTree) → slice_get ts i ≡ Some t → IsStore ts n s
+    → slice_get s i ≡ slice_get (values t) (get_or (digits (map count ts) n) i 0)
+
+module _ (at_digits : AtDigits) (ts : List TypeTree) (n from to after digit : ℕ) (below : n < product (map count ts)) (below_after : after < product (map count ts))
+    (source : from < length ts) (target : to < length ts) (alike : slice_get ts to ≡ slice_get ts from) (read : digit ≡ get_or (digits (map count ts) n) from 0)
+    (set : digits (map count ts) after ≡ slice_set (digits (map count ts) n) to digit) where
+  value_at : (m i : ℕ) → m < product (map count ts) → i < length ts → slice_get (store_at ts m) i ≡ slice_get (values (get_or ts i Boolean)) (get_or (digits (map count ts) m) i 0)
+  value_at m i within variable = at_digits ts m i (get_or ts i Boolean) (store_at ts m) (slice_get-get_or ts i Boolean variable) (store_is ts m within)
+
+  -- the variable with the changed digit
+  here : (d : ValueTree) → get_or (store_at ts after) to d ≡ get_or (store_at ts n) from d
+  here d =
+      let long = length-digits (map count ts) n in
+      let sized = length-map ts count in
+      let changed : get_or (digits (map count ts) after) to 0 ≡ digit = ap (λ ds. get_or ds to 0) set ∙ get_or-set_same (digits (map count ts) n) to digit 0 (omega arith) in
+      let now = get_or_by (store_at ts after) (values (get_or ts to Boolean)) to (get_or (digits (map count ts) after) to 0) d (value_at after to below_after target) in
+      let before = get_or_by (store_at ts n) (values (get_or ts from Boolean)) from (get_or (digits (map count ts) n) from 0) d (value_at n from below source) in
+      now ∙ (ap (λ k. get_or (values (get_or ts to Boolean)) k d) (changed ∙ read)
+      ∙ (ap (λ t. get_or (values t) (get_or (digits (map count ts) n) from 0) d) (get_or_by ts ts to from Boolean alike) ∙ sym before))
+
+  -- any other variable
+  other : (i : ℕ) (d : ValueTree) → i < length ts → ¬ (i ≡ to) → get_or (store_at ts after) i d ≡ get_or (store_at ts n) i d
+  other i d variable apart =
+      let kept : get_or (digits (map count ts) after) i 0 ≡ get_or (digits (map count ts) n) i 0 = ap (λ ds. get_or ds i 0) set ∙ get_or-set_other (digits (map count ts) n) to i digit 0 apart in
+      get_or_by (store_at ts after) (store_at ts n) i i d
+      (value_at after i below_after variable ∙ (ap (slice_get (values (get_or ts i Boolean))) kept ∙ sym (value_at n i below variable)))
+
+  -- one digit is set to that of another variable: so is the value
+  pub copied_digit : store_at ts after ≡ slice_set (store_at ts n) to (get_or (store_at ts n) from (Truth false))
+  copied_digit =
+      let s = store_at ts n in
+      let v = get_or s from (Truth false) in
+      let long : length s ≡ length ts = length-store ts n s (store_is ts n below) in
+      let long_after : length (store_at ts after) ≡ length ts = length-store ts after (store_at ts after) (store_is ts after below_after) in
+      let long_set : length (slice_set s to v) ≡ length s = length-set s to v in
+      same_lists (store_at ts after) (slice_set s to v) (omega arith) (λ i d within.
+      dite (ℕ_discrete i to)
+      (λ (same : i ≡ to). subst (λ k. get_or (store_at ts after) k d ≡ get_or (slice_set s to v) k d) (sym same)
+      (here d ∙ (get_or_default s from d (Truth false) (omega arith) ∙ sym (get_or-set_same s to v d (omega arith)))))
+      (λ (apart : ¬ (i ≡ to)). other i d (omega (arith, within)) apart ∙ sym (get_or-set_other s to i v d apart)))
 
 -- ---- one value after the other
 

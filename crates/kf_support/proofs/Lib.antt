@@ -13,6 +13,7 @@ mod Adding
 mod Settling
 mod Weighing
 mod Stepping
+mod Staying
 mod Copying
 mod Passing
 mod FirstStore

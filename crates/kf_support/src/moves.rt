@@ -1,6 +1,6 @@
 //! Where one change leads a store.
 
-ghost use Rattle.std.specs.Prelude.{◌≡◌, ◌<◌, false, Some, length, get_or, slice_get, slice_set, IfOk, IfSome};
+ghost use Rattle.std.specs.Prelude.{◌≡◌, ◌<◌, false, Some, length, get_or, slice_get, slice_set, IfSome};
 ghost use Rattle.kf_value.specs.Values.{Truth};
 ghost use Rattle.kf_value.specs.Forms.{IsWellFormed};
 ghost use Rattle.kf_value.specs.Views.{value_tree};
@@ -11,9 +11,7 @@ ghost use Rattle.kf_core.specs.Runs.{copied, replaced, store_at};
 ghost use Rattle.kf_support.specs.Moves.{store_behind};
 
 use kf_core::Program;
-use kf_eval::value_in;
-use kf_value::{Mem, Shape, Value};
-use std::alloc::Global;
+use kf_value::{Shape, Value, store_laws};
 
 /// The store with the variable at `slot` changed; none where the value isn't of its type.
 pub fn moved(shape: &Shape, slot: usize, store: u64, value: &Value) -> Option<u64>
@@ -44,34 +42,32 @@ pub fn store_behind(shape: &Shape, into: Option<usize>, store: u64, value: &Valu
 }
 
 /// The store where the variable `to` has the value of `from`, which is of its type.
-fn copied_to(alloc: Global, shape: &Shape, store: u64, from: usize, to: usize) -> Result<u64, Mem>
+fn copied_to(shape: &Shape, store: u64, from: usize, to: usize) -> u64
     requires store { store < shape_size shape.now }
     requires from { from < length (shape_types shape.now) }
     requires to { to < length (shape_types shape.now) }
     requires alike { slice_get (shape_types shape.now) to ≡ slice_get (shape_types shape.now) from }
-    ensures copied { IfOk result (λ after. store_at (shape_types shape.now) after
-        ≡ slice_set (store_at (shape_types shape.now) store) to (get_or (store_at (shape_types shape.now) store) from (Truth false))) }
-    ensures below { IfOk result (λ after. after < shape_size shape.now) }
+    ensures copied { store_at (shape_types shape.now) result
+        ≡ slice_set (store_at (shape_types shape.now) store) to (get_or (store_at (shape_types shape.now) store) from (Truth false)) }
+    ensures below { result < shape_size shape.now }
 {
-    let value = value_in(alloc, shape, store, from)?;
-    match shape.with_slot(store, to, &value) {
-        Ok(after) => Ok(after),
-        Err(_) => unreachable!(),
-    }
+    store_laws();
+    let digit = shape.slot(store, from);
+    shape.with_digit(store, to, digit)
 }
 
 /// The store with the carried copies set.
-pub fn copied_store(alloc: Global, program: &Program, store: u64) -> Result<u64, Mem>
+pub fn copied_store(program: &Program, store: u64) -> u64
     requires checked { IsChecked (program_tree program.now) }
     requires store { store < shape_size program.now.shape }
-    ensures copied { IfOk result (λ after. after ≡ copied (program_tree program.now) store) }
-    ensures below { IfOk result (λ after. after < shape_size program.now.shape) }
+    ensures copied { result ≡ copied (program_tree program.now) store }
+    ensures below { result < shape_size program.now.shape }
 {
     let mut place = program.decls.as_slice().len();
     let mut after = store;
     for slot in program.copies.as_slice() {
-        after = copied_to(alloc, &program.shape, after, usize::from(*slot), place)?;
+        after = copied_to(&program.shape, after, usize::from(*slot), place);
         place += 1;
     }
-    Ok(after)
+    after
 }

@@ -21,7 +21,7 @@ use crate::faults::{Halt, RunFault, fault_of};
 use crate::moves::{copied_store, moved};
 use crate::ways::{FEW, scaled, settled, shortened};
 use kf_core::{Dx, Program, choice_laws};
-use kf_eval::{Choice, Memo, Weighted, choices};
+use kf_eval::{Choice, Memo, Weighted, choices, is_always_sure};
 use kf_value::{Mem, Shape, is_true};
 use std::alloc::Global;
 
@@ -158,7 +158,7 @@ pub fn assign(
     Ok(reached)
 }
 
-/// The same stores behind an observation.
+/// The same stores behind an observation. Nothing is evaluated where the distribution is known to choose one value.
 pub fn observe(
     alloc: Global,
     shape: &Shape,
@@ -170,6 +170,11 @@ pub fn observe(
     ensures answer { AnswersPass result (carry_step (observe_lead (shape_types shape.now) (dx_tree dist.now)) [] from.now) }
     ensures ways { IfOk result (λ m. AreReached (shape_size shape.now) m.items) }
 {
+    if is_always_sure(dist) {
+        let same = from.to_vec(alloc)?;
+        let stayed = settled(alloc, same)?;
+        return Ok(stayed);
+    }
     let mut next = Vec::new(alloc);
     let mut memo = Memo::new(alloc, shape, dist, from.len())?;
     for way in from {
@@ -214,7 +219,7 @@ pub fn guard(
     ensures fault { IfErr result (λ e. IsHaltOf (carry_step (guard_lead true (tried (shape_types shape.now) (dx_tree dist.now))) [] from.now) e) }
     ensures ways { IfOk result (λ b. AreReached (shape_size shape.now) b.taken.items × AreWays (shape_size shape.now) b.left.items) }
 {
-    let mut taken = Vec::new(alloc);
+    let mut taken = Vec::with_capacity(alloc, from.len())?;
     let mut left = left;
     let mut memo = Memo::new(alloc, shape, dist, from.len())?;
     for way in from {
@@ -277,9 +282,9 @@ pub fn copy(
     ensures answer { AnswersPass result (carry_step (copy_lead (program_tree program.now)) [] from.now) }
     ensures ways { IfOk result (λ m. AreReached (shape_size program.now.shape) m.items) }
 {
-    let mut next = Vec::new(alloc);
+    let mut next = Vec::with_capacity(alloc, from.len())?;
     for way in from {
-        let after = copied_store(alloc, program, way.0)?;
+        let after = copied_store(program, way.0);
         next.push((after, way.1))?;
     }
     let reached = settled(alloc, next)?;

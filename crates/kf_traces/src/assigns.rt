@@ -93,7 +93,7 @@ pub fn copy(
 {
     let mut copied = BTreeMap::new(alloc);
     for (store, weight) in stores {
-        let after = copied_store(alloc, program, *store)?;
+        let after = copied_store(program, *store);
         add_weight(&mut copied, after, *weight)?;
     }
     Ok(copied)

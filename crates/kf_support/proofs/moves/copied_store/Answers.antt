@@ -6,8 +6,8 @@ use Rattle.kf_core.specs.Views.{dx_items, dx_tree, program_tree}
 use Rattle.kf_support.proofs.Copying.{copy_known, copies_end, drop_past}
 use Rattle.kf_support.proofs.moves.copied_store.Goals as goal
 
-pub copied_to-requires-clause-from : goal.copied_to-requires-clause-from
-copied_to-requires-clause-from c =
+pub copied_to-after-requires-clause-from : goal.copied_to-after-requires-clause-from
+copied_to-after-requires-clause-from c =
     let p = program_tree c.args.program.now in
     let items = c.as_slice-slot-items.ensures in
     let within : c.loop-slot.slot-index < length p.copies = subst (λ (l : List ℕ). c.loop-slot.slot-index < length l) items c.loop-slot-test.true in
@@ -15,8 +15,8 @@ copied_to-requires-clause-from c =
     let place : c.loop-slot.place ≡ length p.decls + c.loop-slot.slot-index = omega (arith, length-map (dx_items c.args.program.now.decls) dx_tree) in
     (copy_known p c.requires.checked c.loop-slot.slot-index c.from.result c.loop-slot.place within read place).0
 
-pub copied_to-requires-clause-alike : goal.copied_to-requires-clause-alike
-copied_to-requires-clause-alike c =
+pub copied_to-after-requires-clause-alike : goal.copied_to-after-requires-clause-alike
+copied_to-after-requires-clause-alike c =
     let p = program_tree c.args.program.now in
     let items = c.as_slice-slot-items.ensures in
     let within : c.loop-slot.slot-index < length p.copies = subst (λ (l : List ℕ). c.loop-slot.slot-index < length l) items c.loop-slot-test.true in

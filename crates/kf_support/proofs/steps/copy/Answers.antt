@@ -15,7 +15,7 @@ loop-way-preserved c =
     let left = drop c.loop-way.way-index c.args.from.now in
     let next = drop_more c.args.from.now c.loop-way.way-index (0, 0) c.loop-way-test.true in
     let lead = copy_lead (program_tree c.args.program.now) in
-    single_step lead (product (shape_sizes c.args.program.now.shape)) (carry_step lead [] c.args.from.now) c.loop-way.next.items e later left next c.loop-way.invariant c.in_ok-after.after (ap (λ (n : ℕ). led (n ∷ []) 1) (sym c.in_ok-after.ensures.copied)) c.in_ok-after.ensures.below c.push.new.self.items
+    single_step lead (product (shape_sizes c.args.program.now.shape)) (carry_step lead [] c.args.from.now) c.loop-way.next.items e later left next c.loop-way.invariant c.copied_store-after.result (ap (λ (n : ℕ). led (n ∷ []) 1) (sym c.copied_store-after.ensures.copied)) c.copied_store-after.ensures.below c.push.new.self.items
     c.in_ok-push.ensures.items
 
 pub returns-clause-ways : goal.returns-clause-ways

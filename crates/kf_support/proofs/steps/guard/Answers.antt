@@ -35,4 +35,4 @@ loop-way-preserved c =
 
 pub returns-clause-ways : goal.returns-clause-ways
 returns-clause-ways c =
-    (settled_reached (product (shape_sizes c.args.shape.now)) c.loop-way.taken.items c.in_ok-taken.taken.items c.loop-way.invariant.on.ways c.in_ok-taken.ensures.settled, c.loop-way.invariant.off.ways)
+    (settled_reached (product (shape_sizes c.args.shape.now)) c.loop-way.taken.items c.in_ok-taken-2.taken.items c.loop-way.invariant.on.ways c.in_ok-taken-2.ensures.settled, c.loop-way.invariant.off.ways)

@@ -1,4 +1,4 @@
-use Rattle.std.proofs.Common.{ℕ, drop, get_or, ◌+◌, ◌≤◌, subst, [], ◌∷◌, ◌++◌, ◌∙◌, ap, true}
+use Rattle.std.proofs.Common.{rules, ℕ, drop, get_or, ◌+◌, ◌≤◌, subst, [], ◌∷◌, ◌++◌, ◌∙◌, ap, true}
 use Rattle.std.proofs.lemmas.List.{drop_more}
 use Rattle.kf_value.specs.Shapes.{shape_types, shape_sizes}
 use Rattle.kf_value.specs.Types.{product}
@@ -9,8 +9,26 @@ use Rattle.kf_support.specs.Carried.{carry_step, observe_lead, staying}
 use Rattle.kf_support.proofs.Adding.{first_way}
 use Rattle.kf_support.proofs.Settling.{settled_reached}
 use Rattle.kf_support.proofs.Weighing.{kept_choice}
+use Rattle.kf_support.proofs.Staying.{same_ways, stays_there}
 use Rattle.kf_support.proofs.Stepping.{carries_step, grown_scale, led, same_value, self_added, stays}
 use Rattle.kf_support.proofs.steps.observe.Goals as goal
+
+pub settled-requires : goal.settled-requires
+settled-requires c =
+    let is = c.in_ok-same.ensures.items_if_clones_equal (λ x y clone. search rules) in
+    record { ways = (product (shape_sizes c.args.shape.now), same_ways (product (shape_sizes c.args.shape.now)) c.args.from.now c.in_ok-same.same.items c.requires.ways is) }
+
+pub returns-then-is_always_sure-clause-answer : goal.returns-then-is_always_sure-clause-answer
+returns-then-is_always_sure-clause-answer c =
+    let is = c.in_ok-same.ensures.items_if_clones_equal (λ x y clone. search rules) in
+    stays_there (product (shape_sizes c.args.shape.now)) c.args.from.now c.in_ok-same.same.items c.requires.ways is
+    (shape_types c.args.shape.now) (dx_tree c.args.dist.now) c.in_ok-stayed.stayed.items (c.is_always_sure.ensures c.if-is_always_sure.true) c.in_ok-stayed.ensures.settled
+
+pub returns-then-is_always_sure-clause-ways : goal.returns-then-is_always_sure-clause-ways
+returns-then-is_always_sure-clause-ways c =
+    let is = c.in_ok-same.ensures.items_if_clones_equal (λ x y clone. search rules) in
+    let ways = same_ways (product (shape_sizes c.args.shape.now)) c.args.from.now c.in_ok-same.same.items c.requires.ways is in
+    settled_reached (product (shape_sizes c.args.shape.now)) c.in_ok-same.same.items c.in_ok-stayed.stayed.items ways c.in_ok-stayed.ensures.settled
 
 pub loop-way-preserved : goal.loop-way-preserved
 loop-way-preserved c =

@@ -1,5 +1,5 @@
 // Fractions, divisors and products, worked out by hand.
-use kf_frac::{Frac, Product, Wide, add, cmp, gcd, lcm, make, mul, share};
+use kf_frac::{Frac, Product, Wide, add, cmp, gcd, lcm, make, mul, quotient, share};
 use std::cmp::Ordering;
 use std::test::Fail;
 
@@ -90,9 +90,18 @@ fn finds_divisors_and_multiples(rt: HostRuntime) {
     assert_eq!(rt; gcd(12, 18), 6);
     assert_eq!(rt; gcd(0, 5), 5);
     assert_eq!(rt; gcd(0, 0), 0);
+    assert_eq!(rt; gcd(3 << 100, 1 << 101), 1 << 100, "over 64 bits");
     assert_eq!(rt; lcm(4, 6), Some(12));
     assert_eq!(rt; lcm(1 << 126, 2), Some(1 << 126));
     assert_eq!(rt; lcm(1 << 126, 3), None);
+}
+
+#[test]
+fn divides_in_each_width(rt: HostRuntime) {
+    assert_eq!(rt; quotient(17, 5), 3);
+    assert_eq!(rt; quotient(5, 17), 0);
+    assert_eq!(rt; quotient(3 << 100, 1 << 100), 3, "over 64 bits");
+    assert_eq!(rt; quotient(1 << 126, 1), 1 << 126);
 }
 
 #[test]

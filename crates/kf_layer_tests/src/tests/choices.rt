@@ -2,7 +2,7 @@
 use crate::tests::values::{first_observed, has_a_store, observing};
 use crate::tests::*;
 use itoa::Buffer;
-use kf_eval::{Choice, ChoiceError, choices};
+use kf_eval::{Choice, ChoiceError, choices, is_always_sure};
 use kf_value::print_value;
 
 // What the distribution chooses where `x` is 0, or its fault.
@@ -103,6 +103,30 @@ fn choices_of_distributions(rt: HostRuntime) -> Result<(), Fail> {
         let choice = choices_of(rt.alloc(), dist)?;
         let text = shown(rt.alloc(), choice)?;
         assert_eq!(rt; text.as_slice(), want.as_bytes(), "{dist}");
+    }
+    Ok(())
+}
+
+// Distributions, each with whether its form tells that it chooses one value.
+const FORMS: [(&str, bool); 8] = [
+    ("x", true),
+    ("(x, true) = (x mod 3, x < 5)", true),
+    ("x in {0, 1} union {x}", true),
+    ("cond(x = 0, {x}, {1})", true),
+    ("x + 1", false),
+    ("1 mod x", false),
+    ("1 mod 0", false),
+    ("flip 1/2", false),
+];
+
+#[test]
+fn distributions_of_one_value(rt: HostRuntime) -> Result<(), Fail> {
+    for (dist, want) in &FORMS {
+        let program = observing(rt.alloc(), dist)?;
+        let Some(d) = first_observed(&program) else {
+            return Err(Fail::new("nothing is observed"));
+        };
+        assert_eq!(rt; is_always_sure(d), *want, "{dist}");
     }
     Ok(())
 }

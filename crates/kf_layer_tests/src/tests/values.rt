@@ -284,7 +284,7 @@ const TRUTHS: [(&str, &str); 45] = [
     ("1 = 1 xor 2 = 2", "false"),
 ];
 
-const COMPARISONS: [(&str, &str); 21] = [
+const COMPARISONS: [(&str, &str); 23] = [
     ("1 = 1", "true"),
     ("1 = 2", "false"),
     ("1 != 1", "false"),
@@ -300,6 +300,8 @@ const COMPARISONS: [(&str, &str); 21] = [
     ("(1, 2) = (1, 2)", "true"),
     ("(1, 2) = (1, 3)", "false"),
     ("(1, 2) != (2, 1)", "true"),
+    ("(1, 2) != (1, 2)", "false"),
+    ("(x, (1, 2)) = (0, (1, 2))", "true"),
     ("{1, 2} = {2, 1}", "true"),
     ("{1} = {1, 2}", "false"),
     ("{1, 2} != {1}", "true"),
@@ -378,7 +380,7 @@ const PARTS: [(&str, &str); 20] = [
 ];
 
 // Of several faults the first from left to right.
-const FAULTS: [(&str, &str); 31] = [
+const FAULTS: [(&str, &str); 35] = [
     ("1 div 0 + 1000000000 * 1000000000 * 1000000000", "DivZero"),
     (
         "1000000000 * 1000000000 * 1000000000 + 1 div 0",
@@ -412,6 +414,16 @@ const FAULTS: [(&str, &str); 31] = [
     ("{1} less {1 div 0}", "DivZero"),
     ("1 in {1, 1 div 0}", "DivZero"),
     ("not 1 = 1 div 0", "DivZero"),
+    ("(1, 1 div 0) = (2, 0)", "DivZero"),
+    ("(1, 0) != (2, 1 div 0)", "DivZero"),
+    (
+        "(0, 1 div 0) = (1000000000 * 1000000000 * 1000000000, 0)",
+        "DivZero",
+    ),
+    (
+        "(0, 1000000000 * 1000000000 * 1000000000) != (1 div 0, 0)",
+        "ArithWide",
+    ),
     (
         "cond(1 div 0 = 1, 1000000000 * 1000000000 * 1000000000, 2)",
         "DivZero",

@@ -41,9 +41,16 @@ pub fn chosen_in(
 }
 
 /// What goes with each unit of the choices' weights, of a store's weight.
+///
+/// Totals are mostly powers of two, and then no division is needed.
 pub fn share_of(weight: u128, total: u128) -> u128
     requires some { 0 < total }
     ensures { result ≡ weight / total }
 {
-    quotient(weight, total)
+    let twos = total.trailing_zeros();
+    if total >> twos == 1 {
+        weight >> twos
+    } else {
+        quotient(weight, total)
+    }
 }

@@ -12,3 +12,4 @@ pub mod Declarations
 pub mod Making
 pub mod Parting
 pub mod Meant
+pub mod Groups

@@ -9,9 +9,9 @@ use Rattle.std.specs.declared.cmp.Ordering.{Ordering}
 use Rattle.std.specs.declared.cmp.Ordering.TheVariants.{Less, Equal, Greater}
 use Rattle.std.proofs.lemmas.Bool.{eqb-true}
 use Rattle.std.proofs.lemmas.Bool.Decides.{nat_tests}
-use Rattle.std.proofs.lemmas.List.{map-append, drop_all, drop-drop, nil_from_length, take_all, take_more}
+use Rattle.std.proofs.lemmas.List.{map-append, drop_all, nil_from_length, take_all, take_more}
 use Rattle.std.proofs.lemmas.List.Elements.{All-from_recursion, recursion_from_All}
-use Rattle.std.proofs.lemmas.List.Sorted.{All-permutation, IsPermutation-map, ranks_by, sorted_far, sum_by-IsPermutation}
+use Rattle.std.proofs.lemmas.List.Sorted.{IsPermutation-map, ranks_by, sorted_far, sum_by-IsPermutation}
 use Rattle.std.proofs.lemmas.List.Sums.{sum_by-cons, sum_by-append}
 use Rattle.kf_value.specs.Values.{ValueTree, is_equal, order}
 use Rattle.kf_value.specs.Views.{value_tree}
@@ -30,10 +30,42 @@ use Rattle.kf_core.proofs.Measures.{Full}
 use Rattle.kf_core.proofs.Sums.{adds, adds_mapped, sum_is}
 use Rattle.kf_run.specs.Spreading.{IsFront, Rise, leak_order}
 use Rattle.kf_hyper.specs.Sums.{asked_weight}
+use Rattle.kf_run.specs.Groups.{AreSame}
 use Rattle.kf_run.specs.Ways.{Way, HasRows, IsShared, along, held, leaked, way_total}
 use Rattle.kf_run.specs.declared.ways.Leak.{Leak}
 use Rattle.kf_run.proofs.RowsTold.{Trace, IsSolidRow, in_row, rows_told}
 use Rattle.kf_run.proofs.Sharing.{along_weighs, held_in, held_is, held_joined}
+
+-- ---- facts of each way
+
+each_front : (P : Way → Type 0) (us vs : List Way) → Each P (us ++ vs) → Each P us
+each_front P [] vs all = tt
+each_front P (u ∷ us) vs all = (all.0, each_front P us vs all.1)
+
+each_back : (P : Way → Type 0) (us vs : List Way) → Each P (us ++ vs) → Each P vs
+each_back P [] vs all = all
+each_back P (u ∷ us) vs all = each_back P us vs all.1
+
+none_of : (f : Way → ℕ) (ways : List Way) → Each (λ w. f w ≡ 0) ways → sum_by f ways ≡ 0
+none_of f [] all = refl
+none_of f (w ∷ ways) all = omega (arith, all.0, none_of f ways all.1, sum_by-cons f w ways)
+
+each_none : (f : Way → ℕ) (ways : List Way) → sum_by f ways ≡ 0 → Each (λ w. f w ≡ 0) ways
+each_none f [] none = tt
+each_none f (w ∷ ways) none = (omega (arith, none, sum_by-cons f w ways), each_none f ways (omega (arith, none, sum_by-cons f w ways)))
+
+-- ways in another order have some weight, and lead to stores below a size, as they did before
+pub same_positive : (us vs : List Way) → AreSame us vs → Each (λ w. 0 < w.weight) us → Each (λ w. 0 < w.weight) vs
+same_positive us vs same all =
+    let f : Way → ℕ = λ w. 1 - w.weight in
+    let before = each_weaker (λ w. 0 < w.weight) (λ w. f w ≡ 0) (λ w some. omega (arith, some)) us all in
+    each_weaker (λ w. f w ≡ 0) (λ w. 0 < w.weight) (λ w none. omega (arith, none)) vs (each_none f vs (same f ∙ none_of f us before))
+
+pub same_below : (size : ℕ) (us vs : List Way) → AreSame us vs → Each (λ w. w.to < size) us → Each (λ w. w.to < size) vs
+same_below size us vs same all =
+    let f : Way → ℕ = λ w. w.to + 1 - size in
+    let before = each_weaker (λ w. w.to < size) (λ w. f w ≡ 0) (λ w low. omega (arith, low)) us all in
+    each_weaker (λ w. f w ≡ 0) (λ w. w.to < size) (λ w none. omega (arith, none)) vs (each_none f vs (same f ∙ none_of f us before))
 
 -- ---- rows of ways
 
@@ -91,14 +123,6 @@ module _ (trace : Trace) (es column : List Entry) (weights : (asked : ℕ → Bo
     later = λ t less. (first_later t es (λ none. is.some (no_column none)) (each_front (λ (w : Way). trace_order t w.trace ≡ Less) (map (along trace) es) ways less), rest.later t (each_back (λ (w : Way). trace_order t w.trace ≡ Less) (map (along trace) es) ways less));
   }
     where
-      each_front : (P : Way → Type 0) (us vs : List Way) → Each P (us ++ vs) → Each P us
-      each_front P [] vs all = tt
-      each_front P (u ∷ us) vs all = (all.0, each_front P us vs all.1)
-
-      each_back : (P : Way → Type 0) (us vs : List Way) → Each P (us ++ vs) → Each P vs
-      each_back P [] vs all = all
-      each_back P (u ∷ us) vs all = each_back P us vs all.1
-
       first_later : (t : Trace) (es : List Entry) → (es ≡ [] → ⊥) → Each (λ (w : Way). trace_order t w.trace ≡ Less) (map (along trace) es) → trace_order t trace ≡ Less
       first_later t [] some all = absurd (some refl)
       first_later t (e ∷ es) some all = all.0
@@ -238,70 +262,116 @@ module _ (ls : List Leak) (v : ValueTree) where
         later = later_all v (drop i ls) (rise_drop i ls up) (λ d some. ap (λ m. order v (value_of m)) (get_dropped i ls d ∙ default ls i d l within ∙ sym is) ∙ less);
       }
 
--- ---- the columns of leaks in order
+-- ---- columns of ways, one after the other
+
+pub record Goes (whole : List Way) (old now : List (List Entry)) (rest : List Row) : Type 0 where
+  pub all : List Row
+  pub grouped : IsGrouped whole all
+  pub is : now ++ columns_of rest ≡ old ++ columns_of all
+  pub below : (size : ℕ) → Each (λ (w : Way). w.to < size) whole → Each (IsBelow size) (columns_of rest) → Each (IsBelow size) (columns_of all)
+
+-- whatever rows are those of the ways that are left, behind the columns so far they complete the whole
+pub record GoesOn (whole left : List Way) (old now : List (List Entry)) : Type 0 where
+  pub rows : (rest : List Row) → IsGrouped left rest → Goes whole old now rest
+  pub positive : Each (λ (w : Way). 0 < w.weight) left
+  pub fits : way_total left ≤ way_total whole
+  pub below : (size : ℕ) → Each (λ (w : Way). w.to < size) whole → Each (λ (w : Way). w.to < size) left
+
+pub goes_start : (whole : List Way) (old : List (List Entry)) → Each (λ (w : Way). 0 < w.weight) whole → GoesOn whole whole old old
+goes_start whole old positive = record {
+  rows = λ rest grouped. record { all = rest; grouped = grouped; is = refl; below = λ size low had. had };
+  positive = positive;
+  fits = omega arith;
+  below = λ size low. low;
+}
+
+along_each : (P : Way → Type 0) (trace : Trace) (es : List Entry) → Each P (map (along trace) es) → Each (λ e. P (along trace e)) es
+along_each P trace [] all = tt
+along_each P trace (e ∷ es) all = (all.0, along_each P trace es all.1)
+
+module _ (whole left after : List Way) (old now : List (List Entry)) (on : GoesOn whole left old now) (trace : Trace) (es : List Entry) (splits : left ≡ map (along trace) es ++ after) where
+  both_total : way_total left ≡ total es + way_total after
+  both_total = ap way_total splits ∙ sum_by-append (λ (w : Way). w.weight) (map (along trace) es) after ∙ ap (λ n. n + way_total after) (along_weighs trace es)
+
+  pub first_positive : All (λ e. 0 < e.weight) es
+  first_positive =
+      All-from_recursion (λ (e : Entry). 0 < e.weight) es
+      (along_each (λ (w : Way). 0 < w.weight) trace es (each_front (λ (w : Way). 0 < w.weight) (map (along trace) es) after (subst (Each (λ (w : Way). 0 < w.weight)) splits on.positive)))
+
+  pub first_fits : (bound : ℕ) → way_total whole < bound → total es < bound
+  first_fits bound fits = omega (arith, both_total, on.fits, fits)
+
+  pub goes_more : (column : List Entry) (next : List (List Entry)) → Each (λ (w : Way). trace_order trace w.trace ≡ Less) after
+      → ((asked : ℕ → Bool) → asked_weight asked column ≡ asked_weight asked es) → total column ≡ total es
+      → IsColumn column → ((size : ℕ) → IsBelow size es → IsBelow size column) → next ≡ now ++ column ∷ [] → GoesOn whole after old next
+  goes_more column next later weights same_total is_column lower pushed =
+      let both_below = λ (size : ℕ) (low : Each (λ (w : Way). w.to < size) whole). subst (Each (λ (w : Way). w.to < size)) splits (on.below size low) in
+      record {
+        rows = λ rest grouped.
+            let more = more_grouped trace es column weights same_total is_column after rest later grouped in
+            let there = on.rows (record { trace = trace; column = column } ∷ rest) (subst (λ l. IsGrouped l (record { trace = trace; column = column } ∷ rest)) (sym splits) more) in
+            record {
+              all = there.all;
+              grouped = there.grouped;
+              is = ap (λ l. l ++ columns_of rest) pushed ∙ append_assoc now (column ∷ []) (columns_of rest) ∙ there.is;
+              below = λ size low had. there.below size low (
+                lower size (All-from_recursion (λ (e : Entry). e.value < size) es (along_each (λ (w : Way). w.to < size) trace es (each_front (λ (w : Way). w.to < size) (map (along trace) es) after (both_below size low)))),
+                had,
+              );
+            };
+        positive = each_back (λ (w : Way). 0 < w.weight) (map (along trace) es) after (subst (Each (λ (w : Way). 0 < w.weight)) splits on.positive);
+        fits = omega (arith, both_total, on.fits);
+        below = λ size low. each_back (λ (w : Way). w.to < size) (map (along trace) es) after (both_below size low);
+      }
+
+-- where nothing is left the rows are all
+pub all_rows : (from : ℕ → List Run) (size : ℕ) (column : List Entry) (ways whole : List Way) (old now : List (List Entry)) → AreSame ways whole
+    → GoesOn whole [] old now → IsShared from column ways → Each (λ w. w.to < size) ways → HasRows from size column old now
+all_rows from size column ways whole old now same on shared low =
+    let done = on.rows [] none_grouped in
+    have_rows from size column ways whole done.all old now shared (λ t x. same (held_in t x)) (same (λ w. w.weight)) done.grouped (sym (append-nil now) ∙ done.is)
+    (done.below size (same_below size ways whole same low) tt)
+
+-- ---- leaks in order, as ways
 
 abbrev pub entry_of : Leak → Entry
 entry_of l = record { value = l.to; weight = l.weight }
 
-pub record Goes (sorted : List Leak) (old now : List (List Entry)) (rest : List Row) : Type 0 where
-  pub all : List Row
-  pub grouped : IsGrouped (map leaked sorted) all
-  pub is : now ++ columns_of rest ≡ old ++ columns_of all
-  pub below : (size : ℕ) → Each (λ (l : Leak). l.to < size) sorted → Each (IsBelow size) (columns_of rest) → Each (IsBelow size) (columns_of all)
+pub sorted_same : (leaks sorted : List Leak) → IsPermutation leaks sorted → AreSame (map leaked leaks) (map leaked sorted)
+sorted_same leaks sorted moved = λ f. sum_by-IsPermutation f (map leaked leaks) (map leaked sorted) (IsPermutation-map leaked leaks sorted moved)
 
--- whatever rows are those of the leaks that are left, behind the columns so far they complete the whole
-abbrev pub GoesOn : List Leak → ℕ → List (List Entry) → List (List Entry) → Type 0
-GoesOn sorted at old now = (rest : List Row) → IsGrouped (map leaked (drop at sorted)) rest → Goes sorted old now rest
+pub ways_positive : (leaks : List Leak) → All (λ l. 0 < l.weight) leaks → Each (λ w. 0 < w.weight) (map leaked leaks)
+ways_positive leaks positive = each_map (λ (w : Way). 0 < w.weight) leaked leaks (recursion_from_All (λ (l : Leak). 0 < l.weight) leaks positive)
 
-pub goes_start : (sorted : List Leak) (old : List (List Entry)) → GoesOn sorted 0 old old
-goes_start sorted old rest grouped = record { all = rest; grouped = grouped; is = refl; below = λ size low had. had }
-
-each_taken : {X : Type 0} (P : X → Type 0) (n : ℕ) (xs : List X) → Each P xs → Each P (take n xs)
-each_taken P zero xs all = tt
-each_taken P (suc n) [] all = tt
-each_taken P (suc n) (x ∷ xs) all = (all.0, each_taken P n xs all.1)
-
-each_dropped : {X : Type 0} (P : X → Type 0) (n : ℕ) (xs : List X) → Each P xs → Each P (drop n xs)
-each_dropped P zero xs all = all
-each_dropped P (suc n) [] all = tt
-each_dropped P (suc n) (x ∷ xs) all = each_dropped P n xs all.1
+pub ways_below : (size : ℕ) (leaks : List Leak) → All (λ l. l.to < size) leaks → Each (λ w. w.to < size) (map leaked leaks)
+ways_below size leaks low = each_map (λ (w : Way). w.to < size) leaked leaks (recursion_from_All (λ (l : Leak). l.to < size) leaks low)
 
 front_along : (v : ValueTree) (ls : List Leak) → Each (λ l. value_of l ≡ v) ls → map leaked ls ≡ map (along (v ∷ [])) (map entry_of ls)
 front_along v [] all = refl
 front_along v (l ∷ ls) all = λ i. record { trace = all.0 i ∷ []; to = l.to; weight = l.weight } ∷ front_along v ls all.1 i
 
-after_front : (v : ValueTree) (ls : List Leak) → Each (λ l. order v (value_of l) ≡ Less) ls → Each (λ (w : Way). trace_order (v ∷ []) w.trace ≡ Less) (map leaked ls)
+pub after_front : (v : ValueTree) (ls : List Leak) → Each (λ l. order v (value_of l) ≡ Less) ls → Each (λ (w : Way). trace_order (v ∷ []) w.trace ≡ Less) (map leaked ls)
 after_front v [] all = tt
 after_front v (l ∷ ls) all = (first_less (order v (value_of l)) _ all.0, after_front v ls all.1)
 
-parts : (n : ℕ) (ls : List Leak) → map leaked ls ≡ map leaked (take n ls) ++ map leaked (drop n ls)
-parts n ls = ap (map leaked) (sym (take-append-drop n ls)) ∙ map-append leaked (take n ls) (drop n ls)
-
-entries_below : (size : ℕ) (ls : List Leak) → Each (λ (l : Leak). l.to < size) ls → Each (λ (e : Entry). e.value < size) (map entry_of ls)
-entries_below size ls all = each_map (λ (e : Entry). e.value < size) entry_of ls all
-
-module _ (sorted : List Leak) (at : ℕ) (old now : List (List Entry)) (on : GoesOn sorted at old now) (count : ℕ) (front : IsFront (drop at sorted) count) where
-  abbrev pub left : List Leak
+module _ (sorted : List Leak) (at count : ℕ) (front : IsFront (drop at sorted) count) (es : List Entry) (is : es ≡ map entry_of (take count (drop at sorted))) where
+  abbrev left : List Leak
   left = drop at sorted
 
-  pub goes_more : (es column : List Entry) (next : List (List Entry)) → es ≡ map entry_of (take count left) → ((asked : ℕ → Bool) → asked_weight asked column ≡ asked_weight asked es) → total column ≡ total es
-      → IsColumn column → ((size : ℕ) → IsBelow size es → IsBelow size column) → next ≡ now ++ column ∷ [] → GoesOn sorted (at + count) old next
-  goes_more es column next is weights same_total is_column lower pushed rest grouped =
-      let v = front.value in
-      let grouped_rest = subst (λ l. IsGrouped (map leaked l) rest) (sym (drop-drop count at sorted)) grouped in
-      let more = more_grouped (v ∷ []) es column weights same_total is_column (map leaked (drop count left)) rest (after_front v (drop count left) front.later) grouped_rest in
-      let ways : map (along (v ∷ [])) es ++ map leaked (drop count left) ≡ map leaked left =
-      ap (λ l. map (along (v ∷ [])) l ++ map leaked (drop count left)) is ∙ ap (λ l. l ++ map leaked (drop count left)) (sym (front_along v (take count left) front.same)) ∙ sym (parts count left) in
-      let there = on (record { trace = v ∷ []; column = column } ∷ rest) (subst (λ l. IsGrouped l (record { trace = v ∷ []; column = column } ∷ rest)) ways more) in
-      record {
-        all = there.all;
-        grouped = there.grouped;
-        is = ap (λ l. l ++ columns_of rest) pushed ∙ append_assoc now (column ∷ []) (columns_of rest) ∙ there.is;
-        below = λ size low had. there.below size low (
-          lower size (All-from_recursion (λ (e : Entry). e.value < size) es (subst (Each (λ (e : Entry). e.value < size)) (sym is) (entries_below size (take count left) (each_taken (λ (l : Leak). l.to < size) count left (each_dropped (λ (l : Leak). l.to < size) at sorted low))))),
-          had,
-        );
-      }
+  -- the front's ways, and those of the leaks behind it
+  pub front_splits : map leaked left ≡ map (along (front.value ∷ [])) es ++ map leaked (drop count left)
+  front_splits =
+      ap (map leaked) (sym (take-append-drop count left)) ∙ map-append leaked (take count left) (drop count left)
+      ∙ ap (λ l. l ++ map leaked (drop count left)) (front_along front.value (take count left) front.same ∙ ap (map (along (front.value ∷ []))) (sym is))
+
+  pub front_full : 0 < count → at < length sorted → es ≡ [] → ⊥
+  front_full some within none = by count sorted at some within (sym is ∙ none)
+    where
+      by : (count : ℕ) (ls : List Leak) (at : ℕ) → 0 < count → at < length ls → map entry_of (take count (drop at ls)) ≡ [] → ⊥
+      by count [] at some within none = absurd (omega (arith, within))
+      by zero (l ∷ ls) at some within none = absurd (omega (arith, some))
+      by (suc count) (l ∷ ls) zero some within none = absurd (cc)
+      by (suc count) (l ∷ ls) (suc at) some within none = by (suc count) ls at some (omega (arith, within)) none
 
 length_dropped : (n : ℕ) (ls : List Leak) → length (drop n ls) ≤ length ls - n
 length_dropped zero ls = omega arith
@@ -311,53 +381,6 @@ length_dropped (suc n) (l ∷ ls) = omega (arith, length_dropped n ls)
 -- a slice from a place on is all that is left there
 pub rest_is : (n : ℕ) (ls : List Leak) → take (length ls - n) (drop n ls) ≡ drop n ls
 rest_is n ls = take_all (length ls - n) (drop n ls) (length_dropped n ls)
-
--- ---- the weights of a front
-
-weigh_taken : (n : ℕ) (ls : List Leak) → total (map entry_of (take n ls)) ≤ way_total (map leaked ls)
-weigh_taken zero ls = omega arith
-weigh_taken (suc n) [] = omega arith
-weigh_taken (suc n) (l ∷ ls) = omega (arith, weigh_taken n ls, sum_by-cons (λ (e : Entry). e.weight) (entry_of l) (map entry_of (take n ls)), sum_by-cons (λ (w : Way). w.weight) (leaked l) (map leaked ls))
-
-weigh_dropped : (n : ℕ) (ls : List Leak) → way_total (map leaked (drop n ls)) ≤ way_total (map leaked ls)
-weigh_dropped zero ls = omega arith
-weigh_dropped (suc n) [] = omega arith
-weigh_dropped (suc n) (l ∷ ls) = omega (arith, weigh_dropped n ls, sum_by-cons (λ (w : Way). w.weight) (leaked l) (map leaked ls))
-
-module _ (leaks sorted : List Leak) (moved : IsPermutation leaks sorted) (positive : All (λ l. 0 < l.weight) leaks) (at count : ℕ) (es : List Entry) (is : es ≡ map entry_of (take count (drop at sorted))) where
-  front_each : Each (λ (e : Entry). 0 < e.weight) es
-  front_each =
-      subst (Each (λ (e : Entry). 0 < e.weight)) (sym is)
-      (each_map (λ (e : Entry). 0 < e.weight) entry_of (take count (drop at sorted))
-      (each_taken (λ (l : Leak). 0 < l.weight) count (drop at sorted) (each_dropped (λ (l : Leak). 0 < l.weight) at sorted (recursion_from_All (λ (l : Leak). 0 < l.weight) sorted (All-permutation (λ (l : Leak). 0 < l.weight) leaks sorted moved positive)))))
-
-  pub front_positive : All (λ e. 0 < e.weight) es
-  front_positive = All-from_recursion (λ (e : Entry). 0 < e.weight) es front_each
-
-  pub front_some : 0 < count → at < length sorted → 0 < total es
-  front_some some within = by es count sorted at is some within front_each
-    where
-      by : (es : List Entry) (count : ℕ) (ls : List Leak) (at : ℕ) → es ≡ map entry_of (take count (drop at ls)) → 0 < count → at < length ls → Each (λ (e : Entry). 0 < e.weight) es → 0 < total es
-      by (e ∷ es) count ls at is some within each = omega (arith, each.0, sum_by-cons (λ (e : Entry). e.weight) e es)
-      by [] count [] at is some within each = absurd (omega (arith, within))
-      by [] zero (l ∷ ls) at is some within each = absurd (omega (arith, some))
-      by [] (suc count) (l ∷ ls) zero is some within each = absurd (cc)
-      by [] (suc count) (l ∷ ls) (suc at) is some within each = by [] (suc count) ls at is some (omega (arith, within)) each
-
-  pub front_fits : (bound : ℕ) → way_total (map leaked leaks) < bound → total es < bound
-  front_fits bound fits =
-      let same_total = sum_by-IsPermutation (λ (w : Way). w.weight) (map leaked leaks) (map leaked sorted) (IsPermutation-map leaked leaks sorted moved) in
-      omega (arith, ap total is, weigh_taken count (drop at sorted), weigh_dropped at sorted, same_total, fits)
-
--- behind the last leak the rows are all
-pub leaks_rows : (from : ℕ → List Run) (size : ℕ) (column : List Entry) (leaks sorted : List Leak) (at : ℕ) (old now : List (List Entry)) → IsPermutation leaks sorted
-    → length sorted ≤ at → GoesOn sorted at old now → IsShared from column (map leaked leaks) → All (λ l. l.to < size) leaks → HasRows from size column old now
-leaks_rows from size column leaks sorted at old now moved past on shared low =
-    let done = on [] (subst (λ l. IsGrouped (map leaked l) []) (sym (drop_all at sorted past)) none_grouped) in
-    let ways = IsPermutation-map leaked leaks sorted moved in
-    have_rows from size column (map leaked leaks) (map leaked sorted) done.all old now shared (λ t x. sum_by-IsPermutation (held_in t x) (map leaked leaks) (map leaked sorted) ways)
-    (sum_by-IsPermutation (λ (w : Way). w.weight) (map leaked leaks) (map leaked sorted) ways) done.grouped (sym (append-nil now) ∙ done.is)
-    (done.below size (recursion_from_All (λ (l : Leak). l.to < size) sorted (All-permutation (λ (l : Leak). l.to < size) leaks sorted moved low)) tt)
 
 -- ---- a list by its length
 

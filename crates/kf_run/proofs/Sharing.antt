@@ -1,12 +1,12 @@
 -- The weight of a column's stores, shared out along ways.
 use Rattle.std.proofs.Common.{◌≡◌, ℕ, ◌+◌, ◌*◌, ◌/◌, ◌<◌, ◌≤◌, ◌==◌, Bool, true, false, cond, List, [], ◌∷◌, ◌++◌, Option, Some, None, Ok, Err, All, IsOk, map, get_or, take, length, refl, sym, ap, subst, ◌∙◌, arith, append-nil, mul-pos, div-one, one-mul, if◌then◌else◌}
-use Rattle.std.specs.Prelude.{◌&&◌, sum_by, slice_get}
+use Rattle.std.specs.Prelude.{◌&&◌, slice_get}
 use Rattle.std.specs.Int.{◌∣◌}
 use Rattle.std.specs.Cmp.Lexicographic.{pointwise}
 use Rattle.std.specs.List.{AllByRecursion as Each, flat_map}
-use Rattle.std.proofs.Math.Nat.{mul-one, mul-zero, mul-add, mul-div_assoc, mul-div_cancel', mul_comm, mul-le-mul_left, dvd-mul_right}
+use Rattle.std.proofs.Math.Nat.{mul-one, mul-add, mul-div_assoc, mul-div_cancel', mul_comm, dvd-mul_right}
 use Rattle.std.proofs.lemmas.Grind.{flat_map-append}
-use Rattle.std.proofs.lemmas.List.{map-append, take_all, take_more}
+use Rattle.std.proofs.lemmas.List.{take_all, take_more}
 use Rattle.std.proofs.lemmas.List.Elements.{All-from_recursion, recursion_from_All}
 use Rattle.std.proofs.lemmas.List.Sums.{sum_by-cons, sum_by-append}
 use Rattle.std.proofs.lemmas.Nat.Gcd.{dvd_trans}

@@ -1,13 +1,12 @@
 -- The columns behind columns, one after the other.
-use Rattle.std.proofs.Common.{◌≡◌, ℕ, ◌+◌, ◌<◌, ◌≤◌, ◌^◌, List, [], ◌∷◌, ◌++◌, All, map, take, length, get_or, refl, sym, ap, subst, ◌∙◌, arith, append-nil, append_assoc}
+use Rattle.std.proofs.Common.{◌≡◌, ℕ, ◌+◌, ◌<◌, ◌≤◌, ◌^◌, List, [], ◌∷◌, ◌++◌, All, map, take, length, get_or, refl, sym, ap, subst, ◌∙◌, arith, append-nil}
 use Rattle.std.specs.Prelude.{flat_map}
-use Rattle.std.specs.List.{AllZip, AllByRecursion as Each}
+use Rattle.std.specs.List.{AllByRecursion as Each}
 use Rattle.std.proofs.lemmas.List.{map-append, take_all, take_more}
 use Rattle.std.proofs.lemmas.List.Elements.{All-from_recursion}
 use Rattle.std.proofs.lemmas.List.Sums.{sum_by-append, sum_by_more_le}
 use Rattle.std.proofs.lemmas.Grind.{flat_map-append}
 use Rattle.std.proofs.lemmas.Slice.Zip.{all_zipped_more}
-use Rattle.kf_frac.specs.Fractions.{limit}
 use Rattle.kf_value.proofs.ListLemmas.{each_append}
 use Rattle.kf_hyper.specs.declared.entry.Entry.{Entry}
 use Rattle.kf_hyper.specs.Columns.{total}
@@ -16,7 +15,7 @@ use Rattle.kf_hyper.specs.Merged.{AreMerged}
 use Rattle.kf_hyper.specs.Shapes.{IsBelow}
 use Rattle.kf_hyper.specs.Traces.{Row}
 use Rattle.kf_hyper.proofs.Beliefs.{merged_below}
-use Rattle.kf_core.specs.Pushing.{carried_cells, AreBehind}
+use Rattle.kf_core.specs.Pushing.{carried_cells}
 use Rattle.kf_core.specs.Ready.{IsPushed}
 use Rattle.kf_core.specs.Rows.{AreRowsOf}
 use Rattle.kf_core.specs.Runs.{Run}

@@ -5,3 +5,4 @@ pub mod Going
 pub mod Ways
 pub mod Spreading
 pub mod Pushings
+pub mod Groups

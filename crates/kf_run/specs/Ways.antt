@@ -1,5 +1,5 @@
 -- For bodies: ways of weight: what is leaked on a way, the store to which it leads, and the weight that goes there.
-use Rattle.std.specs.Prelude.{◌≡◌, ℕ, ◌<◌, ◌≤◌, ◌*◌, Bool, ◌&&◌, ◌==◌, List, [], ◌∷◌, ◌++◌, map, sum_by, All, Option, Some, None, if◌then◌else◌}
+use Rattle.std.specs.Prelude.{◌≡◌, ℕ, ◌<◌, ◌≤◌, ◌*◌, Bool, ◌&&◌, ◌==◌, List, [], ◌∷◌, ◌++◌, map, sum_by, Option, Some, None, if◌then◌else◌}
 use Rattle.std.specs.List.{AllByRecursion as Each}
 use Rattle.std.specs.Cmp.Lexicographic.{pointwise}
 use Rattle.kf_value.specs.Types.{TypeTree}
@@ -12,7 +12,7 @@ use Rattle.kf_hyper.specs.Shapes.{IsBelow}
 use Rattle.kf_hyper.specs.Traces.{Row}
 use Rattle.kf_core.specs.Choices.{Weighted}
 use Rattle.kf_core.specs.Joint.{weight_of}
-use Rattle.kf_core.specs.Pushing.{carried_cells, AreBehind}
+use Rattle.kf_core.specs.Pushing.{carried_cells}
 use Rattle.kf_core.specs.Rows.{AreRowsOf}
 use Rattle.kf_core.specs.Runs.{Run, replaced}
 use Rattle.kf_support.specs.Moves.{store_behind}

@@ -3,6 +3,7 @@
 
 mod choosing;
 mod cleared_stages;
+mod grouping;
 mod laws;
 mod moving;
 mod pushes;

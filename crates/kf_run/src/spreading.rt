@@ -1,14 +1,17 @@
 //! What goes from a column's stores, as columns.
 
-ghost use Rattle.std.specs.Prelude.{◌≡◌, ◌<◌, ◌≤◌, ◌^◌, ℕ, List, All, Bool, map, length, IfOk, OnOk};
+ghost use Rattle.std.specs.Prelude.{◌≡◌, ◌<◌, ◌≤◌, ◌^◌, ℕ, List, [], All, Bool, flat_map, map, length, IfOk, OnOk};
+ghost use Rattle.std.specs.List.{AllByRecursion as Each};
 ghost use Rattle.kf_value.specs.Values.{ValueTree};
 ghost use Rattle.kf_hyper.specs.declared.entry.Entry.{Entry as EntryTree};
 ghost use Rattle.kf_hyper.specs.Columns.{IsColumn, total};
 ghost use Rattle.kf_hyper.specs.Shapes.{IsBelow};
 ghost use Rattle.kf_core.specs.Runs.{Run};
+ghost use Rattle.kf_run.specs.Groups.{AreSame, Ascend, ways_in};
 ghost use Rattle.kf_run.specs.Spreading.{IsFront, Rise};
-ghost use Rattle.kf_run.specs.Ways.{HasRows, IsShared, along, leaked, way_total};
+ghost use Rattle.kf_run.specs.Ways.{Way, HasRows, IsShared, along, leaked, way_total};
 
+use crate::grouping::{Group, groups_of};
 use crate::ways::Leak;
 use kf_hyper::{Column, Entry, gathered};
 use kf_value::{Mem, compare};
@@ -68,8 +71,8 @@ fn entries_of(alloc: Global, leaks: &[Leak]) -> Result<Vec<Entry>, Mem>
     Ok(entries)
 }
 
-/// Adds one column for each value that is leaked, in order.
-pub fn add_columns(alloc: Global, mut leaks: Vec<Leak>, list: &mut Vec<Column>) -> Result<(), Mem>
+/// Adds one column for each value that is leaked, in order. The leaks are sorted by their values.
+fn add_sorted(alloc: Global, mut leaks: Vec<Leak>, list: &mut Vec<Column>) -> Result<(), Mem>
     requires positive { All (λ l. 0 < l.weight) leaks.items }
     requires fits { way_total (map leaked leaks.items) < 2 ^ 128 }
     ensures { OnOk result ((from : ℕ → List Run) (size : ℕ) (column : List EntryTree)
@@ -87,5 +90,40 @@ pub fn add_columns(alloc: Global, mut leaks: Vec<Leak>, list: &mut Vec<Column>) 
         list.push(column)?;
         at += count;
     }
+    Ok(())
+}
+
+/// Adds one column for each group, in order.
+fn add_groups(groups: Vec<Group>, list: &mut Vec<Column>) -> Result<(), Mem>
+    requires ascend { Ascend groups.items }
+    requires full { Each (λ g. g.entries.items ≡ [] → ⊥) groups.items }
+    requires positive { Each (λ w. 0 < w.weight) (flat_map ways_in groups.items) }
+    requires fits { way_total (flat_map ways_in groups.items) < 2 ^ 128 }
+    ensures { OnOk result ((from : ℕ → List Run) (size : ℕ) (column : List EntryTree) (ways : List Way) → AreSame ways (flat_map ways_in groups.entry.items)
+        → IsShared from column ways → Each (λ w. w.to < size) ways → HasRows from size column list.old.items list.new.items) }
+{
+    for mut group in groups {
+        group.entries.shrink_to_fit();
+        let column = gathered(group.entries);
+        is_column(&column);
+        list.push(column)?;
+    }
+    Ok(())
+}
+
+/// Adds one column for each value that is leaked, in order.
+///
+/// Where the values are few, as they mostly are, nothing is sorted by them.
+pub fn add_columns(alloc: Global, leaks: Vec<Leak>, list: &mut Vec<Column>) -> Result<(), Mem>
+    requires positive { All (λ l. 0 < l.weight) leaks.items }
+    requires fits { way_total (map leaked leaks.items) < 2 ^ 128 }
+    ensures { OnOk result ((from : ℕ → List Run) (size : ℕ) (column : List EntryTree)
+        → IsShared from column (map leaked leaks.items) → All (λ l. l.to < size) leaks.items → HasRows from size column list.old.items list.new.items) }
+{
+    if let Some(groups) = groups_of(alloc, &leaks)? {
+        add_groups(groups, list)?;
+        return Ok(());
+    }
+    add_sorted(alloc, leaks, list)?;
     Ok(())
 }

@@ -1,4 +1,4 @@
-use Rattle.std.proofs.Common.{◌≡◌, ◌^◌, [], All, ◌∙◌}
+use Rattle.std.proofs.Common.{◌^◌, [], All, ◌∙◌}
 use Rattle.kf_value.specs.Shapes.{shape_size, shape_types}
 use Rattle.kf_hyper.specs.declared.entry.Entry.{Entry}
 use Rattle.kf_core.specs.Runs.{assigned, silent}

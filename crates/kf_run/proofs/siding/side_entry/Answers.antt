@@ -1,4 +1,4 @@
-use Rattle.std.proofs.Common.{◌<◌, ◌≤◌, ◌*◌, ◌^◌, true, false, [], ◌∷◌, sym, ap, subst, arith}
+use Rattle.std.proofs.Common.{◌*◌, true, false, [], ◌∷◌, sym, ap, subst, arith}
 use Rattle.std.specs.List.{flat_map}
 use Rattle.kf_value.specs.Kinds.{TruthKind}
 use Rattle.kf_value.specs.Shapes.{shape_types}

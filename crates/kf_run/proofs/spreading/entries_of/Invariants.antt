@@ -1,5 +1,4 @@
 use Rattle.std.proofs.Common.{◌≡◌, map, take}
-use Rattle.kf_hyper.specs.declared.entry.Entry.{Entry}
 use Rattle.kf_run.proofs.spreading.entries_of.Given as goal
 
 abbrev pub invariant-loop-leak : goal.invariant-loop-leak

@@ -1,4 +1,4 @@
-use Rattle.std.proofs.Common.{◌≤◌, arith}
+use Rattle.std.proofs.Common.{arith}
 use Rattle.kf_hyper.specs.Views.{inners_of}
 use Rattle.kf_run.proofs.Outermost as outermost
 use Rattle.kf_run.proofs.stages.hyper_of.Goals as goal

@@ -1,4 +1,4 @@
-use Rattle.std.proofs.Common.{◌+◌, ◌≤◌, sym, subst, arith}
+use Rattle.std.proofs.Common.{◌+◌, sym, subst, arith}
 use Rattle.kf_core.specs.Pushing.{IsTrail}
 use Rattle.kf_run.proofs.Outermost as outermost
 use Rattle.kf_run.proofs.stages.trail.Goals as goal

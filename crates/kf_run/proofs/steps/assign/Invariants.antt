@@ -1,9 +1,7 @@
-use Rattle.std.proofs.Common.{true, false, take}
+use Rattle.std.proofs.Common.{take}
 use Rattle.kf_value.specs.Shapes.{shape_size, shape_types}
-use Rattle.kf_core.specs.Runs.{assigned, copied, silent, stay, tried}
-use Rattle.kf_core.specs.Views.{dx_tree, program_tree}
-use Rattle.kf_quiet.specs.Following.{side}
-use Rattle.kf_run.specs.Following.{shown_to}
+use Rattle.kf_core.specs.Runs.{assigned, silent}
+use Rattle.kf_core.specs.Views.{dx_tree}
 use Rattle.kf_eval.specs.Memos.{IsMemoOf}
 use Rattle.kf_run.specs.Spreading.{AreSpread}
 use Rattle.kf_run.proofs.steps.assign.Given as goal

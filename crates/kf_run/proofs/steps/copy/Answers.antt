@@ -1,6 +1,5 @@
-use Rattle.std.proofs.Common.{◌≡◌, ℕ, List, All, ◌∙◌}
-use Rattle.kf_value.specs.Shapes.{shape_size, shape_types}
-use Rattle.kf_hyper.specs.declared.entry.Entry.{Entry}
+use Rattle.std.proofs.Common.{◌≡◌, ℕ, List, ◌∙◌}
+use Rattle.kf_value.specs.Shapes.{shape_size}
 use Rattle.kf_hyper.specs.Shapes.{IsBelow}
 use Rattle.kf_core.specs.Runs.{Run, copied, stay}
 use Rattle.kf_core.specs.Views.{program_tree}

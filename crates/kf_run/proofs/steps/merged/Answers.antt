@@ -1,4 +1,4 @@
-use Rattle.std.proofs.Common.{◌≡◌, ap, subst, ◌∙◌}
+use Rattle.std.proofs.Common.{ap, subst, ◌∙◌}
 use Rattle.kf_hyper.specs.Joint.{Joint}
 use Rattle.kf_hyper.specs.Merged.{AreMerged}
 use Rattle.kf_run.proofs.Spread.{spread_merged}

@@ -83,7 +83,8 @@ fn ascends(ways: &[(u64, u128)]) -> bool
     ways.is_sorted_by(|one, other| one.0 < other.0)
 }
 
-/// The stores to which these ways lead, in ascending order.
+/// The stores to which these ways lead, in ascending order. Ways are mostly a few ascending runs, one behind the other, which
+/// a stable sort merges.
 pub fn settled(alloc: Global, ways: Vec<(u64, u128)>) -> Result<Vec<(u64, u128)>, Mem>
     requires ways { (size : ℕ) × AreWays size ways.items }
     ensures settled { IfOk result (λ m. m.items ≡ with_all [] ways.items) }
@@ -92,7 +93,7 @@ pub fn settled(alloc: Global, ways: Vec<(u64, u128)>) -> Result<Vec<(u64, u128)>
         return Ok(ways);
     }
     let mut ways = ways;
-    ways.sort_unstable_by_key(|way| way.0);
+    ways.sort_by_key(|way| way.0)?;
     if ascends(ways.as_slice()) {
         return Ok(ways);
     }

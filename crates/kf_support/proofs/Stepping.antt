@@ -1,5 +1,6 @@
 -- One step from all stores, store by store.
-use Rattle.std.proofs.Common.{◌≡◌, ℕ, zero, suc, ◌*◌, ◌<◌, ◌≤◌, Bool, true, false, List, [], ◌∷◌, Option, Some, Ok, Err, ◌++◌, refl, sym, ap, ◌∙◌, subst, arith, if◌then◌else◌, append_assoc, append-nil}
+use Rattle.std.proofs.Common.{◌≡◌, ℕ, zero, suc, ◌+◌, ◌*◌, ◌<◌, ◌≤◌, Bool, true, false, List, [], ◌∷◌, Option, Some, Ok, Err, ◌++◌, refl, sym, ap, ◌∙◌, subst, arith, if◌then◌else◌, append_assoc, append-nil, length, get_or, set, take, drop}
+use Rattle.std.proofs.lemmas.List.{take_all, take_more_set, drop_all, drop_more, drop-set-lt}
 use Rattle.kf_core.specs.Choices.{Weighted, total}
 use Rattle.kf_core.specs.Runs.{LoopBound, Tried}
 use Rattle.kf_core.specs.Results.{then_ok}
@@ -168,15 +169,39 @@ module _ (at : ℕ) (guard : ℕ → Tried) (size : ℕ) (whole : Passed Reached
       carries_step (last_lead at guard) size whole made e es left next had (to ws) n after (last_leaves at guard e.0 ws is never ∙ same_value (guard e.0) ws to n is sum) known
       (self_added size e.0 (capped (e.1 * n)) there made after way.0 (grown_scale e.1 n way.1.0 some) same had.ways)
 
--- ---- a store that leads to one other
+-- ---- a scale that stays
 
 pub same_scale : (s : ℕ) → IsScale s → s ≡ capped (s * 1)
 same_scale s is = omega (arith, is.0, is.1)
 
-module _ (lead : Lead) (size : ℕ) (whole : Passed Reached) (made : Reached) (e : ℕ × ℕ) (es left : Reached) (next : left ≡ e ∷ es) (had : CarriesOn lead size left whole made)
-    (to : ℕ) (leads : lead e.0 ≡ led (to ∷ []) 1) (below : to < size) where
-  pub single_step : (after : Reached) → after ≡ made ++ (to, e.1) ∷ [] → CarriesOn lead size es whole after
-  single_step after same =
-      let way = (first_way size e es left next had.rest).0 in
-      carries_step lead size whole made e es left next had (to ∷ []) 1 after leads (same ∙ ap (λ s. made ++ (to, s) ∷ []) (same_scale e.1 way.1))
-      (subst (AreWays size) (sym same) (one_more_way size to e.1 made below way.1 had.ways))
+-- ---- a list whose ways are changed in place
+
+-- the first so many ways are made already, the others are left
+abbrev pub PartCarried : Lead → ℕ → Passed Reached → ℕ → Reached → Type 0
+PartCarried lead size whole i now = CarriesOn lead size (drop i now) whole (take i now)
+
+module _ (lead : Lead) (size : ℕ) (whole : Passed Reached) (now : Reached) (i : ℕ) where
+  pub part_end : length now ≤ i → PartCarried lead size whole i now → (whole ≡ Ok (with_all [] now)) × AreWays size now
+  part_end past had =
+      let made : take i now ≡ now = take_all i now past in
+      let all : carry_step lead (with_all [] now) [] ≡ whole =
+      subst (λ es. carry_step lead (with_all [] es) [] ≡ whole) made (subst (λ es. carry_step lead (with_all [] (take i now)) es ≡ whole) (drop_all i now past) had.all) in
+      (sym all, subst (AreWays size) made had.ways)
+
+  module _ (e : ℕ × ℕ) (read : e ≡ get_or now i e) (within : i < length now) (had : PartCarried lead size whole i now) where
+    part_next : drop i now ≡ e ∷ drop (i + 1) now
+    part_next = drop_more now i e within ∙ ap (λ (f : ℕ × ℕ). f ∷ drop (i + 1) now) (sym read)
+
+    pub part_way : IsWay size e
+    part_way = (first_way size e (drop (i + 1) now) (drop i now) part_next had.rest).0
+
+    pub part_step : (m n : ℕ) (after : Reached) → lead e.0 ≡ led (m ∷ []) n → m < size → 1 ≤ n → after ≡ set now i (m, capped (e.1 * n))
+        → PartCarried lead size whole (i + 1) after
+    part_step m n after leads below some is =
+        let s = capped (e.1 * n) in
+        let made : take (i + 1) after ≡ take i now ++ (m, s) ∷ [] = ap (take (i + 1)) is ∙ take_more_set now i (m, s) within in
+        let left : drop (i + 1) after ≡ drop (i + 1) now = ap (drop (i + 1)) is ∙ drop-set-lt (i + 1) now i (m, s) (omega arith) in
+        let ways : AreWays size (take (i + 1) after) =
+        subst (AreWays size) (sym made) (one_more_way size m s (take i now) below (grown_scale e.1 n part_way.1.0 some) had.ways) in
+        subst (λ es. CarriesOn lead size es whole (take (i + 1) after)) (sym left)
+        (carries_step lead size whole (take i now) e (drop (i + 1) now) (drop i now) part_next had (m ∷ []) n (take (i + 1) after) leads made ways)

@@ -42,7 +42,7 @@ fn pass(
             dist,
             from.as_slice(),
         ),
-        St::Observe(dist) => observe(alloc, shape, dist, from.as_slice()),
+        St::Observe(dist) => observe(alloc, shape, dist, from),
         St::If {
             guard: test,
             yes,
@@ -126,7 +126,7 @@ pub fn pass_program(alloc: Global, program: &Program, turns: u32) -> Result<Vec<
     for (i, dist) in decls.iter().enumerate() {
         states = assign(alloc, &program.shape, i, dist, states.as_slice())?;
     }
-    let copied = copy(alloc, program, states.as_slice())?;
+    let copied = copy(alloc, program, states)?;
     pass_all(
         alloc,
         &program.shape,

@@ -136,7 +136,7 @@ pub fn assign(
     ensures answer { AnswersPass result (carry_step (assign_lead (shape_types shape.now) slot (dx_tree dist.now)) [] from.now) }
     ensures ways { IfOk result (λ m. AreReached (shape_size shape.now) m.items) }
 {
-    let mut next = Vec::new(alloc);
+    let mut next = Vec::with_capacity(alloc, from.len())?;
     let mut room = FEW;
     let mut memo = Memo::new(alloc, shape, dist, from.len())?;
     for way in from {
@@ -158,29 +158,29 @@ pub fn assign(
     Ok(reached)
 }
 
-/// The same stores behind an observation. Nothing is evaluated where the distribution is known to choose one value.
+/// The same stores behind an observation, each with its scale times the total of its choices. Where the distribution is known to
+/// choose one value, nothing is evaluated, and the stores are handed back as they are.
 pub fn observe(
     alloc: Global,
     shape: &Shape,
     dist: &Dx,
-    from: &[(u64, u128)],
+    from: Vec<(u64, u128)>,
 ) -> Result<Vec<(u64, u128)>, Halt>
     requires kinded { (k : KindTree) × DistKinded (shape_kinds shape.now) (dx_tree dist.now) k }
-    requires ways { AreWays (shape_size shape.now) from.now }
-    ensures answer { AnswersPass result (carry_step (observe_lead (shape_types shape.now) (dx_tree dist.now)) [] from.now) }
+    requires ways { AreReached (shape_size shape.now) from.items }
+    ensures answer { AnswersPass result (carry_step (observe_lead (shape_types shape.now) (dx_tree dist.now)) [] from.items) }
     ensures ways { IfOk result (λ m. AreReached (shape_size shape.now) m.items) }
 {
     if is_always_sure(dist) {
-        let same = from.to_vec(alloc)?;
-        let stayed = settled(alloc, same)?;
-        return Ok(stayed);
+        return Ok(from);
     }
-    let mut next = Vec::new(alloc);
-    let mut memo = Memo::new(alloc, shape, dist, from.len())?;
-    for way in from {
-        let place = find_in(alloc, shape, dist, way.0, &mut memo)?;
+    let mut next = from;
+    let mut memo = Memo::new(alloc, shape, dist, next.len())?;
+    for i in 0..next.len() {
+        let (store, scale) = next[i];
+        let place = find_in(alloc, shape, dist, store, &mut memo)?;
         let choice = memo.at(place);
-        next.push((way.0, scaled(way.1, choice.total)))?;
+        next[i] = (store, scaled(scale, choice.total));
     }
     let reached = settled(alloc, next)?;
     Ok(reached)
@@ -271,21 +271,24 @@ pub fn last_guard(
     Ok(reached)
 }
 
-/// The stores with the carried copies set.
+/// The stores with the carried copies set. Where there are none, the stores are handed back as they are.
 pub fn copy(
     alloc: Global,
     program: &Program,
-    from: &[(u64, u128)],
+    from: Vec<(u64, u128)>,
 ) -> Result<Vec<(u64, u128)>, Halt>
     requires checked { IsChecked (program_tree program.now) }
-    requires ways { AreWays (shape_size program.now.shape) from.now }
-    ensures answer { AnswersPass result (carry_step (copy_lead (program_tree program.now)) [] from.now) }
+    requires ways { AreReached (shape_size program.now.shape) from.items }
+    ensures answer { AnswersPass result (carry_step (copy_lead (program_tree program.now)) [] from.items) }
     ensures ways { IfOk result (λ m. AreReached (shape_size program.now.shape) m.items) }
 {
-    let mut next = Vec::with_capacity(alloc, from.len())?;
-    for way in from {
-        let after = copied_store(program, way.0);
-        next.push((after, way.1))?;
+    if program.copies.as_slice().is_empty() {
+        return Ok(from);
+    }
+    let mut next = from;
+    for i in 0..next.len() {
+        let (store, scale) = next[i];
+        next[i] = (copied_store(program, store), scale);
     }
     let reached = settled(alloc, next)?;
     Ok(reached)

@@ -12,4 +12,4 @@ assign-requires-clause-kinded c =
     sound.decl_kinded c.args.program.now c.requires c.as_slice-decls.result.now c.loop-i.i c.index-decls-i.result c.as_slice-decls.ensures (omega arith) c.index-decls-i.is
 
 pub pass_all-requires-clause-sound : goal.pass_all-requires-clause-sound
-pass_all-requires-clause-sound c = sound.whole_sound c.args.program.now c.requires c.as_slice-3.result.now c.as_slice-3.ensures
+pass_all-requires-clause-sound c = sound.whole_sound c.args.program.now c.requires c.as_slice-2.result.now c.as_slice-2.ensures

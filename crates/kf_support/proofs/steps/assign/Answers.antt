@@ -68,7 +68,7 @@ loop-way-preserved c =
     let told = passed_value (moves ws) (λ ms. now ++ ways_to ms (capped (scale * n))) after moved in
     let leads = moved_value (tried ts d store) moves ws known.chosen told.0 n told.1 known.total_is in
     record {
-      carried = carries_same lead size later whole after c.in_ok-next.next.items c.in_ok-next.ensures.same (c.in_ok-next.ensures.ways size c.in_ok-add_moved.ensures.ways)
+      carried = carries_same lead size later whole after c.in_ok-next-2.next.items c.in_ok-next-2.ensures.same (c.in_ok-next-2.ensures.ways size c.in_ok-add_moved.ensures.ways)
           (carries_step lead size whole now e later left next c.loop-way.invariant.carried told.0 n after leads told.2 c.in_ok-add_moved.ensures.ways);
       memo = c.in_ok-place.ensures.memo;
     }

@@ -90,8 +90,12 @@ module _ (shape : Shape) (list : TyList) (read : List Ty) (i : ℕ) (x : Ty) (sa
   size_at = get_or_from_slice_get (shape_sizes shape) i (count (type_tree x)) 0
       (slice_get-map count (shape_types shape) i ∙ ap (option_map count) type_at)
 
+  pub digit_found : (n k : ℕ) → n < product (shape_sizes shape)
+      → ((t : TypeTree) (s : List ValueTree) → slice_get (shape_types shape) i ≡ Some t → IsStore (shape_types shape) n s → slice_get s i ≡ slice_get (values t) k)
+      → slice_get (store_at (shape_types shape) n) i ≡ slice_get (values (type_tree x)) k
+  digit_found n k below digit = digit (type_tree x) (store_at (shape_types shape) n) type_at (store_is (shape_types shape) n below)
+
   pub value_found : {E : Type 0} (n k : ℕ) (r : Result Value E) → n < product (shape_sizes shape)
       → ((t : TypeTree) (s : List ValueTree) → slice_get (shape_types shape) i ≡ Some t → IsStore (shape_types shape) n s → slice_get s i ≡ slice_get (values t) k)
       → IfOk r (λ v. slice_get (values (type_tree x)) k ≡ Some (value_tree v)) → IfOk r (λ v. slice_get (store_at (shape_types shape) n) i ≡ Some (value_tree v))
-  value_found n k r below digit found =
-      subst (λ o. IfOk r (λ v. o ≡ Some (value_tree v))) (sym (digit (type_tree x) (store_at (shape_types shape) n) type_at (store_is (shape_types shape) n below))) found
+  value_found n k r below digit found = subst (λ o. IfOk r (λ v. o ≡ Some (value_tree v))) (sym (digit_found n k below digit)) found

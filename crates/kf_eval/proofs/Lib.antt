@@ -1,4 +1,5 @@
 mod Holding
+mod Variables
 mod Inserting
 mod Checking
 mod Chosen

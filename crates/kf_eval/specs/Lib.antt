@@ -1,6 +1,7 @@
 -- For bodies
 pub mod Answers
 pub mod Kinds
+pub mod Scalars
 pub mod Insertion
 pub mod Choices
 pub mod Gathering

@@ -1,7 +1,7 @@
 //! The value of an expression in a store.
 
-ghost use Rattle.std.specs.Prelude.{◌≡◌, ◌<◌, List, length, map, IfOk, IfSome, MatchResult, Ok};
-ghost use Rattle.kf_value.specs.Values.{Truth, ValueTree};
+ghost use Rattle.std.specs.Prelude.{◌≡◌, ◌<◌, List, length, map, IfOk, MatchResult, Ok};
+ghost use Rattle.kf_value.specs.Values.{ValueTree};
 ghost use Rattle.kf_value.specs.Forms.{IsWellFormed, HasKind};
 ghost use Rattle.kf_value.specs.Kinds.{KindTree};
 ghost use Rattle.kf_value.specs.Shapes.{shape_types, shape_size};
@@ -13,15 +13,17 @@ ghost use Rattle.kf_core.specs.Views.{ex_tree};
 ghost use Rattle.kf_core.specs.Evaluation.{ev, evs, all_values, operated, operator_at};
 ghost use Rattle.kf_core.specs.Checked.{Kinded};
 ghost use Rattle.kf_ops.specs.declared.row.Op.TheVariants as op;
-ghost use Rattle.kf_eval.specs.Answers.{Answers, Compares, IsFaultOf, at_all};
+ghost use Rattle.kf_eval.specs.Answers.{Answers, IsFaultOf, at_all};
 ghost use Rattle.kf_eval.specs.Kinds.{shape_kinds, IsKinded, AreKinded};
 
 use crate::fault::EvalError;
 use crate::parts::{code_at, part_at, value_in};
+use crate::scalar::value_from;
+use crate::scalars::scalar_of;
 use crate::sets::set_of;
 use kf_core::{Ex, evaluation_laws};
 use kf_ops::{Op, apply};
-use kf_value::{Shape, Value, ValueList, compare, is_true};
+use kf_value::{Shape, Value, ValueList, is_true};
 use std::alloc::Global;
 
 /// The value of a checked expression in a store, named by its number in the shape.
@@ -36,7 +38,10 @@ pub fn eval(alloc: Global, e: &Ex, shape: &Shape, store: u64) -> Result<Value, E
         → IfOk result (λ v. HasKind (value_tree v) k × IsWellFormed (value_tree v)) }
 {
     evaluation_laws();
-    value_of(alloc, e, shape, store)
+    match scalar_of(e, shape, store) {
+        Some(scalar) => Ok(value_from(scalar)),
+        None => value_of(alloc, e, shape, store),
+    }
 }
 
 #[cycle(eval)]
@@ -114,78 +119,8 @@ fn operation(
         Op::Or => or(alloc, args, shape, store),
         Op::And => and(alloc, args, shape, store),
         Op::Cond => cond(alloc, args, shape, store),
-        Op::Equal => match same_parts(alloc, args, shape, store) {
-            Some(same) => Ok(Value::Bool(same)),
-            None => strict(alloc, row, args, shape, store),
-        },
-        Op::NotEqual => match same_parts(alloc, args, shape, store) {
-            Some(same) => Ok(Value::Bool(!same)),
-            None => strict(alloc, row, args, shape, store),
-        },
-        Op::Elem => match is_listed(alloc, args, shape, store) {
-            Some(found) => Ok(Value::Bool(found)),
-            None => strict(alloc, row, args, shape, store),
-        },
         _ => strict(alloc, row, args, shape, store),
     }
-}
-
-/// Whether two tuples that are written out are equal, part by part, so that neither is made. `None` for other
-/// arguments, and where a part has no value: which fault is the first shows only where the parts are evaluated in order.
-#[cycle(eval)]
-fn same_parts(alloc: Global, args: &[Ex], shape: &Shape, store: u64) -> Option<bool>
-    requires store { store < shape_size shape.now }
-    requires two { length args.now ≡ 2 }
-    requires kinded { AreKinded (shape_kinds shape.now) (map ex_tree args.now) }
-    ensures { IfSome result (Compares (evs (store_at (shape_types shape.now) store) (exs_tree (map ex_tree args.now)))) }
-{
-    let Ex::Tuple(left) = &args[0] else {
-        return None;
-    };
-    let Ex::Tuple(right) = &args[1] else {
-        return None;
-    };
-    let xs = left.as_slice();
-    let ys = right.as_slice();
-    if xs.len() != ys.len() {
-        return None;
-    }
-    let mut same = true;
-    for i in 0..xs.len() {
-        let Ok(a) = value_of(alloc, &xs[i], shape, store) else {
-            return None;
-        };
-        let Ok(b) = value_of(alloc, &ys[i], shape, store) else {
-            return None;
-        };
-        same &= compare(&a, &b).is_eq();
-    }
-    Some(same)
-}
-
-/// Whether a value is one of the members of a set that is written out, so that the set isn't made. `None` for other
-/// arguments, and where one of these expressions has no value.
-#[cycle(eval)]
-fn is_listed(alloc: Global, args: &[Ex], shape: &Shape, store: u64) -> Option<bool>
-    requires store { store < shape_size shape.now }
-    requires two { length args.now ≡ 2 }
-    requires kinded { AreKinded (shape_kinds shape.now) (map ex_tree args.now) }
-    ensures { IfSome result (λ found. operated op.Elem (evs (store_at (shape_types shape.now) store) (exs_tree (map ex_tree args.now))) ≡ Ok (Truth found)) }
-{
-    let Ex::SetOf(written) = &args[1] else {
-        return None;
-    };
-    let Ok(value) = value_of(alloc, &args[0], shape, store) else {
-        return None;
-    };
-    let mut found = false;
-    for member in written.as_slice() {
-        let Ok(other) = value_of(alloc, member, shape, store) else {
-            return None;
-        };
-        found |= compare(&value, &other).is_eq();
-    }
-    Some(found)
 }
 
 /// An operator that needs all its arguments.

@@ -9,6 +9,8 @@ mod gathering;
 mod memo;
 mod parts;
 mod reading;
+mod scalar;
+mod scalars;
 mod sets;
 mod sureness;
 mod weights;

@@ -1,6 +1,6 @@
 //! What values hold, and what a store gives a variable.
 
-ghost use Rattle.std.specs.Prelude.{◌≡◌, ◌<◌, length, slice_get, Some, IfOk};
+ghost use Rattle.std.specs.Prelude.{◌≡◌, ◌<◌, length, slice_get, Some, IfOk, IfSome};
 ghost use Rattle.kf_value.specs.Forms.{IsWellFormed};
 ghost use Rattle.kf_value.specs.Shapes.{shape_types, shape_size};
 ghost use Rattle.kf_value.specs.Views.{value_tree};
@@ -8,9 +8,11 @@ ghost use Rattle.kf_ops.specs.Rows.{operators as rows};
 ghost use Rattle.kf_core.specs.Runs.{store_at};
 ghost use Rattle.kf_core.specs.Evaluation.{operator_at as operator_of, part_of};
 ghost use Rattle.kf_eval.specs.Kinds.{HasPart};
+ghost use Rattle.kf_eval.specs.Scalars.{scalar_tree};
 
+use crate::scalar::Scalar;
 use kf_ops::{Op, operator_at};
-use kf_value::{Mem, Shape, Value, value_at};
+use kf_value::{Mem, Shape, Ty, Value, value_at};
 use std::alloc::Global;
 
 /// The operator of a row of the table.
@@ -41,4 +43,17 @@ pub fn value_in(alloc: Global, shape: &Shape, store: u64, i: usize) -> Result<Va
 {
     let ty = &shape.types().as_slice()[i];
     value_at(alloc, ty, shape.slot(store, i))
+}
+
+/// The value of the variable at `i` in a store, where it is a truth or a whole number.
+pub(crate) fn scalar_in_slot(shape: &Shape, store: u64, i: usize) -> Option<Scalar>
+    requires store { store < shape_size shape.now }
+    requires within { i < length (shape_types shape.now) }
+    ensures { IfSome result (λ s. slice_get (store_at (shape_types shape.now) store) i ≡ Some (scalar_tree s)) }
+{
+    match &shape.types().as_slice()[i] {
+        Ty::Bool => Some(Scalar::Truth(shape.slot(store, i) == 1)),
+        Ty::Int { lo, .. } => Some(Scalar::Whole(*lo + i64::from(shape.slot(store, i)))),
+        Ty::Tuple(_) | Ty::Set(_) => None,
+    }
 }

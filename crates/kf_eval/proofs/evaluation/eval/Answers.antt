@@ -1,3 +1,4 @@
+use Rattle.std.proofs.Common.{Ok, sym, ap, ◌∙◌}
 use Rattle.kf_value.specs.Shapes.{shape_types}
 use Rattle.kf_core.specs.Runs.{store_at}
 use Rattle.kf_core.specs.Views.{ex_tree}
@@ -5,12 +6,17 @@ use Rattle.kf_eval.specs.Kinds.{shape_kinds}
 use Rattle.kf_eval.proofs.Checking.{store_kinds, answer_at, answer_kind}
 use Rattle.kf_eval.proofs.evaluation.eval.Goals as goal
 
-pub returns : goal.returns
-returns c =
+pub returns-in-Some-clause-kind : goal.returns-in-Some-clause-kind
+returns-in-Some-clause-kind c = λ k kinded.
     let are = store_kinds c.evaluation_laws.ensures.stores c.args.shape.now c.args.store c.requires.store in
-    record {
-      value = λ s is. answer_at c.args.shape.now c.args.store s (ex_tree c.args.e.now) c.value_of.result is c.value_of.ensures;
-      kind = λ k kinded.
-          answer_kind c.evaluation_laws.ensures.kinds (shape_kinds c.args.shape.now) (store_at (shape_types c.args.shape.now) c.args.store) are (ex_tree c.args.e.now) k c.value_of.result kinded
-          c.value_of.ensures;
-    }
+    answer_kind c.evaluation_laws.ensures.kinds (shape_kinds c.args.shape.now) (store_at (shape_types c.args.shape.now) c.args.store) are (ex_tree c.args.e.now) k (Ok c.value_from.result) kinded
+    (c.in-Some.ensures ∙ ap (λ v. Ok v) (sym c.value_from.ensures))
+
+pub returns-in-None-clause-value : goal.returns-in-None-clause-value
+returns-in-None-clause-value c = λ s is. answer_at c.args.shape.now c.args.store s (ex_tree c.args.e.now) c.value_of.result is c.value_of.ensures
+
+pub returns-in-None-clause-kind : goal.returns-in-None-clause-kind
+returns-in-None-clause-kind c = λ k kinded.
+    let are = store_kinds c.evaluation_laws.ensures.stores c.args.shape.now c.args.store c.requires.store in
+    answer_kind c.evaluation_laws.ensures.kinds (shape_kinds c.args.shape.now) (store_at (shape_types c.args.shape.now) c.args.store) are (ex_tree c.args.e.now) k c.value_of.result kinded
+    c.value_of.ensures

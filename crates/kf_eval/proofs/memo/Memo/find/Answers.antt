@@ -1,4 +1,4 @@
-use Rattle.std.proofs.Common.{◌≡◌, ◌-◌, ◌<◌, ap, ◌∙◌, refl, ◌++◌, ◌∷◌, [], slice_get, set, length, arith}
+use Rattle.std.proofs.Common.{◌≡◌, ◌<◌, ap, ◌∙◌, refl, ◌++◌, ◌∷◌, [], slice_get, set, length, arith}
 use Rattle.kf_value.specs.Shapes.{shape_sizes}
 use Rattle.kf_core.specs.Views.{dx_tree}
 use Rattle.kf_eval.specs.Memos.{number_in}

@@ -1,10 +1,10 @@
 -- Where a value stands in an ascending list, and the members of a set one after the other.
-use Rattle.std.proofs.Common.{◌≡◌, ℕ, zero, suc, ◌≤◌, ◌<◌, List, [], ◌∷◌, ◌++◌, length, map, take, drop, get_or, Some, Result, Ok, Err, refl, sym, ap, ◌∙◌, arith}
+use Rattle.std.proofs.Common.{Bool, true, false, subst, ◌+◌, ◌≡◌, ℕ, zero, suc, ◌≤◌, ◌<◌, List, [], ◌∷◌, ◌++◌, length, map, take, drop, get_or, Some, Result, Ok, Err, refl, sym, ap, ◌∙◌, arith}
 use Rattle.std.specs.declared.cmp.Ordering.{Ordering}
 use Rattle.std.specs.declared.cmp.Ordering.TheVariants.{Less, Equal, Greater}
-use Rattle.std.specs.Ordering.{ordering_index, ordering_reverse, match_ordering}
+use Rattle.std.specs.Ordering.{is_lt, ordering_index, ordering_reverse, match_ordering}
 use Rattle.std.specs.Result.{result_err}
-use Rattle.std.specs.List.{insert, take-map}
+use Rattle.std.specs.List.{insert, take-map, AllAdjacentBelow, IsAllAdjacentAnswer}
 use Rattle.std.specs.List.Sorted.{IsStrictlySortedBy, IsNonDecreasingBy, IsBinarySearchResult, IsSearchInRange}
 use Rattle.std.proofs.lemmas.List.{map-append, drop-map}
 use Rattle.std.proofs.lemmas.Option.{slice_get-map, slice_get-get_or}
@@ -96,6 +96,32 @@ inserted_items read xs ys x i same is whole =
     ap (map value_tree) is
     ∙ (map-append value_tree (take i xs) (x ∷ drop i xs)
     ∙ (rw (← take-map value_tree i xs, ← drop-map value_tree i xs) (sym here)))
+
+-- ---- members that ascend already
+
+pub adjacent_set : (xs : List Value) (r : Bool) → IsAllAdjacentAnswer (λ (x y : Value) (b : Bool). b ≡ is_lt (order (value_tree x) (value_tree y))) xs r → r ≡ true
+    → set_of (map value_tree xs) ≡ map value_tree xs
+adjacent_set xs false h is = absurd (cc)
+adjacent_set xs true h is = from xs h
+  where
+    later : (x y : Value) (xs : List Value) (k : ℕ) (d : Value) → true ≡ is_lt (order (value_tree (get_or (x ∷ y ∷ xs) (suc k) d)) (value_tree (get_or (x ∷ y ∷ xs) (suc k + 1) d)))
+        → true ≡ is_lt (order (value_tree (get_or (y ∷ xs) k d)) (value_tree (get_or (y ∷ xs) (k + 1) d)))
+    later x y xs k d h =
+        let at : suc k + 1 ≡ suc (k + 1) = omega arith in
+        subst (λ j. true ≡ is_lt (order (value_tree (get_or (x ∷ y ∷ xs) (suc k) d)) (value_tree (get_or (x ∷ y ∷ xs) j d)))) at h
+
+    less_is : (o : Ordering) → true ≡ is_lt o → o ≡ Less
+    less_is Less h = refl
+    less_is Equal h = absurd (cc)
+    less_is Greater h = absurd (cc)
+
+    from : (xs : List Value) → AllAdjacentBelow (λ (x y : Value). true ≡ is_lt (order (value_tree x) (value_tree y))) xs (length xs) → set_of (map value_tree xs) ≡ map value_tree xs
+    from [] h = refl
+    from (x ∷ []) h = refl
+    from (x ∷ y ∷ xs) h =
+        ap (inserted (value_tree x)) (from (y ∷ xs) (λ k d within. later x y xs k d (h (suc k) d (omega (arith, within)))))
+        ∙ ap (λ o. match_ordering o (value_tree x ∷ value_tree y ∷ map value_tree xs) (value_tree y ∷ map value_tree xs) (value_tree y ∷ inserted (value_tree x) (map value_tree xs)))
+        (less_is (order (value_tree x) (value_tree y)) (h 0 x (omega arith)))
 
 -- ---- member after member, from the last
 

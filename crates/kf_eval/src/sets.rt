@@ -1,6 +1,6 @@
 //! Sets from the members that a literal lists.
 
-ghost use Rattle.std.specs.Prelude.{◌≡◌, ◌≤◌, length, map, IfOk, IfSome, OnOk};
+ghost use Rattle.std.specs.Prelude.{◌≡◌, ◌≤◌, true, length, map, IfOk, IfSome, OnOk};
 ghost use Rattle.std.specs.List.Sorted.{IsStrictlySortedBy};
 ghost use Rattle.kf_value.specs.Values.{order};
 ghost use Rattle.kf_value.specs.Views.{value_tree};
@@ -11,10 +11,20 @@ ghost use Rattle.kf_eval.specs.Insertion.{with_value_at};
 use kf_value::{Mem, Value, compare};
 use std::alloc::Global;
 
+/// Whether each value comes before the next.
+fn ascend(values: &[Value]) -> bool
+    ensures { result ≡ true → members_of (map value_tree values.now) ≡ map value_tree values.now }
+{
+    values.is_sorted_by(|one, other| compare(one, other).is_lt())
+}
+
 /// The members in ascending order, each once.
 pub fn set_of(alloc: Global, mut members: Vec<Value>) -> Result<Vec<Value>, Mem>
     ensures { IfOk result (λ set. map value_tree set.items ≡ members_of (map value_tree members.items)) }
 {
+    if ascend(&members) {
+        return Ok(members);
+    }
     let mut set = Vec::with_capacity(alloc, members.len())?;
     while let Some(member) = members.pop() {
         insert(&mut set, member)?;

@@ -144,9 +144,13 @@ fn meeting() -> [(u32, &'static str); 8] {
     ]
 }
 
-// Guards and observations that depend on chance.
-fn noisy() -> [(u32, &'static str); 8] {
+// Guards and observations that depend on chance, and one of eighteen values, each of two stores.
+fn noisy() -> [(u32, &'static str); 9] {
     [
+        (
+            1,
+            "var x : 0..16 := uniform 0..16; var y : 0..1 := uniform 0..1; about x; observe 16 - x + y;",
+        ),
         (
             1,
             "var x : 0..3 := uniform 0..3; if choose { x < 2 : 3, true : 1 } { skip; } else { x := 3 - x; }",

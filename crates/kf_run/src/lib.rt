@@ -23,6 +23,3 @@ pub use pushes::push;
 pub use pushing::Pushing;
 pub use stages::{Stages, hyper_of, trail};
 pub use starting::start;
-
-#[cfg(test)]
-mod tests;

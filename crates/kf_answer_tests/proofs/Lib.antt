@@ -1,3 +1,1 @@
-mod Channels
 mod Sizes
-mod TraceTables

@@ -1,7 +1,6 @@
 -- How many values types without a fault have, as `types_and_values` asks for them.
 use Rattle.std.specs.Prelude.{nat_le, if◌then◌else◌}
-use Rattle.std.proofs.Common.{◌≡◌, ℕ, ◌*◌, ◌^◌, ◌≤◌, Bool, true, false, Option, None, Some, Result, Ok, Err, refl, arith}
-use Rattle.std.proofs.Math.Nat.{mul-le-mul_right}
+use Rattle.std.proofs.Common.{◌≡◌, ℕ, ◌≤◌, Bool, true, false, Option, None, Some, Result, Ok, Err, refl, arith}
 use Rattle.std.proofs.lemmas.Bool.Decides.{nat_tests}
 use Rattle.kf_value.specs.declared.ty.TyFault.{TyFault}
 use Rattle.kf_value.specs.declared.ty.TyFault.TheVariants.{BadRange, TooManyValues}
@@ -39,10 +38,3 @@ few_values limit Boolean h = crowded-None limit 2 h
 few_values limit (Range lo hi) h = range_few (in_bounds lo hi) limit (count (Range lo hi)) h
 few_values limit (TupleOf ts) h = after_few (first_fault ts) limit (TupleOf ts) h
 few_values limit (SetOf base) h = after_few (fault_within 16 base) limit (SetOf base) h
-
-pub two_fit : (s t : TypeTree) → HasSize s → HasSize t → count s * (count t * 1) ≤ 2 ^ 63
-two_fit s t sized_s sized_t =
-    let few_s : count s ≤ 65536 = few_values 65536 s sized_s in
-    let few_t : count t * 1 ≤ 65536 = let few = few_values 65536 t sized_t in omega arith in
-    let first : count s * (count t * 1) ≤ 65536 * (count t * 1) = mul-le-mul_right (count t * 1) few_s in
-    omega arith

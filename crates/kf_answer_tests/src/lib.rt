@@ -1,5 +1,4 @@
-//! Tests of fractions, of types and values, and of the layers from hypers to printed texts, each beside a plain program
-//! or worked out by hand.
+//! Tests of named calls: of fractions, of types and values, of joint matrices, of equations, and of files and sinks.
 #![tactic(auto)]
 
 #[cfg(test)]

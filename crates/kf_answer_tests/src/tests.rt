@@ -1,20 +1,6 @@
-// Fractions, types and values, the layers from hypers to printed texts, and files, one or more at a time.
-mod certificates;
-mod channels;
+// Calls with what they answer, worked out by hand.
 mod files;
 mod fractions;
-mod gains;
-mod hyper_texts;
 mod hypers;
-mod json_values;
-mod plain_gains;
-mod plain_refining;
-mod report_texts;
-mod reports;
 mod simplex;
-mod small_hypers;
-mod tables;
-mod trace_texts;
-mod trail_texts;
 mod types_and_values;
-mod verdicts;

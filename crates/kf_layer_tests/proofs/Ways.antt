@@ -1,25 +1,14 @@
--- What the plain program needs to know of shapes, choices and statements.
-use Rattle.std.proofs.Common.{◌≡◌, ℕ, zero, suc, ◌+◌, ◌*◌, ◌<◌, List, [], ◌∷◌, length, map, drop, get_or, slice_get, slice_index, Some, sym, ap, ◌∙◌, subst, rules, arith}
+-- How many stores there are, and the statements of a checked program.
+use Rattle.std.proofs.Common.{◌≡◌, ℕ, zero, suc, ◌+◌, ◌*◌, ◌<◌, List, [], ◌∷◌, length, map, drop, slice_get, slice_index, Some, subst, arith}
 use Rattle.std.proofs.lemmas.List.{length-map}
-use Rattle.std.proofs.lemmas.Option.{slice_get-map, slice_get-get_or}
-use Rattle.std.specs.Option.{option_map}
-use Rattle.kf_value.specs.Kinds.{KindTree, kind_of}
+use Rattle.kf_value.specs.Kinds.{KindTree}
 use Rattle.kf_value.specs.Types.{product, count}
 use Rattle.kf_value.specs.Shapes.{shape_types, shape_sizes}
 use Rattle.kf_value.specs.declared.shape.Shape.{Shape}
-use Rattle.kf_value.specs.Types.{Boolean}
-use Rattle.kf_core.specs.Exs.{Slot}
-use Rattle.kf_core.specs.Dxs.{dx_at, Sure}
-use Rattle.kf_core.specs.Views.{dx_tree, st_tree}
-use Rattle.kf_core.specs.Checked as kinded
-use Rattle.kf_core.specs.declared.dx.Dx.{Dx}
-use Rattle.kf_core.specs.declared.dx.DxNode.TheVariants as node
-use Rattle.kf_core.specs.declared.ex.Ex.TheVariants as ex
-use Rattle.kf_core.specs.declared.ex.Ex.{the_lemmas as ex_lemmas}
+use Rattle.kf_core.specs.Views.{st_tree}
 use Rattle.kf_core.specs.declared.st.St.{St}
-use Rattle.kf_core.specs.Checked.{DistKinded, IsSound, AreSound}
+use Rattle.kf_core.specs.Checked.{IsSound, AreSound}
 use Rattle.kf_core.proofs.SoundParts.{sound_first}
-use Rattle.kf_eval.specs.Kinds.{shape_kinds}
 
 -- ---- how many stores there are
 
@@ -43,20 +32,3 @@ module _ (ks : List KindTree) where
   sound_at [] i u h here = (cc)
   sound_at (v ∷ vs) zero u h here = subst (λ w. IsSound ks (st_tree w)) (cc) (sound_first ks h).0
   sound_at (v ∷ vs) (suc i) u h here = sound_at vs i u (sound_first ks h).1 here
-
-  -- the statement that is read
-  pub read_sound : (us : List St) (i : ℕ) (u : St) → i < length us → u ≡ get_or us i u → AreSound ks (map st_tree us) → IsSound ks (st_tree u)
-  read_sound us i u within read h = sound_at us i u h (slice_get-get_or us i u within ∙ ap (λ v. Some v) (sym read))
-
--- a variable's own value has its kind
-abbrev pub slot_dist : ℕ → Dx
-slot_dist i = record { at = 0; node = node.Sure (ex.Slot i) }
-
-slot_tree : (i : ℕ) → dx_tree (slot_dist i) ≡ dx_at 0 (Sure (Slot i))
-slot_tree i = ap (λ x. dx_at 0 (Sure x)) (search (rules, ex_lemmas))
-
-pub slot_kinded : (shape : Shape) (i : ℕ) → i < length (shape_types shape) → (k : KindTree) × DistKinded (shape_kinds shape) (dx_tree (slot_dist i)) k
-slot_kinded shape i within =
-    let t = get_or (shape_types shape) i Boolean in
-    let here = slice_get-map kind_of (shape_types shape) i ∙ ap (option_map kind_of) (slice_get-get_or (shape_types shape) i Boolean within) in
-    (kind_of t, subst (λ e. DistKinded (shape_kinds shape) e (kind_of t)) (sym (slot_tree i)) (kinded.sure 0 (kinded.slot i here)))

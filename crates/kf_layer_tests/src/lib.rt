@@ -1,5 +1,4 @@
-//! Tests of operators and tokens, and of the layers from texts of programs to hypers, each beside a plain program or a
-//! table worked out by hand.
+//! Tests of named calls, from operators and tokens to full sources and erased columns.
 #![tactic(auto)]
 
 #[cfg(test)]

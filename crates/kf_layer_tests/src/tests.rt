@@ -1,4 +1,4 @@
-// Operators, tokens, and the layers from texts to hypers, one or more at a time.
+// Calls with what they answer, worked out by hand.
 ghost use Rattle.std.specs.Prelude.{◌≤◌, length, IfOk};
 ghost use Rattle.kf_core.specs.Views.{program_tree};
 ghost use Rattle.kf_core.specs.Checked.{IsChecked};
@@ -8,12 +8,9 @@ mod full_sources;
 mod lexing;
 mod making;
 mod memos;
-mod operator_values;
 mod operators;
 mod parsing;
-mod plain;
-mod plain_hypers;
-mod plain_traces;
+mod programs;
 mod quieting;
 mod values;
 
@@ -21,7 +18,7 @@ use kf_check::check;
 use kf_core::Program;
 use kf_lex::lex;
 use kf_parse::{grammar, parse};
-use std::alloc::{AllocError, Global};
+use std::alloc::Global;
 use std::process::Abort;
 use std::test::Fail;
 

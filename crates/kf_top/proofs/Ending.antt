@@ -4,7 +4,7 @@ use Rattle.std.proofs.lemmas.Bool.{cases_lt}
 use Rattle.std.specs.Option.{ForSome}
 use Rattle.std.specs.Io.KnownBytes.{Appends, Keeps}
 use Rattle.kf_io.specs.Faults.{Rose}
-use Rattle.kf_top.specs.Task.{Task, task_of, files_of_some, named as names}
+use Rattle.kf_words.specs.Task.{Task, task_of, files_of_some, named as names}
 use Rattle.kf_top.specs.Answer.{Statement, Shown, States, Refused, Usage, said, line_of, status_of}
 use Rattle.kf_top.specs.Outcome.{Outcome, SomeOutcome, TaskOutcome}
 use Rattle.kf_top.specs.Stops.{refused}

@@ -13,7 +13,7 @@ use Rattle.kf_text.specs.BlameTexts.{blame_text}
 use Rattle.kf_text.specs.Texts.{hyper_text}
 use Rattle.kf_top.specs.Answer.{Statement, HyperOf, BlameOf, Shown, States}
 use Rattle.kf_top.specs.Outcome.{CommandOutcome}
-use Rattle.kf_top.specs.Task.{Command, Quiet, Blame}
+use Rattle.kf_words.specs.Task.{Command, Quiet, Blame}
 
 -- some statement of a command on one program, which these bytes state
 abbrev IsStated : (List ℕ → List ℕ) → Command → List ℕ → Cleared → Type 0

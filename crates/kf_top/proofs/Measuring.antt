@@ -13,7 +13,7 @@ use Rattle.kf_top.specs.Answer.{Statement, Refused, CapacityOf, AlgebraOf, NotIn
 use Rattle.kf_top.specs.CapacityViews.{ChannelIn, HasCapacity, is_channel, is_grid, narrow_grid}
 use Rattle.kf_top.specs.Outcome.{After, Step, Gives, CapacityIn, Composed, ComposedIn, IsChannelTree, algebra_stated, initial, is_narrow}
 use Rattle.kf_top.specs.Stops.{Answers}
-use Rattle.kf_top.specs.Task.{Composition}
+use Rattle.kf_words.specs.Task.{Composition}
 use Rattle.kf_top.specs.Views.{ShowsStatement}
 use Rattle.kf_top.specs.declared.stops.Done.{Done}
 use Rattle.kf_top.specs.declared.stops.Stop.{Stop}

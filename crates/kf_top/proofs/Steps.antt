@@ -27,11 +27,12 @@ use Rattle.kf_top.specs.Answer.{Statement, Refused, ChannelOf, FewStatements, Ma
 use Rattle.kf_top.specs.Ends.{IsUnder}
 use Rattle.kf_top.specs.Outcome.{Step, After, Each, Fault, Text, token_fault, syntax_fault, type_fault, bad_text, TokensOf, SourceOf, ProgramOf, TextOf, bad_run, narrow, cleared, few_stores, long_enough, ReadyOf, ClearedOf, Gives, channel_statement, source_of, MadeOutcome, CommandOutcome, TaskOutcome}
 use Rattle.kf_top.specs.Stops.{Answers, refused, is_bytes, is_text, is_cleared, is_alone, are_cleared}
-use Rattle.kf_top.specs.Task.{Command, Task, Make, Check, on_file, on_files, named, tables_of}
+use Rattle.kf_words.specs.Task.{Command, Task, Make, Check, on_file, on_files, named, tables_of}
 use Rattle.kf_support.specs.declared.cleared.Cleared.{Cleared}
-use Rattle.kf_top.specs.Views.{ShowsStatement, gain_of}
-use Rattle.kf_top.specs.declared.gain_words.GainWord.{GainWord}
-use Rattle.kf_top.specs.declared.gain_words.GainWord.TheVariants as word
+use Rattle.kf_top.specs.Views.{ShowsStatement}
+use Rattle.kf_words.specs.Jobs.{gain_of}
+use Rattle.kf_words.specs.declared.gain_words.GainWord.{GainWord}
+use Rattle.kf_words.specs.declared.gain_words.GainWord.TheVariants as word
 use Rattle.kf_top.specs.declared.stops.Done.{Done}
 use Rattle.kf_top.specs.declared.stops.Stop.{Stop}
 use Rattle.kf_top.specs.declared.stops.Stop.TheVariants as stop

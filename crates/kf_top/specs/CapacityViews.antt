@@ -11,7 +11,7 @@ use Rattle.kf_top.specs.Answer.{Refused, WideChannel}
 use Rattle.kf_top.specs.Outcome.{Step, Gives, IsChannelTree, initial, is_narrow}
 use Rattle.kf_top.specs.declared.capacities.Composition.{Composition}
 use Rattle.kf_top.specs.declared.capacities.Composition.TheVariants as way
-use Rattle.kf_top.specs.Task as task
+use Rattle.kf_words.specs.Task as task
 
 abbrev pub way_of : Composition → task.Composition
 way_of way.Cascade = task.Cascade

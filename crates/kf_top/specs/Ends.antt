@@ -7,7 +7,7 @@ use Rattle.std.specs.Io.KnownBytes.{Appends, Keeps}
 use Rattle.kf_io.specs.Faults.{Rose}
 use Rattle.kf_io.specs.Writes.{AppendsSome}
 use Rattle.kf_gain.specs.Gains.{GainOf, Table}
-use Rattle.kf_top.specs.Task.{Command, Composition, Task, Channel, Capacity, Compose, Leak, Attack, Refine, Check, Covers, Quiet, task_of, files_of, named}
+use Rattle.kf_words.specs.Task.{Command, Composition, Task, Channel, Capacity, Compose, Leak, Attack, Refine, Check, Covers, Quiet, task_of, files_of, named}
 use Rattle.kf_top.specs.Answer.{Statement, Shown, States, Refused, said, line_of, status_of}
 use Rattle.kf_top.specs.Answer.{Usage, TooLong, BadText, BadRun, WideScale, NotInitial, BadTable, WideGain}
 use Rattle.kf_top.specs.Answer.{OtherTarget, ManyCells, WideTableau, ManyPivots, BadCert, WideCert, OtherRows, NoFit, ManyChannelCells, WideChannel}

@@ -59,9 +59,9 @@ use Rattle.kf_top.specs.Answer.{Refused, Usage, TooLong, BadText, BadRun, WideSc
 use Rattle.kf_top.specs.Answer.{OtherTarget, ManyCells, WideTableau, ManyPivots, BadCert, WideCert, OtherRows, NoFit, ManyChannelCells, WideChannel}
 use Rattle.kf_top.specs.Answer.{ManyStores, FewStatements}
 use Rattle.kf_top.specs.Place.{line_at, column_at}
-use Rattle.kf_top.specs.Task.{Command, Task, Hyper, Traces, Channel, Trail, Capacity, Compose, Leak, Attack, Reach, Make, task_of, Refine, Check}
-use Rattle.kf_top.specs.Task.{Covers, Quiet, Blame}
-use Rattle.kf_top.specs.Task.{Composition, Cascade, Parallel, Choice}
+use Rattle.kf_words.specs.Task.{Command, Task, Hyper, Traces, Channel, Trail, Capacity, Compose, Leak, Attack, Reach, Make, task_of, Refine, Check}
+use Rattle.kf_words.specs.Task.{Covers, Quiet, Blame}
+use Rattle.kf_words.specs.Task.{Composition, Cascade, Parallel, Choice}
 
 -- a step towards an answer: which results it may have
 abbrev pub Step : Type 0 → Type 1

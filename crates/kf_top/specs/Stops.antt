@@ -31,7 +31,7 @@ use Rattle.kf_refine.specs.Verdicts.{VerdictTree, IsVerdict, Proves}
 use Rattle.kf_refine.specs.Views.{hyper_tree, verdict_tree}
 use Rattle.kf_refine.specs.declared.verdict.RefineError.{RefineError}
 use Rattle.kf_refine.specs.declared.verdict.Verdict.{Verdict}
-use Rattle.kf_top.specs.Task.{Command, Task, named}
+use Rattle.kf_words.specs.Task.{Command, Task, named}
 use Rattle.kf_top.specs.Views.{text_of}
 use Rattle.kf_cert.specs.Certificates.{CertTree}
 use Rattle.kf_cert.specs.Views.{cert_tree}

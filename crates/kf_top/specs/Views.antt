@@ -1,61 +1,18 @@
 -- For bodies: what the code's values show.
-use Rattle.std.specs.Prelude.{ℕ, List, [], ◌∷◌, ◌≤◌, ◌<◌}
+use Rattle.std.specs.Prelude.{ℕ, List}
 use Rattle.kf_ast.specs.Views.{source_tree}
 use Rattle.kf_core.specs.Views.{program_tree}
 use Rattle.kf_top.specs.Answer.{Shown, Statement, States}
-use Rattle.kf_gain.specs.Gains.{GainOf, Bayes, Tries, Guessing, Table}
 use Rattle.kf_top.specs.Outcome as outcome
-use Rattle.kf_top.specs.Task as task
 use Rattle.kf_top.specs.declared.stops.Done.{Done}
 use Rattle.kf_top.specs.declared.clearing.Text.{Text}
-use Rattle.kf_top.specs.declared.gain_words.GainWord.{GainWord}
-use Rattle.kf_top.specs.declared.gain_words.GainWord.TheVariants as word
-use Rattle.kf_top.specs.declared.words.Job.{Job}
-use Rattle.kf_top.specs.declared.words.Job.TheVariants as job
 
 abbrev pub shown : Done → Shown
 shown done = record { yes = done.yes; bytes = done.bytes.items }
 
-abbrev pub gain_of : GainWord → GainOf (List ℕ)
-gain_of word.Bayes = Bayes
-gain_of (word.Tries k) = Tries k
-gain_of word.Guessing = Guessing
-gain_of (word.Table name) = Table name
-
-abbrev pub task_of_job : Job → task.Task
-task_of_job (job.Hyper file turns) = task.on_file task.Hyper file turns
-task_of_job (job.Traces file turns) = task.on_file task.Traces file turns
-task_of_job (job.Channel file turns) = task.on_file task.Channel file turns
-task_of_job (job.Trail file turns) = task.on_file task.Trail file turns
-task_of_job (job.Make count turns) = task.on_files (task.Make count) [] turns
-task_of_job (job.Leak file gain turns) = task.on_file (task.Leak (gain_of gain)) file turns
-task_of_job (job.Attack file gain turns) = task.on_file (task.Attack (gain_of gain)) file turns
-task_of_job (job.Reach file num den turns) = task.on_file (task.Reach num den) file turns
-task_of_job (job.Refine a b json turns) = task.on_files (task.Refine json) (a ∷ b ∷ []) turns
-task_of_job (job.Check cert a b turns) = task.on_files (task.Check cert) (a ∷ b ∷ []) turns
-task_of_job (job.Capacity file turns) = task.on_file task.Capacity file turns
-task_of_job (job.Cascade a b turns) = task.on_files (task.Compose task.Cascade) (a ∷ b ∷ []) turns
-task_of_job (job.Parallel a b turns) = task.on_files (task.Compose task.Parallel) (a ∷ b ∷ []) turns
-task_of_job (job.Choice a b num den turns) = task.on_files (task.Compose (task.Choice num den)) (a ∷ b ∷ []) turns
-task_of_job (job.Covers a b turns) = task.on_files task.Covers (a ∷ b ∷ []) turns
-task_of_job (job.Quiet file from to turns) = task.on_file (task.Quiet from to) file turns
-task_of_job (job.Blame file turns) = task.on_file task.Blame file turns
-
 -- a file's text, by its name
 abbrev pub text_of : List ℕ → Text → outcome.Text
 text_of name t = record { name = name; bytes = t.bytes.items; source = source_tree t.source; program = program_tree t.program }
-
--- a task's loops may turn so often
-abbrev pub HasTurns : task.Task → Type 0
-HasTurns t = (1 ≤ t.turns) × (t.turns ≤ 65535)
-
--- no more observations than the scale of a made text can bear, a choice that leaves both, a probability above 0, and a block that isn't empty
-abbrev pub IsFew : task.Command → Type 0
-IsFew (task.Make count) = count ≤ 60
-IsFew (task.Compose (task.Choice num den)) = (1 ≤ num) × (num < den)
-IsFew (task.Reach num den) = (1 ≤ num) × (num ≤ den)
-IsFew (task.Quiet from to) = from < to
-IsFew command = Unit {0}
 
 abbrev pub ShowsStatement : Done → Statement → Type 0
 ShowsStatement done statement = States (shown done) statement

@@ -11,11 +11,11 @@ ghost use Rattle.kf_gain.specs.Gains.{GainOf};
 ghost use Rattle.kf_gain.specs.Views.{gain_tree};
 ghost use Rattle.kf_top.specs.Ends.{IsUnder};
 ghost use Rattle.kf_top.specs.Outcome.{AttackIn, CommandOutcome};
-ghost use Rattle.kf_top.specs.Task.{Attack, Reach, Task};
+ghost use Rattle.kf_words.specs.Task.{Attack, Reach, Task};
 ghost use Rattle.kf_top.specs.Stops.{Answers, Causes};
-ghost use Rattle.kf_top.specs.Views.{gain_of, ShowsStatement};
+ghost use Rattle.kf_top.specs.Views.{ShowsStatement};
+ghost use Rattle.kf_words.specs.Jobs.{gain_of};
 
-use crate::gain_words::GainWord;
 use crate::gains::gain_in;
 use crate::stops::{Done, Refusal, Stop};
 use kf_attack::{attack_of, reach_of};
@@ -25,6 +25,7 @@ use kf_io::Files;
 use kf_run::hyper_of;
 use kf_support::Cleared;
 use kf_text::{attack_text, reach_text};
+use kf_words::GainWord;
 use std::alloc::Global;
 
 // The attack on a cleared program under a gain.

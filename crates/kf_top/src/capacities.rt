@@ -9,9 +9,10 @@ ghost use Rattle.kf_top.specs.Answer.{NotInitial};
 ghost use Rattle.kf_top.specs.CapacityViews.{way_of, is_channel, is_grid, narrow_grid, ChannelIn, HasCapacity};
 ghost use Rattle.kf_top.specs.Ends.{CanRefuse, IsComposing, IsOnCapacities};
 ghost use Rattle.kf_top.specs.Outcome.{algebra_stated, CommandOutcome, Composed, Gives};
-ghost use Rattle.kf_top.specs.Task.{Capacity, Cascade, Choice, Compose, Parallel, Task};
+ghost use Rattle.kf_words.specs.Task.{Capacity, Cascade, Choice, Compose, Parallel, Task};
 ghost use Rattle.kf_top.specs.Stops.{Answers, Causes};
-ghost use Rattle.kf_top.specs.Views.{IsFew, ShowsStatement};
+ghost use Rattle.kf_top.specs.Views.{ShowsStatement};
+ghost use Rattle.kf_words.specs.Jobs.{IsInRange};
 
 use crate::clearing::Pair;
 use crate::stops::{Done, Refusal, Stop};
@@ -131,7 +132,7 @@ fn chosen<'a>(alloc: Global, c: &Channel, d: &Channel, num: u32, den: u32) -> Re
 
 // What is put together of two channels.
 fn composed<'a>(alloc: Global, c: &Channel, d: &Channel, way: Composition) -> Result<Grid, Stop<'a>>
-    requires { IsFew (Compose (way_of way)) }
+    requires { IsInRange (Compose (way_of way)) }
     ensures answer { Answers is_grid result (Composed (way_of way) (channel_tree c.now) (channel_tree d.now)) }
     ensures causes { (task : Task) (before : List ℕ → ℕ) → IsComposing task.command → Causes task before before result }
 {
@@ -163,7 +164,7 @@ fn algebra_said<'a>(
 /// What the commands `cascade`, `parallel` and `choice` say of two cleared programs.
 pub fn composition_said<'a>(alloc: Global, pair: &Pair, way: Composition) -> Result<Done, Stop<'a>>
     requires turns { turns_of pair.now.first ≡ turns_of pair.now.second }
-    requires proper { IsFew (Compose (way_of way)) }
+    requires proper { IsInRange (Compose (way_of way)) }
     ensures answer { (c : List ℕ → List ℕ) → Answers ShowsStatement result (CommandOutcome c (Compose (way_of way)) (turns_of pair.now.first)
         (program_tree (program_of pair.now.first) ∷ program_tree (program_of pair.now.second) ∷ [])) }
     ensures causes { (task : Task) (before : List ℕ → ℕ) → task.command ≡ Compose (way_of way) → Causes task before before result }

@@ -14,7 +14,7 @@ ghost use Rattle.kf_support.specs.Cleared.{program_of, turns_of};
 ghost use Rattle.kf_top.specs.Outcome.{Each, Gives, TokensOf, SourceOf, ProgramOf, TextWith, TypedOf, TextOf, cause_word, cleared as whether_cleared, source_of};
 ghost use Rattle.kf_top.specs.Outcome.{long_enough as whether_long, LongCleared, ClearedOf};
 ghost use Rattle.kf_top.specs.Place.{line_at, column_at};
-ghost use Rattle.kf_top.specs.Task.{Command, Quiet, Task, named, on_file, on_files};
+ghost use Rattle.kf_words.specs.Task.{Command, Quiet, Task, named, on_file, on_files};
 ghost use Rattle.kf_top.specs.Stops.{Answers, Causes, is_bytes, is_tokens, is_source, is_program, is_text, is_cleared, is_alone, are_cleared};
 ghost use Rattle.kf_top.specs.Stops.{are_texts, IsPlain, IsProper};
 ghost use Rattle.kf_top.specs.declared.stops.Refusal.TheVariants as refusal;

@@ -6,7 +6,7 @@ ghost use Rattle.kf_prior.specs.Laws.{IsFull};
 ghost use Rattle.kf_support.specs.Cleared.{program_of, turns_of};
 ghost use Rattle.kf_top.specs.Outcome.{CommandOutcome};
 ghost use Rattle.kf_top.specs.Stops.{Answers, Causes};
-ghost use Rattle.kf_top.specs.Task.{Covers, Task};
+ghost use Rattle.kf_words.specs.Task.{Covers, Task};
 ghost use Rattle.kf_top.specs.Views.{ShowsStatement};
 
 use crate::clearing::Pair;

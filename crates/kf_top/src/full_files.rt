@@ -8,7 +8,7 @@ ghost use Rattle.kf_core.specs.Views.{program_tree};
 ghost use Rattle.kf_support.specs.Cleared.{program_of, turns_of};
 ghost use Rattle.kf_prior.specs.Laws.{IsFull};
 ghost use Rattle.kf_top.specs.Outcome.{few_stores, ClearedOf, Each, FullOf, FullTexts, Gives, ReadyOf};
-ghost use Rattle.kf_top.specs.Task.{Covers, Task, on_files};
+ghost use Rattle.kf_words.specs.Task.{Covers, Task, on_files};
 ghost use Rattle.kf_top.specs.Stops.{Answers, Causes, are_cleared, are_texts, full_tree, stands_for, IsProper};
 ghost use Rattle.kf_top.specs.Views.{text_of};
 

@@ -6,16 +6,16 @@ ghost use Rattle.kf_value.specs.Views.{items_of};
 ghost use Rattle.kf_gain.specs.Gains.{Table};
 ghost use Rattle.kf_top.specs.Ends.{IsUnder};
 ghost use Rattle.kf_top.specs.Outcome.{GainIn, TableIn};
-ghost use Rattle.kf_top.specs.Task.{Task};
+ghost use Rattle.kf_words.specs.Task.{Task};
 ghost use Rattle.kf_top.specs.Stops.{Answers, Causes, is_gain, is_table};
-ghost use Rattle.kf_top.specs.Views.{gain_of};
+ghost use Rattle.kf_words.specs.Jobs.{gain_of};
 
 use crate::clearing::source;
-use crate::gain_words::GainWord;
 use crate::stops::{Refusal, Stop};
 use kf_gain::{Gain, GainTable, TableError, read_table};
 use kf_io::Files;
 use kf_value::Target;
+use kf_words::GainWord;
 use std::alloc::Global;
 
 // The gain table in a file.

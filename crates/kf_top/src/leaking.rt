@@ -9,11 +9,11 @@ ghost use Rattle.kf_gain.specs.Gains.{GainOf};
 ghost use Rattle.kf_gain.specs.Views.{gain_tree};
 ghost use Rattle.kf_top.specs.Ends.{IsUnder};
 ghost use Rattle.kf_top.specs.Outcome.{CommandOutcome, ReportIn};
-ghost use Rattle.kf_top.specs.Task.{Leak, Task};
+ghost use Rattle.kf_words.specs.Task.{Leak, Task};
 ghost use Rattle.kf_top.specs.Stops.{Answers, Causes};
-ghost use Rattle.kf_top.specs.Views.{gain_of, ShowsStatement};
+ghost use Rattle.kf_top.specs.Views.{ShowsStatement};
+ghost use Rattle.kf_words.specs.Jobs.{gain_of};
 
-use crate::gain_words::GainWord;
 use crate::gains::gain_in;
 use crate::stops::{Done, Refusal, Stop};
 use kf_gain::{Gain, GainFault};
@@ -22,6 +22,7 @@ use kf_report::report_of;
 use kf_run::hyper_of;
 use kf_support::Cleared;
 use kf_text::report_text;
+use kf_words::GainWord;
 use std::alloc::Global;
 
 // The report of a cleared program under a gain.

@@ -5,7 +5,7 @@ ghost use Rattle.kf_core.specs.Views.{program_tree};
 ghost use Rattle.kf_support.specs.Cleared.{program_of, turns_of};
 ghost use Rattle.kf_top.specs.Outcome.{CommandOutcome};
 ghost use Rattle.kf_top.specs.Stops.{Answers, Causes};
-ghost use Rattle.kf_top.specs.Task.{Blame, Quiet, Task};
+ghost use Rattle.kf_words.specs.Task.{Blame, Quiet, Task};
 ghost use Rattle.kf_top.specs.Views.{ShowsStatement};
 
 use crate::stops::{Done, Stop};

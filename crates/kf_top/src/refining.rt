@@ -17,7 +17,7 @@ ghost use Rattle.kf_text.specs.VerdictTexts.{mark_text as text_of_mark, verdict_
 ghost use Rattle.kf_top.specs.Answer.{says_yes, MarkOf, VerdictOn};
 ghost use Rattle.kf_top.specs.Ends.{IsRefining};
 ghost use Rattle.kf_top.specs.Outcome.{most_pivots, AreHypers, CertIn, CheckOutcome, RefineOutcome};
-ghost use Rattle.kf_top.specs.Task.{Check, Refine, Task};
+ghost use Rattle.kf_words.specs.Task.{Check, Refine, Task};
 ghost use Rattle.kf_top.specs.Stops.{Answers, Causes, StopCause, is_cert, IsToldOf, MarkOn, VerdictIn};
 ghost use Rattle.kf_top.specs.Views.{ShowsStatement};
 

@@ -1,13 +1,13 @@
 ghost use Rattle.std.specs.Prelude.{◌≡◌, ℕ, List, Some, map, string_bytes};
 ghost use Rattle.kf_top.specs.Ends.{sunk, Completes, HasCauses, IsQuiet};
-ghost use Rattle.kf_top.specs.Task.{task_of};
-ghost use Rattle.kf_top.specs.Views.{task_of_job, HasTurns, IsFew};
+ghost use Rattle.kf_words.specs.Task.{task_of};
+ghost use Rattle.kf_words.specs.Jobs.{task_of_job, HasTurns, IsInRange};
 
 use crate::stops::Stop;
 use crate::telling::{refuse, tell};
-use crate::words::{Job, WordsError, read_words};
 use crate::work::work;
 use kf_io::{Failed, Files, Sink, write_all};
+use kf_words::{Job, WordsError, read_words};
 use std::alloc::Global;
 
 // Does the job, and writes its answer or tells why there is none.
@@ -19,7 +19,7 @@ fn carry_out<F: Files, O: Sink, E: Sink>(
     err: &mut E,
 ) -> u8
     requires turns { HasTurns (task_of_job job.now) }
-    requires few { IsFew (task_of_job job.now).command }
+    requires range { IsInRange (task_of_job job.now).command }
     ensures causes { (words : List (List ℕ)) → task_of words ≡ Some (task_of_job job.now)
         → HasCauses words (F.contents files.old) (F.faults files.old) (F.faults files.new)
         (sunk O.taken O.faults O.room out.old out.new) (sunk E.taken E.faults E.room err.old err.new) result }

@@ -3,9 +3,10 @@ ghost use Rattle.std.specs.Option.{ForSome};
 ghost use Rattle.kf_core.specs.Views.{program_tree};
 ghost use Rattle.kf_support.specs.Cleared.{program_of, turns_of};
 ghost use Rattle.kf_top.specs.Outcome.{CommandOutcome, MadeOutcome, TaskOutcome};
-ghost use Rattle.kf_top.specs.Task.{Attack, Blame, Capacity, Check, Compose, Covers, Hyper, Leak, Quiet, Reach, Refine, Traces, Channel, Trail, Task, on_file, on_files};
+ghost use Rattle.kf_words.specs.Task.{Attack, Blame, Capacity, Check, Compose, Covers, Hyper, Leak, Quiet, Reach, Refine, Traces, Channel, Trail, Task, on_file, on_files};
 ghost use Rattle.kf_top.specs.Stops.{Answers, Causes};
-ghost use Rattle.kf_top.specs.Views.{gain_of, task_of_job, HasTurns, IsFew, ShowsStatement};
+ghost use Rattle.kf_top.specs.Views.{ShowsStatement};
+ghost use Rattle.kf_words.specs.Jobs.{gain_of, task_of_job, HasTurns, IsInRange};
 ghost use Rattle.kf_top.specs.CapacityViews.{way_of};
 
 use crate::attacking::{attack_said, reach_said};
@@ -13,12 +14,10 @@ use crate::capacities::{Composition, capacity_said, composition_said};
 use crate::clearing::{file, long_file, two_files};
 use crate::covering::covers_said;
 use crate::full_files::two_full_files;
-use crate::gain_words::GainWord;
 use crate::leaking::leak_said;
 use crate::quieting::{blame_said, quiet_said};
 use crate::refining::{check_said, refine_said};
 use crate::stops::{Done, Refusal, Stop};
-use crate::words::Job;
 use kf_channel::{ChannelError, channel_of};
 use kf_io::Files;
 use kf_make::{made, made_laws};
@@ -27,6 +26,7 @@ use kf_support::Cleared;
 use kf_text::{channel_text, hyper_text, make_text, trace_text, trail_text};
 use kf_traces::table;
 use kf_value::Name;
+use kf_words::{GainWord, Job};
 use std::alloc::Global;
 
 // What the command `hyper` says of a cleared program.
@@ -268,7 +268,7 @@ fn compose<'a, F: Files>(
     way: Composition,
     turns: u32,
 ) -> Result<Done, Stop<'a>>
-    requires proper { IsFew (Compose (way_of way)) }
+    requires proper { IsInRange (Compose (way_of way)) }
     requires some_turns { 1 ≤ turns }
     requires few_turns { turns ≤ 65535 }
     ensures answer { ForSome (F.contents files.old) (λ c. Answers ShowsStatement result (TaskOutcome c (on_files (Compose (way_of way)) (a.now ∷ b.now ∷ []) turns))) }
@@ -333,7 +333,7 @@ fn blame<'a, F: Files>(
 /// Does the job: what is to be written, or why there is no answer.
 pub fn work<'a, F: Files>(alloc: Global, files: &mut F, job: &'a Job) -> Result<Done, Stop<'a>>
     requires turns { HasTurns (task_of_job job.now) }
-    requires few { IsFew (task_of_job job.now).command }
+    requires range { IsInRange (task_of_job job.now).command }
     ensures answer { ForSome (F.contents files.old) (λ c. Answers ShowsStatement result (TaskOutcome c (task_of_job job.now))) }
     ensures causes { Causes (task_of_job job.now) (F.faults files.old) (F.faults files.new) result }
 {
@@ -342,7 +342,7 @@ pub fn work<'a, F: Files>(alloc: Global, files: &mut F, job: &'a Job) -> Result<
         Job::Traces { file, turns } => traces(alloc, files, file, *turns),
         Job::Channel { file, turns } => channel(alloc, files, file, *turns),
         Job::Trail { file, turns } => trail(alloc, files, file, *turns),
-        Job::Make { count, turns } => make(alloc, *count, *turns),
+        Job::Make { n, turns } => make(alloc, *n, *turns),
         Job::Leak { file, gain, turns } => leak(alloc, files, file, gain, *turns),
         Job::Attack { file, gain, turns } => attack(alloc, files, file, gain, *turns),
         Job::Reach {

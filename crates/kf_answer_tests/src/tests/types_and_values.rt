@@ -46,22 +46,6 @@ fn alone(alloc: Global, ty: &Ty) -> Result<Target, Mem>
     })
 }
 
-/// A target of two variables of these types.
-#[tactic(auto, using(crate::proofs::Sizes::two_fit))]
-fn both(alloc: Global, first: &Ty, second: &Ty) -> Result<Target, Mem>
-    requires formed { IsTrue (well_formed (type_tree first.now)) }
-    requires sized { HasSize (type_tree first.now) }
-    requires also_formed { IsTrue (well_formed (type_tree second.now)) }
-    requires also_sized { HasSize (type_tree second.now) }
-{
-    let first = item(alloc, "x", first.copy(alloc)?)?;
-    let second = item(alloc, "y", second.copy(alloc)?)?;
-    let items = vec![in alloc; first, second]?;
-    Ok(Target {
-        items: TargetItemList::new(items),
-    })
-}
-
 /// The number of values of a type that has a size.
 fn known_size(ty: &Ty) -> u32
     requires { HasSize (type_tree ty.now) }
@@ -240,102 +224,6 @@ fn texts_of_a_target(rt: HostRuntime) -> Result<(), Fail> {
     text.push(b'=')?;
     print_target(alloc, &one, 2, &mut text)?;
     assert_eq!(rt; text.as_slice(), b"=2".as_slice());
-    Ok(())
-}
-
-/// Each of the texts is of the value with this number, or of none.
-fn has_numbers(
-    rt: &impl Abort,
-    alloc: Global,
-    target: &Target,
-    texts: &[(&str, Option<u64>)],
-) -> Result<(), Mem> {
-    for (text, number) in texts {
-        assert_eq!(rt;
-            number_of(alloc, target, text)?,
-            *number,
-            "the number of {text}"
-        );
-    }
-    Ok(())
-}
-
-#[test]
-fn texts_that_almost_fit(rt: HostRuntime) -> Result<(), Fail> {
-    let alloc = rt.alloc();
-    has_numbers(
-        &rt,
-        alloc,
-        &alone(alloc, &range(-10, 12))?,
-        &[
-            ("-10", Some(0)),
-            ("0", Some(10)),
-            ("12", Some(22)),
-            ("", None),
-            ("-", None),
-            ("-0", None),
-            ("+1", None),
-            ("1 ", None),
-            ("007", None),
-            ("13", None),
-            ("-11", None),
-            ("18446744073709551617", None),
-        ],
-    )?;
-    has_numbers(
-        &rt,
-        alloc,
-        &alone(alloc, &set_of(alloc, range(0, 2))?)?,
-        &[
-            ("{}", Some(0)),
-            ("{0, 2}", Some(5)),
-            ("{2, 0}", None),
-            ("{0,2}", None),
-            ("{0, 0}", None),
-            ("{0, 2, }", None),
-            ("{0, 2", None),
-            ("{3}", None),
-        ],
-    )?;
-    has_numbers(
-        &rt,
-        alloc,
-        &alone(alloc, &pair(alloc, range(0, 1), Ty::Bool)?)?,
-        &[
-            ("(1, true)", Some(3)),
-            ("(1, true", None),
-            ("(1, True)", None),
-            ("(1)", None),
-            ("1, true", None),
-            ("(1, true))", None),
-        ],
-    )?;
-    Ok(())
-}
-
-#[test]
-fn texts_of_several_items(rt: HostRuntime) -> Result<(), Fail> {
-    let alloc = rt.alloc();
-    let tuples = set_of(alloc, pair(alloc, Ty::Bool, range(0, 1))?)?;
-    has_numbers(
-        &rt,
-        alloc,
-        &both(alloc, &range(0, 3), &tuples)?,
-        &[
-            ("(0, {})", Some(0)),
-            ("(2, {(false, 1), (true, 0)})", Some(38)),
-            (
-                "(3, {(false, 0), (false, 1), (true, 0), (true, 1)})",
-                Some(63),
-            ),
-            ("(2, {(true, 0), (false, 1)})", None),
-            ("(2, {(false, 1),(true, 0)})", None),
-            ("(2, {(false, 1) (true, 0)})", None),
-            ("(2, {(false, 1), (true, 0)}", None),
-            ("(4, {})", None),
-            ("2", None),
-        ],
-    )?;
     Ok(())
 }
 

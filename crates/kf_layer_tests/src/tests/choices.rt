@@ -1,5 +1,5 @@
 // Distributions, each with what it chooses, or with its fault; all worked out by hand.
-use crate::tests::values::{first_observed, has_a_store, observing};
+use crate::tests::programs::{first_observed, has_a_store, observing};
 use crate::tests::*;
 use itoa::Buffer;
 use kf_eval::{Choice, ChoiceError, choices, is_always_sure};
@@ -54,47 +54,25 @@ fn shown(alloc: Global, choice: Result<Choice, ChoiceError>) -> Result<Vec<u8>, 
     }
 }
 
-const ROWS: [(&str, &str); 28] = [
+const ROWS: [(&str, &str); 12] = [
     ("2", "2 1, 1"),
     ("1 div x", "DivZero"),
     ("uniform {3, 1, 3}", "1 1, 3 1, 2"),
-    ("uniform ({1} less {1})", "NoWeight"),
     ("uniform 2..4", "2 1, 3 1, 4 1, 3"),
-    ("uniform -3..-1", "-3 1, -2 1, -1 1, 3"),
-    ("uniform 3..3", "3 1, 1"),
     ("uniform 3..2", "NoWeight"),
     ("uniform 0..65536", "RangeLong"),
-    ("uniform 1 div 0..65536", "DivZero"),
-    ("flip 1/2", "false 1, true 1, 2"),
-    ("flip 2/4", "false 1, true 1, 2"),
     ("flip 6/9", "false 1, true 2, 3"),
     ("flip 0/5", "false 1, 1"),
-    ("flip 5/5", "true 1, 1"),
-    ("choose { 1 : 2, 2 : 4 }", "1 1, 2 2, 3"),
-    ("choose { 2 : 1, 1 : 1, 2 : 1 }", "1 1, 2 2, 3"),
-    ("choose { 2 : 3, 1 : 0, 2 : 3 }", "2 1, 1"),
     (
         "choose { 5 : 6, 3 : 9, 4 : 0, 5 : 6, 3 : 3 }",
         "3 1, 5 1, 2",
-    ),
-    ("choose { true : 10, false : 4 }", "false 2, true 5, 7"),
-    (
-        "choose { (1, true) : 1, (1, false) : 2, (1, true) : 3 }",
-        "(1, false) 1, (1, true) 2, 3",
     ),
     (
         "choose { {1} : 2, {0, 1} : 2, {2} less {2} : 4 }",
         "{} 2, {1} 1, {0, 1} 1, 4",
     ),
-    ("choose { x : 3, 1 - x : 1 }", "0 3, 1 1, 4"),
-    ("choose { 1 : 1000000000, 2 : 500000000 }", "1 2, 2 1, 3"),
-    ("choose { 1 : 0, 2 : 0 }", "NoWeight"),
     ("choose { 1 div 0 : 0, 2 : 7 }", "2 1, 1"),
     ("choose { 1 : 1, 2 : -1 }", "NegativeWeight"),
-    (
-        "choose { 1000000000 * 1000000000 * 1000000000 : 1, 2 : -1 }",
-        "ArithWide",
-    ),
 ];
 
 #[test]

@@ -1,5 +1,5 @@
-// The tokens of texts, and the first faults of others, worked out by hand.
-use kf_lex::{LexError, Sign, Tok, Token, Word, lex, operator_of};
+// The tokens of texts, and the operators of tokens, worked out by hand.
+use kf_lex::{Sign, Tok, Token, Word, lex, operator_of};
 use kf_ops::Op;
 use std::alloc::Global;
 use std::process::Abort;
@@ -12,17 +12,6 @@ fn has_tokens(alloc: Global, src: &[u8], expected: &[Token]) -> bool {
     match lex(alloc, src) {
         Ok(tokens) => tokens.as_slice() == expected,
         Err(_) => false,
-    }
-}
-
-/// Whether the source has this first fault.
-fn has_fault(alloc: Global, src: &[u8], fault: LexError) -> bool {
-    if src.len() > 1_048_576 {
-        return false;
-    }
-    match lex(alloc, src) {
-        Ok(_) => false,
-        Err(e) => e == fault,
     }
 }
 
@@ -100,50 +89,6 @@ fn tokens_of_texts(rt: HostRuntime) {
     }
 }
 
-#[test]
-fn every_word(rt: HostRuntime) {
-    let text = "var bool set of about old skip observe if else while uniform \
-                choose flip true false or and not in union less div mod inter size cond \
-                xor implies subset min max abs vis";
-    let words = [
-        word(Word::VarWord, 0, 3),
-        word(Word::BoolWord, 4, 8),
-        word(Word::SetWord, 9, 12),
-        word(Word::OfWord, 13, 15),
-        word(Word::AboutWord, 16, 21),
-        word(Word::OldWord, 22, 25),
-        word(Word::SkipWord, 26, 30),
-        word(Word::ObserveWord, 31, 38),
-        word(Word::IfWord, 39, 41),
-        word(Word::ElseWord, 42, 46),
-        word(Word::WhileWord, 47, 52),
-        word(Word::UniformWord, 53, 60),
-        word(Word::ChooseWord, 61, 67),
-        word(Word::FlipWord, 68, 72),
-        word(Word::TrueWord, 73, 77),
-        word(Word::FalseWord, 78, 83),
-        word(Word::OrWord, 84, 86),
-        word(Word::AndWord, 87, 90),
-        word(Word::NotWord, 91, 94),
-        word(Word::InWord, 95, 97),
-        word(Word::UnionWord, 98, 103),
-        word(Word::LessWord, 104, 108),
-        word(Word::DivWord, 109, 112),
-        word(Word::ModWord, 113, 116),
-        word(Word::InterWord, 117, 122),
-        word(Word::SizeWord, 123, 127),
-        word(Word::CondWord, 128, 132),
-        word(Word::XorWord, 133, 136),
-        word(Word::ImpliesWord, 137, 144),
-        word(Word::SubsetWord, 145, 151),
-        word(Word::MinWord, 152, 155),
-        word(Word::MaxWord, 156, 159),
-        word(Word::AbsWord, 160, 163),
-        word(Word::VisWord, 164, 167),
-    ];
-    assert!(rt; has_tokens(rt.alloc(), text.as_bytes(), &words));
-}
-
 /// The token stands for this operator.
 fn tells(rt: &impl Abort, kind: Tok, op: Option<Op>) {
     assert_eq!(rt; operator_of(kind), op, "the operator of {kind:?}");
@@ -160,57 +105,4 @@ fn operators_of_tokens(rt: HostRuntime) {
     tells(&rt, Tok::Sign(Sign::Range), None);
     tells(&rt, Tok::Name, None);
     tells(&rt, Tok::Number(0), None);
-}
-
-#[test]
-fn every_sign(rt: HostRuntime) {
-    let text = ":= : ; , ( ) { } .. . / = != <= < >= > + - *";
-    let signs = [
-        sign(Sign::Assign, 0, 2),
-        sign(Sign::Colon, 3, 4),
-        sign(Sign::Semi, 5, 6),
-        sign(Sign::Comma, 7, 8),
-        sign(Sign::ParenOpen, 9, 10),
-        sign(Sign::ParenClose, 11, 12),
-        sign(Sign::BraceOpen, 13, 14),
-        sign(Sign::BraceClose, 15, 16),
-        sign(Sign::Range, 17, 19),
-        sign(Sign::Dot, 20, 21),
-        sign(Sign::Slash, 22, 23),
-        sign(Sign::Equal, 24, 25),
-        sign(Sign::NotEqual, 26, 28),
-        sign(Sign::AtMost, 29, 31),
-        sign(Sign::Less, 32, 33),
-        sign(Sign::AtLeast, 34, 36),
-        sign(Sign::Greater, 37, 38),
-        sign(Sign::Plus, 39, 40),
-        sign(Sign::Minus, 41, 42),
-        sign(Sign::Star, 43, 44),
-    ];
-    assert!(rt; has_tokens(rt.alloc(), text.as_bytes(), &signs));
-}
-
-#[test]
-fn first_faults(rt: HostRuntime) {
-    let cases: [(&[u8], LexError); 16] = [
-        (b"@", LexError::Char { at: 0 }),
-        (b"!", LexError::Char { at: 0 }),
-        (b"a ! =", LexError::Char { at: 2 }),
-        (b"\xEF\xBB\xBFx", LexError::Char { at: 0 }),
-        (b"x\xC2\xA0", LexError::Char { at: 1 }),
-        (b"\0", LexError::Char { at: 0 }),
-        (b"\x0C", LexError::Char { at: 0 }),
-        (b"\xFF", LexError::Utf8 { at: 0 }),
-        (b"# \xFF\n", LexError::Utf8 { at: 2 }),
-        (b"a\xC3", LexError::Utf8 { at: 1 }),
-        (b"@ \xFF", LexError::Char { at: 0 }),
-        (b"\xFF @", LexError::Utf8 { at: 0 }),
-        (b"1000000001", LexError::Number { at: 0 }),
-        (b"99999999999999999999", LexError::Number { at: 0 }),
-        (b"ab 1000000001 @ \xFF", LexError::Number { at: 3 }),
-        (b"# 1000000001\n~", LexError::Char { at: 13 }),
-    ];
-    for (src, fault) in &cases {
-        assert!(rt; has_fault(rt.alloc(), src, *fault), "{src:?}");
-    }
 }

@@ -7,8 +7,7 @@ ghost use Rattle.kf_eval.specs.Kinds.{shape_kinds};
 ghost use Rattle.kf_eval.specs.Memos.{IsMemoOf};
 
 use crate::tests::choices::print_choice;
-use crate::tests::plain::{is_store, short_program};
-use crate::tests::values::first_observed;
+use crate::tests::programs::{first_observed, is_store, short_program};
 use crate::tests::*;
 use itoa::Buffer;
 use kf_core::Dx;

@@ -1,6 +1,8 @@
 // Words, and what they ask for.
-use crate::tests::*;
+use crate::tests::words_of;
 use kf_top::{GainWord, Job, WordsError, read_words};
+use std::process::Abort;
+use std::test::Fail;
 
 // The command `leak` with its gain.
 fn leak_by(gain: &GainWord) -> &'static str {
@@ -56,7 +58,7 @@ fn parts(job: &Job) -> (&'static str, &str, u32) {
         Job::Traces { file, turns } => ("traces", file.as_str(), *turns),
         Job::Channel { file, turns } => ("channel", file.as_str(), *turns),
         Job::Trail { file, turns } => ("trail", file.as_str(), *turns),
-        Job::Make { count, turns } => (made_of(*count), "", *turns),
+        Job::Make { n, turns } => (made_of(*n), "", *turns),
         Job::Leak { file, gain, turns } => (leak_by(gain), file.as_str(), *turns),
         Job::Refine { a, turns, .. } => ("refine", a.as_str(), *turns),
         Job::Check { a, turns, .. } => ("check", a.as_str(), *turns),

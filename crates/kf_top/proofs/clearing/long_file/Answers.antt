@@ -2,7 +2,7 @@ use Rattle.std.proofs.Common.{ℕ, List, subst}
 use Rattle.std.proofs.lemmas.Result.{err_from_is_err_and}
 use Rattle.kf_top.specs.Outcome.{Text, LongCleared}
 use Rattle.kf_top.specs.Stops.{Answers, Causes, is_cleared}
-use Rattle.kf_top.specs.Task.{Quiet}
+use Rattle.kf_words.specs.Task.{Quiet}
 use Rattle.kf_top.proofs.Steps.{no_text, alone_ready}
 use Rattle.kf_top.proofs.clearing.long_file.Goals as goal
 

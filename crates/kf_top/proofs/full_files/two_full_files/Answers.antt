@@ -2,7 +2,7 @@ use Rattle.std.proofs.Common.{ℕ, List, [], ◌∷◌, subst}
 use Rattle.std.proofs.lemmas.Result.{err_from_is_err_and}
 use Rattle.kf_top.specs.Outcome.{Each, ReadyOf, TextOf}
 use Rattle.kf_top.specs.Stops.{Causes, are_cleared, are_texts}
-use Rattle.kf_top.specs.Task.{Covers}
+use Rattle.kf_words.specs.Task.{Covers}
 use Rattle.kf_top.specs.Views.{text_of}
 use Rattle.kf_top.proofs.Steps.{first_stops, then_meets}
 use Rattle.kf_top.proofs.full_files.two_full_files.Goals as goal

@@ -1,7 +1,7 @@
 use Rattle.std.proofs.Common.{ℕ, List, subst, inl}
 use Rattle.std.proofs.lemmas.Result.{err_from_is_err_and}
 use Rattle.kf_top.specs.Stops.{Causes}
-use Rattle.kf_top.specs.Views.{gain_of}
+use Rattle.kf_words.specs.Jobs.{gain_of}
 use Rattle.kf_top.proofs.leaking.leak_said.Goals as goal
 
 pub returns-in_err-gain-clause-causes : goal.returns-in_err-gain-clause-causes

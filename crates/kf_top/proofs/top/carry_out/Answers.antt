@@ -1,7 +1,8 @@
 use Rattle.std.proofs.Common.{◌≤◌, List, ℕ, refl, sym, ap, subst, length, if◌then◌else◌}
 use Rattle.std.specs.Io.KnownBytes.{Appends}
 use Rattle.kf_io.specs.Writes.{AppendsSome}
-use Rattle.kf_top.specs.Views.{shown, task_of_job}
+use Rattle.kf_top.specs.Views.{shown}
+use Rattle.kf_words.specs.Jobs.{task_of_job}
 use Rattle.kf_top.specs.Stops.{refused}
 use Rattle.kf_top.proofs.Ending.{ends_refused, ends_unread, ends_shown, ends_unwritten, refused_high, refused_other, untouched, not_certain}
 use Rattle.kf_top.proofs.top.carry_out.Goals as goal

@@ -3,7 +3,7 @@ use Rattle.std.proofs.lemmas.Result.{err_from_is_err_and}
 use Rattle.kf_core.specs.Views.{program_tree}
 use Rattle.kf_support.specs.Cleared.{program_of, turns_of}
 use Rattle.kf_top.specs.Stops.{Causes}
-use Rattle.kf_top.specs.Task.{Capacity, Task, on_file}
+use Rattle.kf_words.specs.Task.{Capacity, Task, on_file}
 use Rattle.kf_top.proofs.Steps.{task_stops, task_answers, named_alone}
 use Rattle.kf_top.proofs.work.capacity.Goals as goal
 

@@ -4,7 +4,7 @@ use Rattle.kf_core.specs.Views.{program_tree}
 use Rattle.kf_support.specs.Cleared.{program_of, turns_of}
 use Rattle.kf_top.specs.Outcome.{CheckOutcome}
 use Rattle.kf_top.specs.Stops.{Answers, Causes}
-use Rattle.kf_top.specs.Task.{Command, Check, Task, on_files}
+use Rattle.kf_words.specs.Task.{Command, Check, Task, on_files}
 use Rattle.kf_top.specs.Views.{ShowsStatement}
 use Rattle.kf_top.proofs.Steps.{pair_stops, pair_answers, named_first, named_second}
 use Rattle.kf_top.proofs.work.check.Goals as goal

@@ -4,7 +4,7 @@ use Rattle.kf_core.specs.Views.{program_tree}
 use Rattle.kf_support.specs.Cleared.{program_of, turns_of}
 use Rattle.kf_top.specs.CapacityViews.{way_of}
 use Rattle.kf_top.specs.Stops.{Causes}
-use Rattle.kf_top.specs.Task.{Command, Compose, Task, on_files}
+use Rattle.kf_words.specs.Task.{Command, Compose, Task, on_files}
 use Rattle.kf_top.proofs.Steps.{pair_stops, pair_answers, named_first, named_second}
 use Rattle.kf_top.proofs.work.compose.Goals as goal
 

@@ -3,7 +3,7 @@ use Rattle.std.proofs.lemmas.Result.{err_from_is_err_and}
 use Rattle.kf_core.specs.Views.{program_tree}
 use Rattle.kf_support.specs.Cleared.{program_of, turns_of}
 use Rattle.kf_top.specs.Stops.{Causes}
-use Rattle.kf_top.specs.Task.{Command, Refine, Task, on_files}
+use Rattle.kf_words.specs.Task.{Command, Refine, Task, on_files}
 use Rattle.kf_top.proofs.Steps.{pair_stops, pair_answers, named_first, named_second}
 use Rattle.kf_top.proofs.work.refine.Goals as goal
 

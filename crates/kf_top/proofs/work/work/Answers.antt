@@ -1,5 +1,5 @@
 use Rattle.std.proofs.Common.{[]}
-use Rattle.kf_top.specs.Task.{Make, Task, on_files}
+use Rattle.kf_words.specs.Task.{Make, Task, on_files}
 use Rattle.kf_top.proofs.Steps.{made_answers}
 use Rattle.kf_top.proofs.work.work.Goals as goal
 
@@ -46,11 +46,11 @@ pub returns-in-Check-clause-causes : goal.returns-in-Check-clause-causes
 returns-in-Check-clause-causes g c = rw c.in-Check.is c.check.ensures.causes
 
 pub returns-in-Make-clause-answer : goal.returns-in-Make-clause-answer
-returns-in-Make-clause-answer g c x e = rw c.in-Make.is (made_answers x c.in-Make.count c.in-Make.turns c.make.result c.make.ensures.answer)
+returns-in-Make-clause-answer g c x e = rw c.in-Make.is (made_answers x c.in-Make.n c.in-Make.turns c.make.result c.make.ensures.answer)
 
 pub returns-in-Make-clause-causes : goal.returns-in-Make-clause-causes
 returns-in-Make-clause-causes g c =
-    let task : Task = on_files (Make c.in-Make.count) [] c.in-Make.turns in
+    let task : Task = on_files (Make c.in-Make.n) [] c.in-Make.turns in
     rw c.in-Make.is (c.make.ensures.causes task (g.F.Files.faults c.args.files.now))
 
 pub returns-in-Capacity-clause-answer : goal.returns-in-Capacity-clause-answer

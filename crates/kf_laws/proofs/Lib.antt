@@ -1,0 +1,9 @@
+mod Accepted
+mod ClearedPrograms
+mod CoveringAll
+mod OneAnswer
+mod OneComposed
+mod ProperHypers
+mod SizedTargets
+mod SomeAnswer
+mod WrittenCertificates

@@ -1,0 +1,85 @@
+-- For bodies: laws of the definitions.
+use Rattle.std.specs.Prelude.{◌≡◌, ◌⊎◌, ℕ, ◌≤◌, ℤ, pos, ◌*ℤ◌, ◌≤ℤ◌, ◌<ℤ◌, true, List, [], ◌∷◌, ◌++◌, length, replicate, codes, Some, Ok}
+use Rattle.kf_core.specs.Joint.{joint_of}
+use Rattle.kf_core.specs.Programs.{ProgramTree}
+use Rattle.kf_core.specs.Rows.{IsHyperOf}
+use Rattle.kf_core.specs.Scale.{scale_of}
+use Rattle.kf_hyper.specs.Hypers.{Inner}
+use Rattle.kf_gain.specs.Gains.{GainOf, Table, TableTree}
+use Rattle.kf_gain.specs.Vulnerabilities.{IsPosterior}
+use Rattle.kf_gain.specs.Worth.{NoBetter}
+use Rattle.kf_prior.specs.Priors.{IsPosteriorAt, initial_count}
+use Rattle.kf_quiet.specs.Quiet.{quiet_joint}
+use Rattle.kf_refine.specs.Verdicts.{No}
+use Rattle.kf_text.specs.Texts.{hyper_text}
+use Rattle.kf_text.specs.VerdictTexts.{verdict_text}
+use Rattle.kf_top.specs.Answer.{WideCert}
+use Rattle.kf_top.specs.Ends.{Answer, IsAnswer, showing, refusing}
+use Rattle.kf_top.specs.Outcome.{ClearedOf}
+use Rattle.kf_words.specs.Task.{Task, Hyper, Refine, Check, Covers, Quiet, on_file, on_files, task_of}
+
+-- words over files have exactly one defined answer
+abbrev pub ExactlyOneAnswer : Type 0
+ExactlyOneAnswer = (words : List (List ℕ)) (contents : List ℕ → List ℕ)
+    → (answer : Answer) × IsAnswer words contents answer × ((other : Answer) → IsAnswer words contents other → other ≡ answer)
+
+-- a task asks for the certificate of a verdict on the programs of two files, and another for the check of a certificate on them
+abbrev pub asks_certificate : List ℕ → List ℕ → ℕ → Task
+asks_certificate first second turns = on_files (Refine true) (first ∷ second ∷ []) turns
+
+abbrev pub asks_check : List ℕ → List ℕ → List ℕ → ℕ → Task
+asks_check cert first second turns = on_files (Check cert) (first ∷ second ∷ []) turns
+
+-- a certificate that `refine --json` wrote is accepted by `check` for the same two texts and turns, wherever it stands in a file of at most
+-- 1,048,576 bytes; or that check is too wide
+abbrev pub CertificatesAccepted : Type 0
+CertificatesAccepted = (words others : List (List ℕ)) (contents later : List ℕ → List ℕ) (cert first second : List ℕ) (turns : ℕ)
+    (written checked : Answer)
+    → task_of words ≡ Some (asks_certificate first second turns) → IsAnswer words contents written → written.status ≤ 1
+    → task_of others ≡ Some (asks_check cert first second turns) → IsAnswer others later checked
+    → later first ≡ contents first → later second ≡ contents second → later cert ≡ written.out → length written.out ≤ 1048576
+    → (checked ≡ showing (record { yes = true; bytes = codes "accepted" ++ 10 ∷ [] })) ⊎ (checked ≡ refusing WideCert)
+
+-- a task asks whether the program of the second file leaks no more than that of the first, whatever the prior
+abbrev pub asks_covers : List ℕ → List ℕ → ℕ → Task
+asks_covers first second turns = on_files Covers (first ∷ second ∷ []) turns
+
+-- an answer to it on these full programs
+pub record IsCoversAnswer (contents : List ℕ → List ℕ) (first second : List ℕ) (turns : ℕ) (answer : Answer) (p q : ProgramTree) : Type 0 where
+  pub words : List (List ℕ)
+  pub asks : task_of words ≡ Some (asks_covers first second turns)
+  pub is_answer : IsAnswer words contents answer
+  pub are_cleared : ClearedOf contents (asks_covers first second turns) (Ok (p ∷ q ∷ []))
+
+-- where the answer is a yes, the second leaks no more at any prior and under any gain table: its posterior over its scale is at most that
+-- of the first over its own
+abbrev pub CoversAllPriors : Type 0
+CoversAllPriors = (contents : List ℕ → List ℕ) (first second : List ℕ) (turns : ℕ) (answer : Answer) (p q : ProgramTree)
+    → IsCoversAnswer contents first second turns answer p q → answer.status ≡ 0
+    → (prior : List ℕ) (t : TableTree) (y z : ℤ) → length prior ≡ initial_count p
+    → IsPosteriorAt turns p prior (Table t) y → IsPosteriorAt turns q prior (Table t) z
+    → (z *ℤ pos (scale_of turns p)) ≤ℤ (y *ℤ pos (scale_of turns q))
+
+-- where it is a no, its bytes are a table under which the second leaks more at the uniform prior
+abbrev pub NoIsSeparated : Type 0
+NoIsSeparated = (contents : List ℕ → List ℕ) (first second : List ℕ) (turns : ℕ) (answer : Answer) (p q : ProgramTree)
+    → IsCoversAnswer contents first second turns answer p q → answer.status ≡ 1
+    → (t : TableTree) × (answer.out ≡ verdict_text p.target (No t))
+    × ((y z : ℤ) → IsPosteriorAt turns p (replicate (initial_count p) 1) (Table t) y
+    → IsPosteriorAt turns q (replicate (initial_count p) 1) (Table t) z
+    → (y *ℤ pos (scale_of turns q)) <ℤ (z *ℤ pos (scale_of turns p)))
+
+-- the hypers that `hyper` and `quiet` state of one text, by one program
+pub record AreQuietAnswers (from to turns : ℕ) (hyper quiet : Answer) (p : ProgramTree) (all hushed : List Inner) : Type 0 where
+  pub all_are : IsHyperOf (joint_of turns p) all
+  pub hushed_are : IsHyperOf (quiet_joint turns p from to) hushed
+  pub all_told : hyper.out ≡ hyper_text p.target (scale_of turns p) all
+  pub hushed_told : quiet.out ≡ hyper_text p.target (scale_of turns p) hushed
+
+-- what `quiet` states is never worth more to an adversary than what `hyper` states of the same text
+abbrev pub QuietIsNoBetter : Type 0
+QuietIsNoBetter = (words others : List (List ℕ)) (contents : List ℕ → List ℕ) (name : List ℕ) (from to turns : ℕ) (hyper quiet : Answer)
+    → task_of words ≡ Some (on_file Hyper name turns) → IsAnswer words contents hyper → hyper.status ≡ 0
+    → task_of others ≡ Some (on_file (Quiet from to) name turns) → IsAnswer others contents quiet → quiet.status ≡ 0 → from ≤ to
+    → (p : ProgramTree) × (all hushed : List Inner) × AreQuietAnswers from to turns hyper quiet p all hushed
+    × ((g : GainOf TableTree) (y z : ℤ) → IsPosterior g hushed y → IsPosterior g all z → NoBetter g y z)

@@ -1,0 +1,4 @@
+-- For bodies
+pub mod Laws
+pub mod Rooms
+pub mod Written

@@ -1,8 +1,0 @@
-use Rattle.std.proofs.Common.{refl}
-use Rattle.kf_value.specs.Kinds.{WholeKind}
-use Rattle.kf_ops.specs.declared.row.Pat.TheVariants as pat
-use Rattle.kf_layer_tests.proofs.Trials.{two_fit, well_whole}
-use Rattle.kf_layer_tests.proofs.tests.operator_values.has_member.Goals as goal
-
-pub apply-answer-requires : goal.apply-answer-requires
-apply-answer-requires g c = two_fit 9 pat.Any pat.SetOfAny refl WholeKind _ _ (well_whole _) c.in_ok-set_of.ensures

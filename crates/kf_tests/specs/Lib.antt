@@ -1,3 +1,0 @@
--- For bodies
-pub mod Rooms
-pub mod Written

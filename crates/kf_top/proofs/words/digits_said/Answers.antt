@@ -1,6 +1,0 @@
-use Rattle.std.proofs.Common.{◌∙◌, sym}
-use Rattle.kf_top.proofs.Numerals.{read_long}
-use Rattle.kf_top.proofs.words.digits_said.Goals as goal
-
-pub returns : goal.returns
-returns c = c.ok.ensures.value ∙ read_long c.args.most c.args.word.now c.parse.result c.requires (sym c.if-not-is_numeral.ensures) c.parse.ensures.value.0

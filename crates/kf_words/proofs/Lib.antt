@@ -1,0 +1,5 @@
+mod GainNames
+mod Matches
+mod Numerals
+mod TableRows
+mod TaskRanges

@@ -1,0 +1,218 @@
+-- Believed: what a list of words asks for, by the table of commands.
+use Rattle.std.specs.Prelude.{ℕ, List, [], ◌∷◌, ◌++◌, Bool, true, false, not, ◌&&◌, ◌||◌, ◌==◌, Option, None, Some, is_some, codes, length, find}
+use Rattle.std.specs.Prelude.{if◌then◌else◌, option_map, option_and_then, nat_le}
+use Rattle.std.specs.Str.{bytes_eq}
+use Rattle.kf_gain.specs.Gains.{GainOf, Table}
+use Rattle.kf_words.specs.Arguments.{Arguments, arguments_of}
+use Rattle.kf_words.specs.GainWords.{gain_named}
+use Rattle.kf_words.specs.Numbers.{number_of, probability_of, threshold_of, block_of}
+
+-- ---- tasks
+
+-- how two channels are put together
+pub data Composition : Type 0 where
+  -- one after the other
+  Cascade : Composition
+  -- side by side
+  Parallel : Composition
+  -- the first with probability num / den, else the second
+  Choice : ℕ → ℕ → Composition
+
+pub data Command : Type 0 where
+  Hyper : Command
+  Traces : Command
+  Channel : Command
+  Trail : Command
+  -- the Bayes capacity of a channel
+  Capacity : Command
+  -- those of two channels, and of what is put together of them
+  Compose : Composition → Command
+  -- under a gain, whose table stands in the file of this name
+  Leak : GainOf (List ℕ) → Command
+  -- what is best done under one
+  Attack : GainOf (List ℕ) → Command
+  -- with how many tries the posterior is at least num / den
+  Reach : ℕ → ℕ → Command
+  -- the text of this number of noisy observations
+  Make : ℕ → Command
+  -- whether the second program leaks no more than the first, maybe as a certificate
+  Refine : Bool → Command
+  -- whether the certificate in the file of this name proves its verdict on them
+  Check : List ℕ → Command
+  -- whether the second program leaks no more than the first, whatever the prior
+  Covers : Command
+  -- the hyper where the outermost statements from one on, up to but not with another, show nothing
+  Quiet : ℕ → ℕ → Command
+  -- how much is left of what is seen where each outermost statement in turn shows nothing
+  Blame : Command
+
+-- a command, the files of its programs, and how often a loop may turn
+pub record Task : Type 0 where
+  pub command : Command
+  pub files : List (List ℕ)
+  pub turns : ℕ
+
+-- a command on files, whose loops turn at most `turns` times
+abbrev pub on_files : Command → List (List ℕ) → ℕ → Task
+on_files command files turns = record { command = command; files = files; turns = turns }
+
+-- a command on one file
+abbrev pub on_file : Command → List ℕ → ℕ → Task
+on_file command file turns = on_files command (file ∷ []) turns
+
+-- the files that a command reads beside its programs
+abbrev pub tables_of : Command → List (List ℕ)
+tables_of (Leak (Table name)) = name ∷ []
+tables_of (Attack (Table name)) = name ∷ []
+tables_of (Check name) = name ∷ []
+tables_of command = []
+
+-- all files that a task names
+abbrev pub named : Task → List (List ℕ)
+named task = task.files ++ tables_of task.command
+
+-- ---- the table of commands
+
+-- what stands after a command's word: how many values, whether `--gain` must, and whether `--json` may; and which task it is, by these
+-- values and the options, once its turns are known
+pub record CommandRow : Type 0 where
+  pub values : ℕ
+  pub needs_gain : Bool
+  pub takes_json : Bool
+  pub task : List (List ℕ) → Arguments → Option (ℕ → Task)
+
+-- the row of a command on `files` files and nothing else
+abbrev pub files_only : Command → ℕ → CommandRow
+files_only command files = record {
+  values = files;
+  needs_gain = false;
+  takes_json = false;
+  task = λ names arguments. Some (on_files command names);
+}
+
+-- the row of a command on `files` files, under the gain that `--gain` names
+abbrev pub with_gain : (GainOf (List ℕ) → Command) → ℕ → CommandRow
+with_gain command files = record {
+  values = files;
+  needs_gain = true;
+  takes_json = false;
+  task = λ names arguments. option_map (λ g. on_files (command g) names) (option_and_then gain_named arguments.gain);
+}
+
+-- a number of observations, from 1 to 60
+abbrev pub observations_of : List ℕ → Option ℕ
+observations_of word = option_and_then (λ n. if nat_le n 60 then Some n else None) (number_of word)
+
+abbrev pub first_of : List (List ℕ) → Option (List ℕ)
+first_of [] = None
+first_of (word ∷ words) = Some word
+
+-- the row of `make`, which has one value, a number, and reads no file
+abbrev pub make_row : CommandRow
+make_row = record {
+  values = 1;
+  needs_gain = false;
+  takes_json = false;
+  task = λ words arguments. option_map (λ n. on_files (Make n) []) (option_and_then observations_of (first_of words));
+}
+
+-- the row of `refine`, which takes `--json`
+abbrev pub refine_row : CommandRow
+refine_row = record {
+  values = 2;
+  needs_gain = false;
+  takes_json = true;
+  task = λ names arguments. Some (on_files (Refine arguments.json) names);
+}
+
+-- all words but the first
+abbrev pub others_of : List (List ℕ) → List (List ℕ)
+others_of [] = []
+others_of (word ∷ words) = words
+
+-- the row of `check`, whose first file is the certificate
+abbrev pub check_row : CommandRow
+check_row = record {
+  values = 3;
+  needs_gain = false;
+  takes_json = false;
+  task = λ names arguments. option_map (λ cert. on_files (Check cert) (others_of names)) (first_of names);
+}
+
+-- the last word, and all words but that
+abbrev pub last_of : List (List ℕ) → Option (List ℕ)
+last_of [] = None
+last_of (word ∷ []) = Some word
+last_of (word ∷ next ∷ words) = last_of (next ∷ words)
+
+abbrev pub but_last : List (List ℕ) → List (List ℕ)
+but_last [] = []
+but_last (word ∷ []) = []
+but_last (word ∷ next ∷ words) = word ∷ but_last (next ∷ words)
+
+-- the row of a command on `values` values, of which the last is a pair of numbers and the others are files
+abbrev pub with_pair : (List ℕ → Option (ℕ × ℕ)) → (ℕ → ℕ → Command) → ℕ → CommandRow
+with_pair pair command values = record {
+  values = values;
+  needs_gain = false;
+  takes_json = false;
+  task = λ words arguments. option_map (λ p. on_files (command p.0 p.1) (but_last words)) (option_and_then pair (last_of words));
+}
+
+-- the table of commands, by their words
+abbrev pub commands : List (List ℕ × CommandRow)
+commands =
+    (codes "hyper", files_only Hyper 1) ∷ (codes "traces", files_only Traces 1) ∷ (codes "channel", files_only Channel 1)
+    ∷ (codes "leak", with_gain Leak 1) ∷ (codes "trail", files_only Trail 1) ∷ (codes "make", make_row)
+    ∷ (codes "refine", refine_row) ∷ (codes "check", check_row) ∷ (codes "capacity", files_only Capacity 1)
+    ∷ (codes "cascade", files_only (Compose Cascade) 2) ∷ (codes "parallel", files_only (Compose Parallel) 2)
+    ∷ (codes "choice", with_pair probability_of (λ num den. Compose (Choice num den)) 3) ∷ (codes "attack", with_gain Attack 1)
+    ∷ (codes "reach", with_pair threshold_of Reach 2) ∷ (codes "covers", files_only Covers 2) ∷ (codes "quiet", with_pair block_of Quiet 2)
+    ∷ (codes "blame", files_only Blame 1) ∷ []
+
+-- the row of a command's word
+abbrev pub row_of : List ℕ → Option CommandRow
+row_of word = option_map (λ r. r.1) (find (λ r. bytes_eq word r.0) commands)
+
+-- `--gain` stands exactly where it is needed, and `--json` only where it is taken
+abbrev pub options_fit : CommandRow → Arguments → Bool
+options_fit row arguments =
+    (if row.needs_gain then is_some arguments.gain else not (is_some arguments.gain)) && (row.takes_json || not arguments.json)
+
+-- ---- the task of the words
+
+-- how often a loop may turn where no word says it
+abbrev pub default_turns : ℕ
+default_turns = 1024
+
+-- how often a loop may turn, as `--turns` says it where it stands
+abbrev pub turns_of : Option (List ℕ) → Option ℕ
+turns_of None = Some default_turns
+turns_of (Some word) = number_of word
+
+-- the task of a row and the values after the command's word, where their number and the options are the row's
+abbrev pub row_task : List (List ℕ) → Arguments → CommandRow → Option Task
+row_task values arguments row =
+    if length values == row.values && options_fit row arguments
+    then option_and_then (λ turns. option_map (λ task. task turns) (row.task values arguments)) (turns_of arguments.turns) else None
+
+-- the first value is the command's word, the others are its files or its numbers
+abbrev pub task_of_values : List (List ℕ) → Arguments → Option Task
+task_of_values [] arguments = None
+task_of_values (word ∷ values) arguments = option_and_then (row_task values arguments) (row_of word)
+
+-- the task of parsed arguments
+abbrev pub task_of_arguments : Arguments → Option Task
+task_of_arguments arguments = task_of_values arguments.values arguments
+
+-- the task of a list of words
+abbrev pub task_of : List (List ℕ) → Option Task
+task_of words = option_and_then task_of_arguments (arguments_of words)
+
+abbrev pub files_of_some : Option Task → List (List ℕ)
+files_of_some None = []
+files_of_some (Some task) = named task
+
+-- the files that the words name
+abbrev pub files_of : List (List ℕ) → List (List ℕ)
+files_of words = files_of_some (task_of words)

@@ -1,0 +1,4 @@
+mod Found
+mod Lines
+mod Running
+mod Walks

@@ -1,0 +1,187 @@
+#!/usr/bin/env python3
+"""Tries the library beside the program: hostile/library.c, which says what each trial is, linked with lib/libkuifje.a.
+
+    python3 hostile/library.py [--quick] [--library lib/libkuifje.a] [--program bin/kuifje]
+
+Twenty questions and a dozen bad calls, buffers of every length, many calls, eight threads, each allocation refused in turn, and what valgrind
+finds. Without --quick a million calls, and every command of the pages. Ends with 1 where a trial isn't passed. What needs a C compiler or
+valgrind is left out where there is none, and says so."""
+import argparse
+import ctypes
+import os
+import shutil
+import subprocess
+import sys
+import tempfile
+from pathlib import Path
+
+TOP = Path(__file__).resolve().parent.parent
+EXAMPLES = TOP / "examples"
+WRAPPED = ["-Wl,--wrap=malloc", "-Wl,--wrap=realloc", "-Wl,--wrap=free"]
+WARNINGS = ["-std=c11", "-D_GNU_SOURCE", "-O1", "-Wall", "-Wextra", "-Werror"]
+
+QUESTIONS = [line.split() for line in """
+hyper examples/guard.kf
+hyper examples/first.kf
+traces examples/guard.kf
+traces examples/twice.kf
+channel examples/guard.kf
+capacity examples/guard.kf
+trail examples/pin.kf
+blame examples/guard.kf
+quiet examples/guard.kf 0..1
+leak examples/guard.kf --gain bayes
+leak examples/guard.kf --gain tries:2
+leak examples/doors.kf --gain table:examples/doors.json
+attack examples/guard.kf --gain guessing
+reach examples/guard.kf 3/4
+refine examples/guard.kf examples/cond.kf
+refine examples/cond.kf examples/guard.kf
+refine examples/guard.kf examples/cond.kf --json
+covers examples/guard.kf examples/cond.kf
+cascade examples/receipt_first.kf examples/receipt_last.kf
+parallel examples/guard.kf examples/cond.kf
+choice examples/guard.kf examples/cond.kf 1/3
+make 3
+hyper examples/doors.json
+hyper examples/missing.kf
+refine examples/guard.kf
+""".strip().splitlines()]
+
+
+class Span(ctypes.Structure):
+    _fields_ = [("start", ctypes.c_size_t), ("end", ctypes.c_size_t)]
+
+
+class File(ctypes.Structure):
+    _fields_ = [("name", Span), ("contents", Span)]
+
+
+class Lengths(ctypes.Structure):
+    _fields_ = [("out", ctypes.c_size_t), ("err", ctypes.c_size_t)]
+
+
+class Library:
+    """The shared library, called by ctypes."""
+
+    def __init__(self, path):
+        self.call = ctypes.CDLL(str(path)).kuifje_run
+        self.call.restype = ctypes.c_uint8
+        self.call.argtypes = [kind for item in (ctypes.c_char_p, ctypes.POINTER(Span), ctypes.POINTER(File), ctypes.c_char_p, ctypes.c_char_p)
+                              for kind in (item, ctypes.c_size_t)] + [ctypes.POINTER(Lengths)]
+
+    def ask_spans(self, text, words, files, room=1 << 16):
+        """Status, out and err of a call whose words and files are given by their spans."""
+        lengths, out, err = Lengths(7, 7), ctypes.create_string_buffer(room), ctypes.create_string_buffer(room)
+        spans = (Span * max(1, len(words)))(*(Span(*word) for word in words))
+        held = (File * max(1, len(files)))(*(File(Span(*name), Span(*contents)) for name, contents in files))
+        status = self.call(text, len(text), spans, len(words), held, len(files), out, room, err, room, ctypes.byref(lengths))
+        return status, out.raw[:lengths.out], err.raw[:lengths.err]
+
+    def ask(self, words, files):
+        text, spans = b"", []
+        for piece in [*words, *(piece for file in files for piece in file)]:
+            spans.append((len(text), len(text) + len(piece)))
+            text += piece
+        pairs = spans[len(words):]
+        return self.ask_spans(text, spans[:len(words)], list(zip(pairs[::2], pairs[1::2])))
+
+
+def bad_calls(library):
+    """Calls that have to end with 64, with 3 and with an answer."""
+    text, most = b"kuifjehyperg.kfvar x : bool := flip 1/2;\n\xff", 2 ** 64 - 1
+    words, file = [(0, 6), (6, 11), (11, 15)], ((11, 15), (15, 41))
+    full = len(text)
+    cases = {f"a word {span}": ([words[0], words[1], span], [file]) for span in ((12, 11), (0, full + 1), (full - 1, full), (most, most), (most, 0), (0, most))}
+    cases |= {f"a name {span}": (words, [file, (span, (0, 0))]) for span in ((3, 2), (full - 1, full), (full + 1, full + 1))}
+    cases |= {f"contents {span}": (words, [file, ((0, 0), span)]) for span in ((3, 2), (0, full + 1), (most - 1, most))}
+    for name, (spans, files) in cases.items():
+        told = library.ask_spans(text, spans, files)
+        must(told == (64, b"", b""), f"{name}: {told}")
+    answer = library.ask_spans(text, words, [file])
+    must(answer[0] == 0 and answer[1].startswith(b"target x\n"), f"a good call: {answer}")
+    must(library.ask_spans(text, words, [file, ((11, 15), (0, 0))]) == answer, "the second of two files with one name isn't left alone")
+    must(library.ask_spans(text, words, [((11, 15), (0, 0)), file])[0] == 5, "the first of two files with one name doesn't count")
+    must(library.ask_spans(text, words, [file, ((0, 0), (full - 1, full))]) == answer, "contents have to be no text")
+    must(library.ask_spans(text, [], [])[0] == 2, "a call of no words isn't refused as one")
+    must(library.ask_spans(text, words, []) == (3, b"", b"kuifje: g.kf: read failed\n"), "a missing file isn't told")
+    return f"{len(cases)} bad calls and 6 others"
+
+
+def must(holds, what):
+    if not holds:
+        sys.exit(f"library: {what}")
+
+
+class Trials:
+    """The trials of hostile/library.c, which is compiled in this folder."""
+
+    def __init__(self, folder, archive):
+        self.program = str(folder / "kuifje")
+        compiler = os.environ.get("CC", "cc")
+        subprocess.run([compiler, *WARNINGS, TOP / "hostile" / "library.c", archive, *WRAPPED, "-pthread", "-o", self.program], check=True)
+
+    def ask(self, words, trial=None, before=()):
+        environment = {"PATH": "/usr/bin:/bin", "LC_ALL": "C.UTF-8"} | ({"TRIAL": trial} if trial else {})
+        return subprocess.run([*before, self.program, *words], cwd=TOP, env=environment, stdin=subprocess.DEVNULL, capture_output=True, check=False)
+
+    def pass_all(self, trial, questions):
+        told = ""
+        for words in questions:
+            done = self.ask(words, trial)
+            must(done.returncode == 0, f"{trial}, {' '.join(words)}: {done.stderr.decode()}")
+            told = done.stdout.decode().strip()
+        return f"{trial}: {len(questions)} questions; the last had {told}"
+
+    def valgrind(self, questions):
+        if shutil.which("valgrind") is None:
+            return "valgrind isn't here: left out"
+        for words in questions:
+            plain = self.ask(words)
+            done = self.ask(words, None, ["valgrind", "-q", "--error-exitcode=99", "--leak-check=no"])
+            must(done.returncode == plain.returncode and done.stdout == plain.stdout, f"valgrind, {' '.join(words)}: {done.stderr.decode()}")
+        return f"valgrind finds nothing on {len(questions)} questions"
+
+
+def beside(library, program):
+    """Each question by the program and by the library."""
+    for words in QUESTIONS:
+        done = subprocess.run([program, *words], cwd=TOP, stdin=subprocess.DEVNULL, capture_output=True, check=False)
+        named = {word.removeprefix("table:") for word in words}
+        files = [(name.encode(), (TOP / name).read_bytes()) for name in sorted(named) if (TOP / name).is_file()]
+        told = library.ask([b"kuifje", *(word.encode() for word in words)], files)
+        must(told == (done.returncode, done.stdout, done.stderr), f"{' '.join(words)}: the library {told}, the program {done}")
+    return f"{len(QUESTIONS)} questions as the program answers them"
+
+
+def pages(trials):
+    done = subprocess.run([TOP / ".ci" / "pages", trials.program], cwd=TOP, capture_output=True, text=True, check=False)
+    must(done.returncode == 0, f"the pages by the library: {done.stderr}")
+    commands = sum(int(line.split(" commands")[0].split()[-1]) for line in done.stdout.splitlines() if " commands" in line)
+    return f"{commands} commands of the pages print what the program prints"
+
+
+def main():
+    arguments = argparse.ArgumentParser(description=__doc__, formatter_class=argparse.RawDescriptionHelpFormatter)
+    arguments.add_argument("--quick", action="store_true")
+    arguments.add_argument("--library", default=TOP / "lib" / "libkuifje.a", type=Path)
+    arguments.add_argument("--program", default=TOP / "bin" / "kuifje", type=Path)
+    asked = arguments.parse_args()
+    library, few = Library(asked.library.resolve().with_suffix(".so.0")), 3 if asked.quick else 20
+    print(bad_calls(library), flush=True)
+    print(beside(library, asked.program.resolve()), flush=True)
+    if shutil.which(os.environ.get("CC", "cc")) is None:
+        print("no C compiler: the other trials are left out")
+        return
+    with tempfile.TemporaryDirectory() as scratch:
+        trials = Trials(Path(scratch), asked.library.resolve())
+        print(trials.pass_all("lengths", QUESTIONS[:few]), flush=True)
+        print(trials.pass_all(f"calls {20_000 if asked.quick else 1_000_000}", QUESTIONS[:1]), flush=True)
+        print(trials.pass_all(f"threads {100 if asked.quick else 2_000}", QUESTIONS[:few]), flush=True)
+        print(trials.pass_all("refusals", [QUESTIONS[at] for at in (0, 9, 16)]), flush=True)
+        print(trials.valgrind(QUESTIONS[:few]), flush=True)
+        if not asked.quick:
+            print(pages(trials), flush=True)
+
+
+main()

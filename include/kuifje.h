@@ -1,0 +1,76 @@
+/* Kuifje as a library: what a program gives away, in exact fractions.
+ *
+ * kuifje_run does what the program `kuifje` does with the same words, over files that the caller has in memory. It reads no file, writes to
+ * no stream, keeps nothing between two calls and starts nothing. docs/LIBRARY.md says what is proved of it, and what a caller has to keep to.
+ *
+ * Link with -lkuifje; `pkg-config --cflags --libs kuifje` has the flags. */
+#ifndef KUIFJE_H
+#define KUIFJE_H
+
+#include <stddef.h>
+#include <stdint.h>
+
+#ifdef __cplusplus
+extern "C" {
+#endif
+
+/* The version that this header belongs to, as kuifje_version gives it. */
+#define KUIFJE_VERSION 1000
+
+/* The statuses of a call that has no answer. docs/COMMANDS.md has all others. */
+#define KUIFJE_READ_FAILED 3     /* a file that the words name isn't among the files */
+#define KUIFJE_WANT_OF_MEMORY 12 /* memory was refused */
+#define KUIFJE_BADLY_CALLED 64   /* a span isn't within the bytes, or a word or a name isn't UTF-8 */
+
+/* The bytes from `from` up to but not with `end`, counted from 0. Spans may overlap; where both are the same there are none. */
+struct kuifje_span {
+    size_t from;
+    size_t end;
+};
+
+/* Where a file's name stands, and where its contents. */
+struct kuifje_file {
+    struct kuifje_span name;
+    struct kuifje_span contents;
+};
+
+/* How many bytes the whole answer has. */
+struct kuifje_lengths {
+    size_t out;
+    size_t err;
+};
+
+/* Runs the program, and gives the status with which it would end.
+ *
+ * bytes    holds every word, name and file; words and files say where in it.
+ * words    The first is the program's name, which isn't looked at, the second the command: "kuifje", "hyper", "lock.kf".
+ * files    The files that the words may name. Of two with one name the first counts. A name stands for nothing but itself: "a.kf" and
+ *          "./a.kf" are two names.
+ * out, err get what the program would write to standard output and to standard error: as much of the front as there is room for, with no
+ *          byte of 0 behind it. What stands behind that in a buffer stays.
+ * lengths  gets how many bytes that is in all, as snprintf does. Where one is greater than its buffer, call again with a larger one: this
+ *          runs the program again. With the statuses 12 and 64 both are 0, and the buffers stay.
+ *
+ * The caller owns all of this memory and may free it after the call. Each pointer has to point to as many elements as the length behind it
+ * says, aligned as C has it. Where that length is 0 it may point to anything but null; NULL is never right. out, err and lengths may overlap
+ * nothing else, and while the call runs nobody may write to any of it, nor read out, err or lengths.
+ *
+ * Threads: calls at the same time need no lock. Not from a signal handler, and not from the child of a fork of a process with threads.
+ * Memory: comes from malloc, realloc and free, and all of it is freed before the call returns.
+ * Stack: a call wants up to 8 MiB, what a process has. A thread with less has to be given more (pthread_attr_setstacksize).
+ * Time: a call can neither be stopped nor bounded. Where that matters, make it in a process of its own, which can. */
+uint8_t kuifje_run(const uint8_t *bytes, size_t bytes_length,
+                   const struct kuifje_span *words, size_t words_length,
+                   const struct kuifje_file *files, size_t files_length,
+                   uint8_t *out, size_t out_length,
+                   uint8_t *err, size_t err_length,
+                   struct kuifje_lengths *lengths);
+
+/* The library's version as one number: 1,000,000 for each major version, 1,000 for each minor one and 1 for each patch. */
+uint32_t kuifje_version(void);
+
+#ifdef __cplusplus
+}
+#endif
+
+#endif

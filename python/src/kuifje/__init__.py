@@ -1,0 +1,34 @@
+"""Exact, proved quantitative information flow: what an observer of a program learns.
+
+Questions go to the proved program; numbers are exact. The terms are those of Alvim, Chatzikokolakis, McIver, Morgan, Palamidessi and Smith, *The
+Science of Quantitative Information Flow* (2020).
+"""
+
+from .engine import Engine, default_engine
+from .errors import KuifjeError, Refusal, TooLarge
+from .notebook import load_ipython_extension
+from .orders import Order, Pair, order
+from .program import Certificate, Program, cascade, certificate, check, choice, covers, parallel, refine
+from .texts import (
+    Action,
+    Attack,
+    Blame,
+    Channel,
+    Composition,
+    GainTable,
+    Hyper,
+    Inner,
+    Leakage,
+    Mark,
+    Reach,
+    TraceTable,
+    Trail,
+    Verdict,
+)
+from .values import Value, format_value, parse_value
+
+__all__ = [
+    "Action", "Attack", "Blame", "Certificate", "Channel", "Composition", "Engine", "GainTable", "Hyper", "Inner", "KuifjeError", "Leakage", "Mark",
+    "Order", "Pair", "Program", "Reach", "Refusal", "TooLarge", "TraceTable", "Trail", "Value", "Verdict", "cascade", "certificate", "check", "choice", "covers",
+    "default_engine", "format_value", "load_ipython_extension", "order", "parallel", "parse_value", "refine",
+]

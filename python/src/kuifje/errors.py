@@ -1,0 +1,105 @@
+"""What goes wrong: a refusal of the program, and a question that is too large."""
+
+from __future__ import annotations
+
+import json
+import re
+from collections.abc import Mapping
+from dataclasses import dataclass
+from functools import cache
+from importlib.resources import files as resources
+from typing import TypedDict
+
+__all__ = ["KuifjeError", "Refusal", "TooLarge", "refusal_of"]
+
+_PLACED = re.compile(r"(?P<file>.*):(?P<line>[0-9]+):(?P<column>[0-9]+): (?P<kind>\w+)", re.DOTALL)
+_OF_FILE = re.compile(
+    r"(?P<file>.*): (?P<kind>scale passes 2\^127 - 1|longer than 1048576 bytes|read failed|[0-9]+ stores|[0-9]+ statements|Json|Form [1-7]|Wide|Empty"
+    r"|Unknown|Twice)",
+    re.DOTALL,
+)
+
+
+class _Explained(TypedDict):
+    """What docs/REFUSALS.md says of a refusal, and the anchor of the section."""
+
+    section: str
+    text: str
+
+
+@cache
+def _explanations() -> dict[str, _Explained]:
+    """The explanations, by status and kind; ``.ci/refusals`` keeps the file equal to the page."""
+    found: dict[str, _Explained] = json.loads(resources("kuifje").joinpath("refusals.json").read_text(encoding="utf-8"))
+    return found
+
+
+def _general(kind: str) -> str:
+    """The kind as the page has it, with letters for the numbers that differ: ``C stores`` for ``5000 stores``."""
+    if kind.startswith("usage: "):
+        return "usage line"
+    for number, letter in ((r"^[0-9]+(?= stores| statements)", "C"), (r"(?<= has )[0-9]+(?= cells)", "C"), (r"(?<=after )[0-9]+(?= pivots)", "P"),
+                           (r"(?<=Form )[1-7]$", "N")):
+        kind = re.sub(number, letter, kind)
+    return kind
+
+
+class KuifjeError(Exception):
+    """Any error of this package."""
+
+
+class TooLarge(KuifjeError):
+    """A question took more memory or more time than it may, and was ended. The next one starts afresh."""
+
+
+@dataclass
+class Refusal(KuifjeError):
+    """The program refused a question, and said why.
+
+    ``status`` is its exit status (docs/COMMANDS.md), ``kind`` the word or the phrase with which its line ends, ``file`` the name of the file that
+    it is about, if it is about one, and ``line`` and ``column`` a place in it, counted from 1, the column in bytes. ``source`` is that line's text.
+    """
+
+    status: int
+    kind: str
+    file: str | None = None
+    line: int | None = None
+    column: int | None = None
+    source: str | None = None
+
+    @property
+    def explanation(self) -> str | None:
+        """What usually causes such a refusal, and what to do about it, as docs/REFUSALS.md says it."""
+        found = _explanations().get(f"{self.status} {_general(self.kind)}")
+        return found and found["text"]
+
+    @property
+    def page(self) -> str | None:
+        """Where docs/REFUSALS.md has more about it."""
+        found = _explanations().get(f"{self.status} {_general(self.kind)}")
+        return found and f"docs/REFUSALS.md#{found['section']}"
+
+    @property
+    def caret(self) -> str | None:
+        """The line of the fault, and below it a caret at its place; tabs stay tabs."""
+        if self.source is None or self.column is None:
+            return None
+        before = self.source.encode()[: self.column - 1].decode(errors="replace")
+        return f"{self.source}\n{''.join(c if c == chr(9) else ' ' for c in before)}^"
+
+    def __str__(self) -> str:
+        place = f"{self.file or ''}:{self.line}:{self.column}: " if self.line is not None else f"{self.file}: " if self.file else ""
+        return "\n".join(filter(None, (f"{place}{self.kind}", self.caret, self.explanation)))
+
+
+def refusal_of(status: int, line_of_error: str, files: Mapping[str, bytes]) -> Refusal:
+    """The refusal that a line on standard error reports. ``files`` are the files of the question, by their names."""
+    text = line_of_error.removesuffix("\n").removeprefix("kuifje: ")
+    if (found := _PLACED.fullmatch(text)) and found["file"] in files:
+        line = int(found["line"])
+        lines = files[found["file"]].split(b"\n")
+        source = lines[line - 1].decode(errors="replace") if line <= len(lines) else ""
+        return Refusal(status, found["kind"], found["file"], line, int(found["column"]), source)
+    if (found := _OF_FILE.fullmatch(text)) and found["file"] in files:
+        return Refusal(status, found["kind"], found["file"])
+    return Refusal(status, text)

@@ -1,0 +1,227 @@
+"""Pictures of answers, with matplotlib: each function draws on axes of its own or on those given, and returns them.
+
+``save(axes, path)`` writes a picture as SVG or PNG, by the path's ending. Colours are those of Okabe and Ito, which people of all kinds of colour
+vision tell apart, and no picture depends on colour alone. Numbers in pictures are exact where they are short.
+"""
+
+from __future__ import annotations
+
+import os
+from collections.abc import Callable, Mapping, Sequence
+from fractions import Fraction
+from math import sqrt
+from typing import Any
+
+from .channels import hyper as hyper_of
+from .measures import bayes_vulnerability, posterior_vulnerability
+from .orders import Order
+from .program import Program
+from .questions import statement_lines, target_of
+from .texts import Blame, Channel, Hyper
+from .values import Value, format_value
+
+__all__ = ["bars", "blame", "channel", "hasse", "save", "triangle", "vulnerability"]
+
+BLUE, VERMILION, GREEN, AMBER, PURPLE, SKY, YELLOW, BLACK = (
+    "#0072B2", "#D55E00", "#009E73", "#E69F00", "#CC79A7", "#56B4E9", "#F0E442", "#000000")
+FILLS = (SKY, AMBER, GREEN, YELLOW, PURPLE, VERMILION, BLUE)
+HATCHES = ("", "///", "||", "xx", "\\\\\\", "++", "--")
+HEIGHT = sqrt(3) / 2
+Axes = Any
+
+
+def _axes(axes: Axes | None, width: float, height: float) -> Axes:
+    if axes is not None:
+        return axes
+    from matplotlib.figure import Figure
+
+    return Figure(figsize=(width, height), layout="constrained").add_subplot()
+
+
+def save(axes: Axes, path: str | os.PathLike[str]) -> None:
+    """Writes the picture to a file, whose ending says how: ``.svg`` or ``.png``. The same picture is always the same file."""
+    import matplotlib
+
+    with matplotlib.rc_context({"svg.hashsalt": "kuifje", "svg.fonttype": "none"}):
+        metadata = {"Date": None} if str(path).endswith(".svg") else {}
+        axes.figure.savefig(path, dpi=150, metadata=metadata)
+
+
+def _number(fraction: Fraction) -> str:
+    """A fraction, exactly where that is short, else rounded and marked so."""
+    exact = str(fraction)
+    return exact if len(exact) <= 7 else f"≈{float(fraction):.3f}"
+
+
+def _corner(point: Mapping[Value, Fraction], values: Sequence[Value]) -> tuple[float, float]:
+    """Where a distribution on three values lies in a triangle whose corners are the values, the third one above."""
+    _, right, top = (float(point.get(value, Fraction(0))) for value in values)
+    return right + top / 2, top * HEIGHT
+
+
+def triangle(hyper: Hyper, axes: Axes | None = None) -> Axes:
+    """A hyper-distribution over three values in a triangle: a disc for each inner, with its outer as its area, and a ring for the prior.
+
+    Raises ``ValueError`` where there are more than three values; with fewer, a corner is empty.
+    """
+    values = list(hyper.prior)
+    if len(values) > 3:
+        raise ValueError(f"a triangle has three corners, and there are {len(values)} values")
+    axes = _axes(axes, 6, 5.4)
+    corners = [(0.0, 0.0), (1.0, 0.0), (0.5, HEIGHT)]
+    axes.fill(*zip(*corners), facecolor="#F7F7F7", edgecolor=BLACK, linewidth=1.2)
+    for k in (0.25, 0.5, 0.75):
+        rest = 1 - k
+        for ends in (((k, 0), (k + rest / 2, rest * HEIGHT)), ((rest, 0), (rest / 2, rest * HEIGHT)), ((k / 2, k * HEIGHT), (1 - k / 2, k * HEIGHT))):
+            axes.plot(*zip(*ends), color="#CCCCCC", linewidth=0.7, zorder=1)
+    for value, (x, y), (dx, dy) in zip(values, corners, ((-0.06, -0.04), (0.06, -0.04), (0, 0.07))):
+        axes.text(x + dx, y + dy, format_value(value), ha="center", va="center", fontsize=15, fontweight="bold")
+    for inner in hyper.inners:
+        x, y = _corner(inner.distribution, values)
+        axes.scatter([x], [y], s=3200 * float(inner.outer), color=SKY, edgecolor=BLUE, linewidth=1.5, zorder=2)
+        axes.annotate(_number(inner.outer), (x, y), xytext=(0, 7 + 28 * sqrt(float(inner.outer))), textcoords="offset points", ha="center",
+                      va="center", fontsize=12, zorder=4, bbox={"facecolor": "white", "alpha": 0.8, "edgecolor": "none", "pad": 0.5})
+    x, y = _corner(hyper.prior, values)
+    axes.scatter([x], [y], s=110, facecolor="none", edgecolor=BLACK, linewidth=2, zorder=3)
+    axes.text(0.5, -0.14, f"posteriors of {hyper.target}: area and number = outer, ring = prior", ha="center", va="center", fontsize=11)
+    axes.set_xlim(-0.14, 1.14)
+    axes.set_ylim(-0.19, HEIGHT + 0.16)
+    axes.set_aspect("equal")
+    axes.axis("off")
+    return axes
+
+
+def bars(hyper: Hyper, axes: Axes | None = None) -> Axes:
+    """A hyper-distribution as bars: one for each inner, as wide as its outer, with the inner's probabilities one on top of the other."""
+    from matplotlib.patches import Patch
+
+    axes = _axes(axes, 8, 4.5)
+    values = list(hyper.prior)
+    style = {x: (FILLS[i % len(FILLS)], HATCHES[(i + i // len(FILLS)) % len(HATCHES)]) for i, x in enumerate(values)}
+    left = 0.0
+    for inner in hyper.inners:
+        bottom, width = 0.0, float(inner.outer)
+        for value in values:
+            height = float(inner.distribution.get(value, Fraction(0)))
+            if height:
+                fill, hatch = style[value]
+                axes.bar(left, height, width, bottom, align="edge", color=fill, hatch=hatch, edgecolor="white", linewidth=1)
+                axes.bar(left, height, width, bottom, align="edge", fill=False, edgecolor=BLACK, linewidth=0.8)
+                bottom += height
+        if width > 0.03:
+            axes.text(left + width / 2, -0.04, _number(inner.outer), ha="center", va="top", fontsize=12)
+        left += width
+    handles = [Patch(facecolor=style[x][0], hatch=style[x][1], edgecolor="white", label=format_value(x)) for x in reversed(values)]
+    if len(values) <= 20:
+        axes.legend(handles=handles, title=str(hyper.target), loc="center left", bbox_to_anchor=(1.01, 0.5), fontsize=12, title_fontsize=12,
+                    frameon=False, handleheight=1.4)
+    axes.set_xlim(0, 1)
+    axes.set_ylim(0, 1)
+    axes.set_xticks([])
+    axes.set_xlabel("width = outer", fontsize=12, labelpad=22)
+    axes.set_ylabel("inner", fontsize=12)
+    axes.tick_params(labelsize=11)
+    for side in ("top", "right", "bottom"):
+        axes.spines[side].set_visible(False)
+    return axes
+
+
+def channel(matrix: Channel, axes: Axes | None = None) -> Axes:
+    """A channel matrix as a heat map; each column's greatest cells are framed, and their sum is the Bayes capacity."""
+    from matplotlib.patches import Rectangle
+
+    rows, columns = list(matrix.rows.values()), len(matrix.columns)
+    axes = _axes(axes, 2 + 0.95 * columns, 1.6 + 0.62 * len(rows))
+    greatest = [max(column) for column in zip(*rows)]
+    axes.imshow([[float(cell) for cell in row] for row in rows], cmap="Blues", vmin=0, vmax=1.25, aspect="auto")
+    for i, row in enumerate(rows):
+        for j, cell in enumerate(row):
+            axes.text(j, i, _number(cell), ha="center", va="center", fontsize=12, color="white" if cell > Fraction(4, 5) else BLACK)
+            if cell == greatest[j]:
+                axes.add_patch(Rectangle((j - 0.46, i - 0.44), 0.92, 0.88, fill=False, edgecolor=VERMILION, linewidth=2.5))
+    axes.set_xticks(range(columns), [f"[{', '.join(map(format_value, shown))}]" for shown in matrix.columns], fontsize=12)
+    axes.set_yticks(range(len(rows)), [format_value(value) for value in matrix.rows], fontsize=12)
+    axes.xaxis.tick_top()
+    axes.tick_params(length=0)
+    axes.set_ylabel(str(matrix.target), fontsize=12)
+    axes.set_xlabel(f"framed: column maxima; they sum to the capacity {_number(sum(greatest, Fraction(0)))}", fontsize=12)
+    for side in axes.spines.values():
+        side.set_visible(False)
+    return axes
+
+
+def hasse(order: Order, axes: Axes | None = None) -> Axes:
+    """The order as a Hasse diagram: what leaks least stands above; a dashed line joins two programs of which it isn't known."""
+    levels = list(order.levels())
+    widest = max(map(len, levels))
+    axes = _axes(axes, 2.6 * widest + 1, 1.2 * len(levels) + 1)
+    place = {node: (i - (len(row) - 1) / 2, y) for y, row in enumerate(levels) for i, node in enumerate(row)}
+    node_of = {name: node for node in order.nodes for name in node}
+    for a, b in order.edges:
+        axes.plot(*zip(place[a], place[b]), color=BLACK, linewidth=1.4, zorder=1)
+    for pair in {tuple(sorted((node_of[a], node_of[b]))) for a, b in order.open}:
+        axes.plot(*zip(*(place[node] for node in pair)), color=VERMILION, linewidth=1.4, linestyle=(0, (4, 4)), zorder=1)
+        (x, y), (z, w) = (place[node] for node in pair)
+        axes.text((x + z) / 2, (y + w) / 2, "?", color=VERMILION, fontsize=15, fontweight="bold", ha="center", va="center",
+                  bbox={"facecolor": "white", "edgecolor": "none", "pad": 1})
+    for node, (x, y) in place.items():
+        axes.text(x, y, " = ".join(node), ha="center", va="center", fontsize=14, zorder=2,
+                  bbox={"boxstyle": "round,pad=0.45", "facecolor": "#E8F2FA", "edgecolor": BLUE, "linewidth": 1.5})
+    axes.set_xlim(-widest / 2 - 0.1, widest / 2 + 0.1)
+    axes.set_ylim(-0.5, len(levels) - 0.5)
+    axes.text(0, 1, "top leaks least", transform=axes.transAxes, fontsize=11, va="top")
+    axes.axis("off")
+    return axes
+
+
+def vulnerability(matrix: Channel, measure: Callable[[Mapping[Value, Fraction]], Fraction] = bayes_vulnerability, points: int = 60,
+                  axes: Axes | None = None) -> Axes:
+    """Prior and posterior vulnerability of a channel with two secrets, over the probability of the first one.
+
+    ``measure`` is the vulnerability of a distribution, as ``GainTable.vulnerability`` is. It is worked out exactly at ``points`` + 1 priors, here and
+    not by the proved program. Raises ``ValueError`` where there are other than two secrets.
+    """
+    if len(matrix.rows) != 2:
+        raise ValueError(f"the channel has {len(matrix.rows)} secrets, and there is an axis for two")
+    axes = _axes(axes, 7, 4.5)
+    first, second = matrix.rows
+    xs = [Fraction(i, points) for i in range(points + 1)]
+    priors: list[dict[Value, Fraction]] = [{first: x, second: 1 - x} for x in xs]
+    before = [float(measure({v: p for v, p in prior.items() if p})) for prior in priors]
+    after = [float(posterior_vulnerability(hyper_of(matrix, prior), measure)) for prior in priors]
+    axes.plot([float(x) for x in xs], after, color=VERMILION, linewidth=2.5, label="posterior")
+    axes.plot([float(x) for x in xs], before, color=BLUE, linewidth=2.5, linestyle="--", label="prior")
+    axes.set_xlim(0, 1)
+    axes.set_ylim(bottom=min(0.0, *before))
+    axes.set_xlabel(f"probability that {matrix.target} is {format_value(first)}", fontsize=12)
+    axes.set_ylabel("vulnerability", fontsize=12)
+    axes.tick_params(labelsize=11)
+    axes.legend(fontsize=12, frameon=False)
+    for side in ("top", "right"):
+        axes.spines[side].set_visible(False)
+    return axes
+
+
+def blame(program: Program, found: Blame, axes: Axes | None = None) -> Axes:
+    """The program's text, and in its margin how far the posterior Bayes vulnerability falls where that top-level statement alone shows nothing."""
+    text = program.text.decode(errors="replace")
+    lines, starts = text.expandtabs(4).rstrip("\n").split("\n"), statement_lines(text)
+    if len(starts) != len(found.without):
+        raise ValueError(f"the text has {len(starts)} top-level statements, and the answer {len(found.without)}")
+    falls = {line: found.all.bayes - quiet.bayes for line, quiet in zip(starts, found.without)}
+    greatest = max((abs(fall) for fall in falls.values()), default=Fraction(0))
+    axes = _axes(axes, 9, 0.34 * len(lines) + 1.1)
+    for i, line in enumerate(lines):
+        axes.text(0.3, i, line, family="monospace", fontsize=12, va="center")
+        if fall := falls.get(i):
+            axes.barh(i, -float(abs(fall) / greatest) * 0.12, height=0.8, left=0.26, color=VERMILION if fall > 0 else SKY)
+            axes.text(0.13, i, _number(fall), ha="right", va="center", fontsize=12)
+        elif i in falls:
+            axes.text(0.13, i, "0", ha="right", va="center", fontsize=12, color="#666666")
+    axes.plot([0.27, 0.27], [-0.6, len(lines) - 0.4], color=BLACK, linewidth=1)
+    axes.text(0, len(lines) + 0.2, f"margin: by how much the posterior Bayes vulnerability of {target_of(text)}, {_number(found.all.bayes)}, falls if "
+              "that statement alone shows nothing", fontsize=10, va="center")
+    axes.set_xlim(0, 1)
+    axes.set_ylim(len(lines) + 0.7, -0.8)
+    axes.axis("off")
+    return axes

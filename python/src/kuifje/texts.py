@@ -1,0 +1,654 @@
+"""What the program prints, as objects, and back: ``str(read(text)) == text`` for each printed text.
+
+Each class has a ``parse`` that reads exactly what the program prints of its kind, and raises ``ValueError`` of anything else; ``str`` prints it
+again, byte by byte. Probabilities and vulnerabilities are ``fractions.Fraction``.
+"""
+
+from __future__ import annotations
+
+import html
+import json
+import re
+from collections.abc import Iterable, Iterator, Mapping
+from dataclasses import dataclass, field, fields, is_dataclass
+from fractions import Fraction
+from functools import cached_property, lru_cache
+from typing import TYPE_CHECKING, ClassVar, TypeVar
+
+from .values import Value, format_value, parse_value, split_values
+
+if TYPE_CHECKING:
+    import pandas
+
+__all__ = [
+    "Action",
+    "Attack",
+    "Blame",
+    "BlameLine",
+    "Capacity",
+    "Channel",
+    "Composition",
+    "GainTable",
+    "Hyper",
+    "Inner",
+    "Item",
+    "Leakage",
+    "Made",
+    "Mark",
+    "Matrix",
+    "Move",
+    "Reach",
+    "Target",
+    "Trace",
+    "TraceTable",
+    "Trail",
+    "Verdict",
+]
+
+_FRACTION = re.compile(r"-?(?:0|[1-9][0-9]*)(?:/[1-9][0-9]*)?")
+T = TypeVar("T")
+
+
+@lru_cache(maxsize=1 << 14)
+def _fraction(text: str) -> Fraction:
+    """The fraction of a printed text, which is in lowest terms."""
+    if not _FRACTION.fullmatch(text):
+        raise ValueError(f"{text!r} is no fraction")
+    value = Fraction(text)
+    if str(value) != text:
+        raise ValueError(f"{text!r} isn't in lowest terms")
+    return value
+
+
+def _number(text: str) -> int:
+    if not re.fullmatch(r"0|[1-9][0-9]*", text):
+        raise ValueError(f"{text!r} is no number")
+    return int(text)
+
+
+class _Lines:
+    """The lines of a printed text, one taken after the other."""
+
+    def __init__(self, text: str) -> None:
+        if not text.endswith("\n"):
+            raise ValueError("the text doesn't end with a line feed")
+        self._lines = text[:-1].split("\n")
+        self._at = 0
+
+    def peek(self) -> str | None:
+        return self._lines[self._at] if self._at < len(self._lines) else None
+
+    def take(self, word: str) -> str:
+        """What stands after a word in the next line."""
+        line = self.peek()
+        if line is None or not line.startswith(word + " "):
+            raise ValueError(f"line {self._at + 1}: wanted {word!r}, and there is {line!r}")
+        self._at += 1
+        return line[len(word) + 1 :]
+
+    def next_line(self) -> str:
+        line = self.peek()
+        if line is None:
+            raise ValueError("the text ends too early")
+        self._at += 1
+        return line
+
+    def indented(self) -> Iterator[str]:
+        """The lines from here on that begin with two spaces, without these."""
+        while (line := self.peek()) is not None and line.startswith("  "):
+            self._at += 1
+            yield line[2:]
+
+    def end(self) -> None:
+        if (line := self.peek()) is not None:
+            raise ValueError(f"line {self._at + 1}: {line!r} stands after the end")
+
+
+def _split_last(line: str) -> tuple[str, str]:
+    """What stands before the last blank of a line, and what stands after it."""
+    before, blank, after = line.rpartition(" ")
+    if not blank:
+        raise ValueError(f"{line!r} has no blank")
+    return before, after
+
+
+def _weights(lines: Iterable[str]) -> dict[Value, Fraction]:
+    found: dict[Value, Fraction] = {}
+    for line in lines:
+        value, fraction = _split_last(line)
+        found[parse_value(value)] = _fraction(fraction)
+    return found
+
+
+def _print_weights(weights: Mapping[Value, Fraction]) -> str:
+    return "".join(f"  {format_value(value)} {fraction}\n" for value, fraction in weights.items())
+
+
+def _keyed(lines: _Lines, word: str, *keys: str) -> tuple[str, ...]:
+    """The values of a line of words: of ``inner 0 outer 1/2`` the texts after ``inner`` and ``outer``."""
+    rest = lines.take(word)
+    found = []
+    for key in keys:
+        value, between, rest = rest.partition(f" {key} ")
+        if not between:
+            raise ValueError(f"{rest!r} lacks {key!r}")
+        found.append(value)
+    return (*found, rest)
+
+
+@dataclass(frozen=True)
+class Item:
+    """An item of a target: a variable, as it was before the first statement (``old``) or as it is after the last."""
+
+    name: str
+    old: bool
+
+    def __str__(self) -> str:
+        return f"old {self.name}" if self.old else self.name
+
+
+@dataclass(frozen=True)
+class Target:
+    """What posteriors are about: items, whose values come as one value where there is one item, else as a tuple."""
+
+    items: tuple[Item, ...]
+
+    @classmethod
+    def parse(cls, text: str) -> Target:
+        items = tuple(Item(word.removeprefix("old "), word.startswith("old ")) for word in text.split(", "))
+        if any(not item.name or " " in item.name for item in items):
+            raise ValueError(f"{text!r} is no target")
+        return cls(items)
+
+    @property
+    def is_initial(self) -> bool:
+        """Whether each item is asked about as it was before the first statement."""
+        return all(item.old for item in self.items)
+
+    def __str__(self) -> str:
+        return ", ".join(map(str, self.items))
+
+
+@dataclass(frozen=True, kw_only=True)
+class Printed:
+    """What the program printed: ``str`` is the printed text.
+
+    ``question`` is a sentence that says what was asked, where the answer came of a question.
+    """
+
+    question: str | None = field(default=None, compare=False, repr=False)
+
+    @classmethod
+    def parse(cls: type[T], text: str) -> T:
+        """The object of a printed text. Raises ``ValueError`` where it isn't one of this kind."""
+        lines = _Lines(text)
+        found = cls._read(lines)  # type: ignore[attr-defined]
+        lines.end()
+        return found  # type: ignore[no-any-return]
+
+    def records(self) -> list[dict[str, object]]:
+        """The answer as rows of a table, each with the same columns: what ``to_pandas`` and notebooks show."""
+        return [{f.name: getattr(self, f.name) for f in fields(self) if f.name != "question"}]
+
+    def to_json(self) -> str:
+        """The answer as JSON: fractions and values are texts, as the program prints them."""
+        return json.dumps(_plain(self), ensure_ascii=False)
+
+    def to_pandas(self) -> pandas.DataFrame:
+        """The answer as a data frame. Fractions stay fractions."""
+        import pandas
+
+        return pandas.DataFrame(self.records())
+
+    def _repr_html_(self) -> str:
+        rows = self.records()
+        heads = "".join(f"<th>{html.escape(name)}</th>" for name in (rows[0] if rows else ()))
+        body = "".join("<tr>" + "".join(f"<td>{html.escape(_shown(cell))}</td>" for cell in row.values()) + "</tr>" for row in rows)
+        asked = f"<caption>{html.escape(self.question)}</caption>" if self.question else ""
+        return f"<table>{asked}<thead><tr>{heads}</tr></thead><tbody>{body}</tbody></table>"
+
+
+def _plain(found: object) -> object:
+    """What JSON can hold of an answer."""
+    if is_dataclass(found) and not isinstance(found, type):
+        members = {f.name: _plain(getattr(found, f.name)) for f in fields(found)}
+        return {name: member for name, member in members.items() if name != "question" or member is not None}
+    if isinstance(found, Mapping):
+        return {x if isinstance(x, str) else format_value(x): _plain(y) for x, y in found.items()}
+    if isinstance(found, tuple):
+        return [_plain(x) for x in found]
+    if isinstance(found, frozenset):
+        return format_value(found)
+    if isinstance(found, Fraction):
+        return str(found)
+    return found
+
+
+def _shown(cell: object) -> str:
+    """A cell of a table as a text; a probability also as a decimal number."""
+    if isinstance(cell, Fraction):
+        return str(cell) if cell.denominator == 1 else f"{cell} ({float(cell):.4g})"
+    if isinstance(cell, (bool, tuple, frozenset)):
+        return format_value(cell)
+    return str(cell)
+
+
+@dataclass(frozen=True)
+class Inner:
+    """A posterior distribution that a run may leave, and with which probability it does (its outer)."""
+
+    outer: Fraction
+    distribution: Mapping[Value, Fraction]
+
+    def __str__(self) -> str:
+        return _print_weights(self.distribution)
+
+
+@dataclass(frozen=True)
+class Hyper(Printed):
+    """A hyper-distribution: a distribution on posterior distributions (inners) of the target.
+
+    ``scale`` is the number over which all joint probabilities are whole.
+    """
+
+    target: Target
+    scale: int
+    inners: tuple[Inner, ...]
+
+    @classmethod
+    def _read(cls, lines: _Lines) -> Hyper:
+        target, scale = Target.parse(lines.take("target")), _number(lines.take("scale"))
+        inners = []
+        for i in range(_number(lines.take("inners"))):
+            number, outer = _keyed(lines, "inner", "outer")
+            if number != str(i):
+                raise ValueError(f"inner {number} stands where inner {i} should")
+            inners.append(Inner(_fraction(outer), _weights(lines.indented())))
+        return cls(target, scale, tuple(inners))
+
+    @cached_property
+    def prior(self) -> dict[Value, Fraction]:
+        """The distribution of the target before anything is seen: the average of the inners by their outers."""
+        found: dict[Value, Fraction] = {}
+        for inner in self.inners:
+            for value, probability in inner.distribution.items():
+                found[value] = found.get(value, Fraction(0)) + inner.outer * probability
+        return found
+
+    def records(self) -> list[dict[str, object]]:
+        return [{"inner": i, "outer": inner.outer, "value": format_value(x), "probability": p}
+                for i, inner in enumerate(self.inners) for x, p in inner.distribution.items()]
+
+    def __str__(self) -> str:
+        head = f"target {self.target}\nscale {self.scale}\ninners {len(self.inners)}\n"
+        return head + "".join(f"inner {i} outer {inner.outer}\n{inner}" for i, inner in enumerate(self.inners))
+
+
+@dataclass(frozen=True)
+class Trace:
+    """What a run shows, the probability of that, and the joint probability with each value of the target."""
+
+    shown: tuple[Value, ...]
+    probability: Fraction
+    joint: Mapping[Value, Fraction]
+
+    @property
+    def text(self) -> str:
+        return f"[{', '.join(map(format_value, self.shown))}]"
+
+
+@dataclass(frozen=True)
+class TraceTable(Printed):
+    """All traces of a program, ascending."""
+
+    target: Target
+    scale: int
+    traces: tuple[Trace, ...]
+
+    @classmethod
+    def _read(cls, lines: _Lines) -> TraceTable:
+        target, scale = Target.parse(lines.take("target")), _number(lines.take("scale"))
+        traces = []
+        for _ in range(_number(lines.take("traces"))):
+            shown, weight = _keyed(lines, "trace", "weight")
+            traces.append(Trace(split_values(shown), _fraction(weight), _weights(lines.indented())))
+        return cls(target, scale, tuple(traces))
+
+    def records(self) -> list[dict[str, object]]:
+        return [{"trace": t.text, "weight": t.probability, "value": format_value(x), "joint": p}
+                for t in self.traces for x, p in t.joint.items()]
+
+    def __str__(self) -> str:
+        head = f"target {self.target}\nscale {self.scale}\ntraces {len(self.traces)}\n"
+        return head + "".join(f"trace {t.text} weight {t.probability}\n{_print_weights(t.joint)}" for t in self.traces)
+
+
+@dataclass(frozen=True)
+class Channel(Printed):
+    """A channel matrix: for each value of the target (row) the conditional probability of each trace (column)."""
+
+    target: Target
+    columns: tuple[tuple[Value, ...], ...]
+    rows: Mapping[Value, tuple[Fraction, ...]]
+
+    @classmethod
+    def _read(cls, lines: _Lines) -> Channel:
+        target, columns = Target.parse(lines.take("target")), []
+        for j in range(_number(lines.take("columns"))):
+            number, blank, shown = lines.take("column").partition(" ")
+            if number != str(j) or not blank:
+                raise ValueError(f"column {number} stands where column {j} should")
+            columns.append(split_values(shown))
+        rows: dict[Value, tuple[Fraction, ...]] = {}
+        for _ in range(_number(lines.take("rows"))):
+            value = parse_value(lines.take("row"))
+            rows[value] = tuple(map(_fraction, lines.indented()))
+            if len(rows[value]) != len(columns):
+                raise ValueError(f"row {format_value(value)} has {len(rows[value])} cells for {len(columns)} columns")
+        return cls(target, tuple(columns), rows)
+
+    def records(self) -> list[dict[str, object]]:
+        names = [f"[{', '.join(map(format_value, shown))}]" for shown in self.columns]
+        return [{"value": format_value(value), **dict(zip(names, cells))} for value, cells in self.rows.items()]
+
+    def __str__(self) -> str:
+        head = f"target {self.target}\ncolumns {len(self.columns)}\n"
+        head += "".join(f"column {j} [{', '.join(map(format_value, shown))}]\n" for j, shown in enumerate(self.columns))
+        rows = (f"row {format_value(value)}\n" + "".join(f"  {cell}\n" for cell in cells) for value, cells in self.rows.items())
+        return f"{head}rows {len(self.rows)}\n{''.join(rows)}"
+
+
+@dataclass(frozen=True)
+class Leakage(Printed):
+    """How much a gain function's best action gains before (prior vulnerability) and after (posterior vulnerability) a run is seen."""
+
+    gain: str
+    prior_vulnerability: Fraction
+    posterior_vulnerability: Fraction
+    multiplicative_leakage: Fraction | None
+    additive_leakage: Fraction
+
+    @classmethod
+    def _read(cls, lines: _Lines) -> Leakage:
+        gain = lines.take("gain")
+        prior, posterior, quotient = lines.take("prior"), lines.take("posterior"), lines.take("quotient")
+        return cls(gain, _fraction(prior), _fraction(posterior), None if quotient == "undefined" else _fraction(quotient),
+                   _fraction(lines.take("difference")))
+
+    def __str__(self) -> str:
+        quotient = "undefined" if self.multiplicative_leakage is None else self.multiplicative_leakage
+        return (f"gain {self.gain}\nprior {self.prior_vulnerability}\nposterior {self.posterior_vulnerability}\n"
+                f"quotient {quotient}\ndifference {self.additive_leakage}\n")
+
+
+@dataclass(frozen=True)
+class Move:
+    """What is best done at an inner: ``value`` is the vulnerability there (for guessing the expected number of guesses)."""
+
+    outer: Fraction
+    value: Fraction
+    actions: Mapping[str, Fraction]
+
+
+@dataclass(frozen=True)
+class Attack(Printed):
+    """What an adversary does best at each inner: values to guess with their probabilities, or actions with what they gain."""
+
+    gain: str
+    moves: tuple[Move, ...]
+
+    @classmethod
+    def _read(cls, lines: _Lines) -> Attack:
+        gain = lines.take("gain")
+        moves: list[Move] = []
+        while lines.peek() is not None:
+            number, outer, value = _keyed(lines, "inner", "outer", "value")
+            if number != str(len(moves)):
+                raise ValueError(f"inner {number} stands where inner {len(moves)} should")
+            pairs = (_split_last(line) for line in lines.indented())
+            moves.append(Move(_fraction(outer), _fraction(value), {action: _fraction(f) for action, f in pairs}))
+        return cls(gain, tuple(moves))
+
+    def records(self) -> list[dict[str, object]]:
+        return [{"inner": i, "outer": m.outer, "vulnerability": m.value, "action": a, "gains": f}
+                for i, m in enumerate(self.moves) for a, f in m.actions.items()]
+
+    def __str__(self) -> str:
+        def move(i: int, m: Move) -> str:
+            return f"inner {i} outer {m.outer} value {m.value}\n" + "".join(f"  {a} {f}\n" for a, f in m.actions.items())
+
+        return f"gain {self.gain}\n" + "".join(move(i, m) for i, m in enumerate(self.moves))
+
+
+@dataclass(frozen=True)
+class Reach(Printed):
+    """The least number of tries whose posterior vulnerability is at least what was asked for, and that of one try fewer."""
+
+    tries: int
+    posterior_vulnerability: Fraction
+    before: Fraction
+
+    @classmethod
+    def _read(cls, lines: _Lines) -> Reach:
+        return cls(_number(lines.take("tries")), _fraction(lines.take("posterior")), _fraction(lines.take("before")))
+
+    def __str__(self) -> str:
+        return f"tries {self.tries}\nposterior {self.posterior_vulnerability}\nbefore {self.before}\n"
+
+
+@dataclass(frozen=True)
+class Trail(Printed):
+    """How many inners about all variables there are after so many top-level statements, from 0 on."""
+
+    inners: tuple[int, ...]
+
+    @classmethod
+    def _read(cls, lines: _Lines) -> Trail:
+        counts: list[int] = []
+        while lines.peek() is not None:
+            number, count = _keyed(lines, "after", "inners")
+            if number != str(len(counts)):
+                raise ValueError(f"after {number} stands where after {len(counts)} should")
+            counts.append(_number(count))
+        return cls(tuple(counts))
+
+    def records(self) -> list[dict[str, object]]:
+        return [{"after": i, "inners": count} for i, count in enumerate(self.inners)]
+
+    def __str__(self) -> str:
+        return "".join(f"after {i} inners {count}\n" for i, count in enumerate(self.inners))
+
+
+@dataclass(frozen=True)
+class BlameLine:
+    """How many inners a hyper has, and its posterior Bayes vulnerability."""
+
+    inners: int
+    bayes: Fraction
+
+
+@dataclass(frozen=True)
+class Blame(Printed):
+    """How much the program leaks, and how much where each top-level statement alone shows nothing."""
+
+    all: BlameLine
+    without: tuple[BlameLine, ...]
+
+    @classmethod
+    def _read(cls, lines: _Lines) -> Blame:
+        def line(word: str) -> BlameLine:
+            inners, bayes = _keyed(lines, word, "bayes")
+            return BlameLine(_number(inners), _fraction(bayes))
+
+        whole = line("all inners")
+        without: list[BlameLine] = []
+        while lines.peek() is not None:
+            without.append(line(f"without {len(without)} inners"))
+        return cls(whole, tuple(without))
+
+    def records(self) -> list[dict[str, object]]:
+        lines = [("all", self.all), *((f"without {i}", line) for i, line in enumerate(self.without))]
+        return [{"program": name, "inners": line.inners, "bayes": line.bayes} for name, line in lines]
+
+    def __str__(self) -> str:
+        found = f"all inners {self.all.inners} bayes {self.all.bayes}\n"
+        return found + "".join(f"without {i} inners {b.inners} bayes {b.bayes}\n" for i, b in enumerate(self.without))
+
+
+@dataclass(frozen=True)
+class Capacity(Printed):
+    """The Bayes capacity of a channel: the sum of its columns' greatest cells."""
+
+    capacity: Fraction
+
+    @classmethod
+    def _read(cls, lines: _Lines) -> Capacity:
+        return cls(_fraction(lines.take("capacity")))
+
+    def __str__(self) -> str:
+        return f"capacity {self.capacity}\n"
+
+
+@dataclass(frozen=True)
+class Composition(Printed):
+    """The Bayes capacities of two channels, and of what is put together of them, with its numbers of rows and columns."""
+
+    rows: int
+    columns: int
+    first: Fraction
+    second: Fraction
+    both: Fraction
+
+    @classmethod
+    def _read(cls, lines: _Lines) -> Composition:
+        sizes = _number(lines.take("rows")), _number(lines.take("columns"))
+        return cls(*sizes, *(_fraction(lines.take(word)) for word in ("first", "second", "both")))
+
+    def __str__(self) -> str:
+        return (f"rows {self.rows}\ncolumns {self.columns}\nfirst {self.first}\n"
+                f"second {self.second}\nboth {self.both}\n")
+
+
+@dataclass(frozen=True)
+class Made(Printed):
+    """A summary of the hyper of a program that the program makes itself."""
+
+    observations: int
+    scale: int
+    inners: int
+    last: Fraction
+
+    @classmethod
+    def _read(cls, lines: _Lines) -> Made:
+        observations, scale, inners = (_number(lines.take(word)) for word in ("observations", "scale", "inners"))
+        return cls(observations, scale, inners, _fraction(lines.take("last")))
+
+    def __str__(self) -> str:
+        return f"observations {self.observations}\nscale {self.scale}\ninners {self.inners}\nlast {self.last}\n"
+
+
+@dataclass(frozen=True)
+class Matrix:
+    """A matrix with a row for each inner of the first hyper and a column for each inner of the second; each row sums to 1."""
+
+    rows: tuple[tuple[Fraction, ...], ...]
+
+
+@dataclass(frozen=True)
+class Action:
+    """An action of a gain table: its name, and what it gains at the values that it names, in units of 1 / ``over``."""
+
+    name: str
+    gains: Mapping[Value, int]
+
+
+@dataclass(frozen=True)
+class GainTable:
+    """A gain function as a table: an action gains ``gains[x] / over`` at a value that it names, and ``rest / over`` at any other."""
+
+    over: int
+    rest: int
+    actions: tuple[Action, ...]
+
+    def gain(self, action: Action, value: Value) -> Fraction:
+        """What an action gains where the target has this value."""
+        return Fraction(action.gains.get(value, self.rest), self.over)
+
+    def vulnerability(self, distribution: Mapping[Value, Fraction]) -> Fraction:
+        """What the best action is expected to gain where the target has this distribution."""
+        return max(sum((p * self.gain(action, value) for value, p in distribution.items()), Fraction(0)) for action in self.actions)
+
+
+@dataclass(frozen=True)
+class Verdict(Printed):
+    """Whether the second program leaks no more than the first, with the matrix or the gain function that proves it."""
+
+    refines: bool
+    matrix: Matrix | None
+    table: GainTable | None
+
+    @classmethod
+    def _read(cls, lines: _Lines) -> Verdict:
+        word = lines.take("refines")
+        if word == "yes":
+            rows, columns = map(_number, lines.take("matrix").split(" "))
+            return cls(True, Matrix(tuple(_matrix_row(lines, columns) for _ in range(rows))), None)
+        if word != "no":
+            raise ValueError(f"{word!r} is no verdict")
+        over, rest = _number(lines.take("over")), int(lines.take("rest"))
+        actions = []
+        for _ in range(_number(lines.take("actions"))):
+            name = lines.take("action")
+            pairs = (_split_last(line) for line in lines.indented())
+            actions.append(Action(name, {parse_value(value): int(gain) for value, gain in pairs}))
+        return cls(False, None, GainTable(over, rest, tuple(actions)))
+
+    def records(self) -> list[dict[str, object]]:
+        if self.matrix is not None:
+            return [{"inner": i, **{f"to {j}": entry for j, entry in enumerate(row)}} for i, row in enumerate(self.matrix.rows)]
+        assert self.table is not None
+        return [{"action": action.name, "value": format_value(value), "gains": Fraction(gain, self.table.over)}
+                for action in self.table.actions for value, gain in action.gains.items()]
+
+    def __str__(self) -> str:
+        if self.matrix is not None:
+            rows = self.matrix.rows
+            head = f"refines yes\nmatrix {len(rows)} {len(rows[0])}\n"
+            return head + "".join(" ".join(map(str, row)) + "\n" for row in rows)
+        assert self.table is not None
+        table = self.table
+        head = f"refines no\nover {table.over}\nrest {table.rest}\nactions {len(table.actions)}\n"
+        return head + "".join(f"action {action.name}\n" + "".join(f"  {format_value(v)} {g}\n" for v, g in action.gains.items())
+                              for action in table.actions)
+
+
+def _matrix_row(lines: _Lines, columns: int) -> tuple[Fraction, ...]:
+    row = tuple(map(_fraction, lines.next_line().split(" ")))
+    if len(row) != columns:
+        raise ValueError(f"a row has {len(row)} entries for {columns} columns")
+    return row
+
+
+@dataclass(frozen=True)
+class Mark(Printed):
+    """What a check says of a certificate: accepted, or the first rule that it breaks."""
+
+    rejected: str | None
+
+    RULES: ClassVar[tuple[str, ...]] = ("shape", "range", "sum", "cell", "value", "order")
+
+    @property
+    def accepted(self) -> bool:
+        return self.rejected is None
+
+    @classmethod
+    def _read(cls, lines: _Lines) -> Mark:
+        line = lines.next_line()
+        if line == "accepted":
+            return cls(None)
+        if line.startswith("rejected ") and line.removeprefix("rejected ") in cls.RULES:
+            return cls(line.removeprefix("rejected "))
+        raise ValueError(f"{line!r} is no mark")
+
+    def __str__(self) -> str:
+        return "accepted\n" if self.rejected is None else f"rejected {self.rejected}\n"

@@ -1,0 +1,21 @@
+"""A built program for the tests: the environment's, else the one on the path, else bin/kuifje."""
+
+import os
+import shutil
+from pathlib import Path
+
+import pytest
+
+from kuifje._protocol import PROGRAM
+from kuifje._worker import program
+
+TOP = Path(__file__).resolve().parents[2]
+if not os.environ.get(PROGRAM) and shutil.which("kuifje") is None and (TOP / "bin" / "kuifje").exists():
+    os.environ[PROGRAM] = str(TOP / "bin" / "kuifje")
+
+
+@pytest.fixture
+def built():
+    """Skips where there is no built program."""
+    if program() is None:
+        pytest.skip("there is no built program")

@@ -1,0 +1,82 @@
+"""The refinement order of programs, by hand."""
+
+import pytest
+
+from kuifje import Engine, Program, Refusal, TooLarge, check, order
+from kuifje.engine import Answer
+from kuifje.orders import Order, Pair
+
+
+def about_x(name, shown):
+    return Program(f"var x : 0..3 := uniform 0..3;\nabout old x;\nobserve {shown};\n", name=f"{name}.kf")
+
+
+SHOWN = {"parity": "x mod 2", "whole": "x", "half": "x div 2", "odd": "x mod 2 = 1", "nothing": "0"}
+
+
+@pytest.mark.usefixtures("built")
+def test_an_order_of_five():
+    programs = {name: about_x(name, shown) for name, shown in SHOWN.items()}
+    found = order(*programs.values())
+    assert found.nodes == (("parity", "odd"), ("whole",), ("half",), ("nothing",))
+    whole, parity, half, nothing = ("whole",), ("parity", "odd"), ("half",), ("nothing",)
+    assert set(found.edges) == {(whole, parity), (whole, half), (parity, nothing), (half, nothing)}
+    assert list(found.levels()) == [(whole,), (parity, half), (nothing,)]
+    assert found.open == () and found.refines("parity", "half") is False
+    for (a, b), pair in found.pairs.items():
+        assert check(pair.proof, programs[a], programs[b]).accepted
+    assert found.records()[3] == {"program": "odd", "parity": "yes", "whole": "no", "half": "no", "odd": "yes", "nothing": "yes"}
+
+
+def made(names, yes, unknown=()):
+    """An order of which these pairs are known."""
+    pairs = {(a, b): Pair(None if (a, b) in unknown else (a, b) in yes, cause=TooLarge("long") if (a, b) in unknown else None)
+             for a in names for b in names if a != b}
+    return Order(tuple(names), pairs)
+
+
+def test_a_pair_without_a_verdict_is_open():
+    found = made("abc", {("a", "b"), ("a", "c")}, {("b", "c")})
+    assert found.open == (("b", "c"),) and found.refines("b", "c") is None
+    assert found.records()[1] == {"program": "b", "a": "no", "b": "yes", "c": "?"}
+    assert "it isn't known whether c leaks no more than b: long\n" in str(found)
+    assert "<td>?</td>" in found._repr_html_()
+
+
+def test_what_follows_from_other_verdicts_is_known():
+    found = made("abc", {("a", "b"), ("b", "c")}, {("a", "c")})
+    assert found.open == () and found.edges == ((("a",), ("b",)), (("b",), ("c",)))
+    circle = made("abc", {("a", "b"), ("b", "c"), ("c", "a")}, {("b", "a"), ("c", "b"), ("a", "c")})
+    assert circle.nodes == (("a", "b", "c"),) and circle.edges == () and list(circle.levels()) == [(("a", "b", "c"),)]
+
+
+@pytest.mark.usefixtures("built")
+def test_a_pair_that_takes_too_long_has_no_verdict():
+    found = order(about_x("whole", "x"), about_x("half", "x div 2"), timeout=0.0)
+    assert len(found.open) == 2 and all(isinstance(pair.cause, TooLarge) for pair in found.pairs.values())
+
+
+def test_names_differ():
+    with pytest.raises(ValueError):
+        order(about_x("whole", "x"), about_x("whole", "0"))
+    with pytest.raises(ValueError):
+        order()
+
+
+class Answering(Engine):
+    """An engine that gives one answer to all questions."""
+
+    def __init__(self, status, line):
+        self.answer = Answer(status, b"", f"kuifje: {line}\n".encode())
+
+    def ask(self, words, files, timeout=None):
+        return self.answer
+
+
+def test_a_refusal_of_one_program_is_raised_and_one_of_both_is_a_pair_without_a_verdict():
+    names = ("a.kf", "b.kf")
+    with pytest.raises(Refusal) as caught:
+        order(*(Program("", name=name, engine=Answering(6, "b.kf:1:1: LoopBound")) for name in names))
+    assert caught.value.kind == "LoopBound"
+    found = order(*(Program("", name=name, engine=Answering(8, "tableau has 4000001 cells")) for name in names))
+    assert len(found.open) == 2 and found.pairs["a", "b"].cause.kind == "tableau has 4000001 cells"

@@ -1,0 +1,103 @@
+"""Questions to the program: by hand, from the first pages. They need a built program."""
+
+import signal
+from fractions import Fraction
+
+import pytest
+
+import kuifje
+from kuifje import Engine, Program, Refusal, TooLarge, channels, measures
+
+pytestmark = pytest.mark.usefixtures("built")
+
+PARITY = Program("var x : 0..3 := uniform 0..3;\nabout old x;\nobserve x mod 2;\n", name="parity.kf")
+WHOLE = Program("var x : 0..3 := uniform 0..3;\nabout old x;\nobserve x;\n", name="whole.kf")
+
+
+def test_a_hyper_by_hand():
+    half = Fraction(1, 2)
+    hyper = PARITY.hyper()
+    assert [(inner.outer, inner.distribution) for inner in hyper.inners] == [(half, {0: half, 2: half}), (half, {1: half, 3: half})]
+    assert hyper.prior == {x: Fraction(1, 4) for x in range(4)}
+
+
+def test_leakage_by_hand():
+    found = PARITY.leak("bayes")
+    assert (found.prior_vulnerability, found.posterior_vulnerability) == (Fraction(1, 4), Fraction(1, 2))
+    assert (found.multiplicative_leakage, found.additive_leakage) == (2, Fraction(1, 4))
+    assert PARITY.leak("guessing").posterior_vulnerability == Fraction(3, 2)
+    assert PARITY.capacity() == 2
+    assert PARITY.reach(Fraction(9, 10)).tries == 2
+    assert [line.bayes for line in PARITY.blame().without] == [Fraction(1, 4)]
+
+
+def test_measures_of_a_hyper_by_hand():
+    hyper = PARITY.hyper()
+    assert measures.posterior_vulnerability(hyper) == PARITY.leak().posterior_vulnerability
+    assert 1 in measures.mutual_information(hyper) and 1 in measures.min_entropy_leakage(hyper)
+    assert measures.additive_capacity(hyper) == Fraction(1, 2)
+
+
+def test_refinement_and_its_certificate():
+    assert kuifje.refine(WHOLE, PARITY).refines
+    verdict = kuifje.refine(PARITY, WHOLE)
+    assert not verdict.refines and verdict.table is not None
+    proof = kuifje.certificate(PARITY, WHOLE)
+    assert kuifje.check(proof, PARITY, WHOLE).accepted
+    assert not kuifje.check(proof, WHOLE, PARITY).accepted
+    gains = [p.leak(verdict.table).posterior_vulnerability for p in (PARITY, WHOLE)]
+    assert gains[0] < gains[1]
+
+
+def test_a_channel_is_written_as_a_program():
+    rows = {0: (Fraction(1, 2), Fraction(1, 2), 0), 1: (0, Fraction(1, 3), Fraction(2, 3))}
+    made = channels.from_rows(rows)
+    back = Program(channels.to_program(made)).channel()
+    assert list(back.rows.values()) == [tuple(map(Fraction, row)) for row in rows.values()]
+
+
+def test_a_hyper_of_a_channel_is_the_programs():
+    assert str(channels.hyper(PARITY.channel(), PARITY.hyper().prior)) == str(PARITY.hyper())
+
+
+def test_a_refusal_has_its_place():
+    with pytest.raises(Refusal) as caught:
+        Program("var x : 0..3 := uniform 0..3;\n\tobserve x @ 2;\n", name="p.kf").hyper()
+    refusal = caught.value
+    assert (refusal.status, refusal.kind, refusal.file, refusal.line, refusal.column) == (5, "Char", "p.kf", 2, 12)
+    assert refusal.caret == "\tobserve x @ 2;\n\t          ^"
+    assert refusal.page == "docs/REFUSALS.md#characters"
+
+
+SLOW = Program("var x : 0..65535 := uniform 0..65535;\nabout old x;\n" + "observe choose { x mod 2 : 3, 1 - x mod 2 : 1 };\n" * 30)
+
+
+def test_a_question_that_takes_too_long_is_ended():
+    with pytest.raises(TooLarge):
+        SLOW.hyper(timeout=0.05)
+    assert len(PARITY.hyper().inners) == 2
+
+
+def test_a_question_that_takes_too_much_memory_is_ended():
+    """Traces of sixteen shown coins for each of 4,096 secrets are more than the bound holds; the question that wants little is answered by it."""
+    engine = Engine(memory=160 << 20)
+    coins = "observe flip 1/2;\n" * 16
+    with pytest.raises(TooLarge):
+        Program(f"var x : 0..4095 := uniform 0..4095;\nabout old x;\n{coins}", engine=engine).traces(timeout=30)
+    assert len(Program(PARITY.text, engine=engine).hyper().inners) == 2
+    engine.close()
+
+
+def test_an_interrupt_ends_the_question_alone():
+    engine = Engine()
+    slow = Program(SLOW.text, engine=engine)
+    with pytest.raises(KeyboardInterrupt):
+        previous = signal.signal(signal.SIGALRM, lambda *_: signal.raise_signal(signal.SIGINT))
+        try:
+            signal.setitimer(signal.ITIMER_REAL, 0.5)
+            slow.hyper(timeout=30)
+        finally:
+            signal.setitimer(signal.ITIMER_REAL, 0)
+            signal.signal(signal.SIGALRM, previous)
+    assert len(Program(PARITY.text, engine=engine).hyper().inners) == 2
+    engine.close()

@@ -3,124 +3,266 @@
 
     python3 check_certificate.py CERT HYPER_A HYPER_B
 
-The hypers are what `kuifje hyper A` and `kuifje hyper B` print. Prints `accepted` (status 0), `rejected` and the first broken rule
-(status 1), or why there is no mark (status 2)."""
+The hypers are what `kuifje hyper A` and `kuifje hyper B` print. Prints `accepted` (status 0) or `rejected` and the first broken rule (status
+1). Where a file can't be read, or is no certificate or no whole hyper, where the targets differ, and where it is used wrongly, it says so on
+standard error (status 2).
+
+`kuifje check CERT A B` gives the same answer, and refuses where this script ends with 2, but for these:
+
+- **Width.** Numbers may have any size here. There, a number of the certificate above 2^127 - 1 is `Wide`, and so is what is worked out of
+  it (`certificate passes 2^127 - 1`).
+- **Length.** A certificate may have any length here, and there 1,048,576 bytes.
+- **Types.** A hyper names the items of its target and not their types. Where the types alone differ, there is no answer there
+  (`targets differ`), and here the rules are tried.
+- **Values of probability 0.** A text that stands in neither hyper is no value here (`rejected value`). There it is one if the type has it.
+- **Order.** Here the certificate is read first and the hypers afterwards; there the programs first. Where both are refused another one is
+  named."""
 import json
 import re
 import sys
+from collections import defaultdict
 from fractions import Fraction
+from math import isinf
+from typing import Any, NoReturn
+
+Inner = dict[str, int]
+Entry = tuple[int, int, Fraction]
+Gains = list[tuple[str, int]]
 
 SIZE = re.compile(r"0|[1-9][0-9]*")
-WHOLE = re.compile(r"-?(0|[1-9][0-9]*)")
-FRACTION = re.compile(r"-?(0|[1-9][0-9]*)(/[1-9][0-9]*)?")
+WHOLE = re.compile(r"-?(?:0|[1-9][0-9]*)")
+FRACTION = re.compile(r"-?(?:0|[1-9][0-9]*)(?:/[1-9][0-9]*)?")
+ABOVE_0 = re.compile(r"[1-9][0-9]*(?:/[1-9][0-9]*)?")
+NAME = re.compile(r"[A-Za-z0-9_-]{1,64}")
+INNER = re.compile(r"inner (\S+) outer (\S+)")
+STRING = re.compile(r'"(?:[^"\\]|\\.)*"', re.DOTALL)
+ESCAPE = re.compile(r"\\u[dD][89abAB]..\\u[dD][c-fC-F]..|(?P<lone>\\u[dD][89a-fA-F])|\\.", re.DOTALL)
+DEEPEST, DIGITS = 127, 4000
+FORMATS = ("kuifje-cert-1", "kuifje-cert-2")
 
 
-def require(holds, otherwise, status):
+def stop(reason: str) -> NoReturn:
+    print(f"check_certificate.py: {reason}", file=sys.stderr)
+    sys.exit(2)
+
+
+def reject_unless(holds: bool, rule: str) -> None:
     if not holds:
-        print(otherwise)
-        sys.exit(status)
+        print(f"rejected {rule}")
+        sys.exit(1)
 
 
-def reject_unless(holds, rule):
-    require(holds, f"rejected {rule}", 1)
+def require(holds: bool) -> None:
+    """A file that breaks this has no meaning."""
+    if not holds:
+        raise ValueError
 
 
-# ---- what is read
-
-def number(pattern, text):
-    if pattern.fullmatch(text) is None:
-        raise ValueError(text)
-    return Fraction(text)
-
-
-def read_rows(cert):
-    """A matrix row by row: whether it has so many rows and columns, and its entries by their places."""
-    rows = [[number(FRACTION, text) for text in row] for row in cert["matrix"]]
-    entries = {(i, j): value for i, row in enumerate(rows) for j, value in enumerate(row)}
-    return lambda m, n: len(rows) == m and all(len(row) == n for row in rows), entries
-
-
-def read_entries(cert):
-    """The same of a matrix by named entries, whose places ascend; every other entry is 0."""
-    rows, columns = number(SIZE, cert["rows"]), number(SIZE, cert["columns"])
-    named = [(number(SIZE, i), number(SIZE, j), number(FRACTION, value)) for i, j, value in cert["entries"]]
-    places = [(i, j) for i, j, _ in named]
-    if places != sorted(set(places)) or any(i >= rows or j >= columns for i, j in places):
-        raise ValueError(places)
-    return lambda m, n: (rows, columns) == (m, n), {(i, j): value for i, j, value in named}
-
-
-def read_certificate(path):
-    """The verdict with its matrix, or with the gains of values that aren't named and of each action those that are."""
-    with open(path, encoding="utf-8") as file:
-        cert = json.load(file)
-    form = cert["verdict"], cert["format"], sorted(cert)
-    if form == ("yes", "kuifje-cert-1", ["format", "matrix", "verdict"]):
-        return "yes", read_rows(cert)
-    if form == ("yes", "kuifje-cert-2", ["columns", "entries", "format", "rows", "verdict"]):
-        return "yes", read_entries(cert)
-    if form[0] != "no" or form[1] not in ("kuifje-cert-1", "kuifje-cert-2"):
-        raise ValueError(form)
-    over = number(WHOLE, cert["over"])
-    if over < 1 or cert["actions"] == []:
-        raise ValueError(over)
-    actions = [[(value, number(WHOLE, gain) / over) for value, gain in action["gains"]] for action in cert["actions"]]
-    return "no", (number(WHOLE, cert["rest"]) / over, actions)
-
-
-def read_hyper(path):
-    """The target's line, and for each inner the joint probabilities of its values."""
-    with open(path, encoding="utf-8") as file:
-        target, _, _, *lines = file.read().splitlines()
-    inners = []
-    for line in lines:
-        text, probability = line.rsplit(" ", 1)
-        if line.startswith("inner "):
-            outer = Fraction(probability)
-            inners.append({})
-        else:
-            inners[-1][text[2:]] = outer * Fraction(probability)
-    return target, inners
-
-
-# ---- what a certificate must prove of them
-
-def check_matrix(is_shaped, entries, a, b):
-    reject_unless(is_shaped(len(a), len(b)), "shape")
-    reject_unless(all(0 <= entry <= 1 for entry in entries.values()), "range")
-    reject_unless(all(sum(entries.get((i, j), 0) for j in range(len(b))) == 1 for i in range(len(a))), "sum")
-    for j, inner_b in enumerate(b):
-        for x in set().union(*a, *b):
-            carried = sum(inner_a.get(x, 0) * entries.get((i, j), 0) for i, inner_a in enumerate(a))
-            reject_unless(carried == inner_b.get(x, 0), "cell")
-
-
-def posterior(inners, rest, actions):
-    return sum(max(sum(p * gains.get(x, rest) for x, p in inner.items()) for gains in actions) for inner in inners)
-
-
-def check_table(rest, actions, a, b):
-    for gains in actions:
-        values = [value for value, _ in gains]
-        reject_unless(set(values) <= set().union(*a, *b) and len(set(values)) == len(values), "value")
-    actions = [dict(gains) for gains in actions]
-    reject_unless(posterior(a, rest, actions) < posterior(b, rest, actions), "order")
-
-
-def main():
-    if len(sys.argv) != 4:
-        sys.exit(__doc__)
+def bytes_of(path: str) -> bytes:
     try:
-        verdict, proof = read_certificate(sys.argv[1])
-    except (ValueError, KeyError, TypeError):
-        require(False, f"{sys.argv[1]} is no certificate", 2)
-    (target_a, a), (target_b, b) = read_hyper(sys.argv[2]), read_hyper(sys.argv[3])
-    require(target_a == target_b, "targets differ", 2)
+        with open(path, "rb") as file:
+            return file.read()
+    except (OSError, ValueError):
+        stop(f"{path} can't be read")
+
+
+# ---- numbers, of any length
+
+def natural(digits: str) -> int:
+    """Python itself reads some thousand digits at once, and no more."""
+    if len(digits) <= DIGITS:
+        return int(digits)
+    low = len(digits) // 2
+    return natural(digits[:-low]) * 10 ** low + natural(digits[-low:])
+
+
+def number(pattern: re.Pattern[str], text: Any) -> Fraction:
+    require(isinstance(text, str) and pattern.fullmatch(text) is not None)
+    over, _, under = text.removeprefix("-").partition("/")
+    value = Fraction(natural(over), natural(under or "1"))
+    return -value if text.startswith("-") else value
+
+
+def whole(pattern: re.Pattern[str], text: Any) -> int:
+    return int(number(pattern, text))
+
+
+# ---- the certificate
+
+def json_number(text: str) -> float:
+    require(not isinf(float(text)))
+    return float(text)
+
+
+def json_constant(text: str) -> NoReturn:
+    raise ValueError(text)
+
+
+def json_of(text: str) -> Any:
+    """What is JSON to kuifje: no number too large for a float, no half of a pair of surrogates, no more than 127 brackets."""
+    depth = 0
+    for bracket in re.sub(r"[^][{}]", "", STRING.sub("", text)):
+        depth += 1 if bracket in "[{" else -1
+        require(depth <= DEEPEST)
+    value = json.loads(text, parse_int=json_number, parse_float=json_number, parse_constant=json_constant)
+    require(all(match["lone"] is None for match in ESCAPE.finditer(text)))
+    return value
+
+
+def listed(value: Any, length: int = -1) -> list[Any]:
+    """A list, of so many members where a length is named."""
+    require(isinstance(value, list) and length in (-1, len(value)))
+    return list(value)
+
+
+def matrix_of(rows: Any) -> tuple[int, list[int], list[Entry]]:
+    """How many rows, how many entries in each, and those that aren't 0."""
+    read = [[number(FRACTION, text) for text in listed(row)] for row in listed(rows)]
+    entries = [(i, j, value) for i, row in enumerate(read) for j, value in enumerate(row) if value != 0]
+    return len(read), [len(row) for row in read], entries
+
+
+def entries_of(cert: dict[str, Any]) -> tuple[int, list[int], list[Entry]]:
+    """The same of named entries, whose places ascend; every other entry is 0."""
+    rows, columns = whole(SIZE, cert["rows"]), whole(SIZE, cert["columns"])
+    entries = []
+    for row, column, value in (listed(entry, 3) for entry in listed(cert["entries"])):
+        entries.append((whole(SIZE, row), whole(SIZE, column), number(FRACTION, value)))
+    places = [(i, j) for i, j, _ in entries]
+    require(all(one < next_one for one, next_one in zip(places, places[1:])))
+    require(all(i < rows and j < columns for i, j in places))
+    return rows, [columns], entries
+
+
+def table_of(cert: dict[str, Any]) -> tuple[int, list[Gains]]:
+    """The gain of values that an action doesn't name, and the gains of each action at those that it names. `over` divides all of them,
+    so it decides nothing."""
+    rest, actions = whole(WHOLE, cert["rest"]), []
+    require(whole(WHOLE, cert["over"]) >= 1)
+    for action in listed(cert["actions"]):
+        require(isinstance(action, dict) and sorted(action) == ["gains", "name"])
+        require(isinstance(action["name"], str) and NAME.fullmatch(action["name"]) is not None)
+        pairs = [listed(pair, 2) for pair in listed(action["gains"])]
+        require(all(isinstance(value, str) for value, _ in pairs))
+        actions.append([(value, whole(WHOLE, gain)) for value, gain in pairs])
+    require(actions != [])
+    return rest, actions
+
+
+def certificate_of(text: str) -> tuple[str, Any]:
+    cert = json_of(text)
+    require(isinstance(cert, dict) and cert.get("verdict") in ("yes", "no"))
+    keys, form = sorted(cert), cert.get("format")
+    if cert["verdict"] == "no":
+        require(keys == ["actions", "format", "over", "rest", "verdict"] and form in FORMATS)
+        return "no", table_of(cert)
+    if keys == ["format", "matrix", "verdict"]:
+        require(form == FORMATS[0])
+        return "yes", matrix_of(cert["matrix"])
+    require(keys == ["columns", "entries", "format", "rows", "verdict"] and form == FORMATS[1])
+    return "yes", entries_of(cert)
+
+
+# ---- a hyper
+
+def weights_of(lines: list[str], scale: int) -> Inner:
+    """An inner's lines: the joint probability of each value and the inner, as a whole number over the scale."""
+    head = INNER.fullmatch(lines[0])
+    assert head is not None
+    outer, chances = number(ABOVE_0, head[2]), {}
+    for line in lines[1:]:
+        value, _, probability = line.removeprefix("  ").rpartition(" ")
+        require(line.startswith("  ") and value != "" and value not in chances)
+        chances[value] = number(ABOVE_0, probability)
+    require(sum(chances.values()) == 1)
+    joint = {value: scale * outer * chance for value, chance in chances.items()}
+    require(all(weight.denominator == 1 for weight in joint.values()))
+    return {value: weight.numerator for value, weight in joint.items()}
+
+
+def hyper_of(text: str) -> tuple[str, int, list[Inner]]:
+    """The target's line, the scale, and the inners. All of them have to be there, and their probabilities have to sum to 1."""
+    target, scale_line, count_line, body = text.removesuffix("\n").split("\n", 3)
+    scale, count = whole(SIZE, scale_line.removeprefix("scale ")), whole(SIZE, count_line.removeprefix("inners "))
+    require(target.startswith("target ") and scale_line.startswith("scale ") and count_line.startswith("inners ") and scale > 0)
+    lines = body.split("\n")
+    starts = [at for at, line in enumerate(lines) if INNER.fullmatch(line)]
+    require(starts[:1] == [0] and len(starts) == count)
+    require(all(lines[at].split(" ")[1] == str(i) for i, at in enumerate(starts)))
+    inners = [weights_of(lines[at:end], scale) for at, end in zip(starts, [*starts[1:], len(lines)])]
+    require(sum(sum(inner.values()) for inner in inners) == scale)
+    return target, scale, inners
+
+
+# ---- what a certificate must prove of two hypers
+
+def check_matrix(shape: tuple[int, list[int]], entries: list[Entry], a: tuple[int, list[Inner]], b: tuple[int, list[Inner]]) -> None:
+    (scale_a, inners_a), (scale_b, inners_b) = a, b
+    rows, columns = shape
+    reject_unless(rows == len(inners_a) and all(count == len(inners_b) for count in columns), "shape")
+    reject_unless(all(0 <= value <= 1 for _, _, value in entries), "range")
+    sums: dict[int, Fraction] = defaultdict(Fraction)
+    for i, _, value in entries:
+        sums[i] += value
+    reject_unless(all(sums[i] == 1 for i in range(rows)), "sum")
+    carried: list[dict[str, Fraction]] = [defaultdict(Fraction) for _ in inners_b]
+    for i, j, value in entries:
+        if value != 0:
+            for x, weight in inners_a[i].items():
+                carried[j][x] += weight * value
+    for inner, cells in zip(inners_b, carried):
+        reject_unless(len(cells) == len(inner) and all(cells.get(x, 0) * scale_b == weight * scale_a for x, weight in inner.items()), "cell")
+
+
+def posterior(inners: list[Inner], rest: int, actions: list[Gains]) -> int:
+    """What the best actions come to, over the scale and `over`. Beyond `rest` at every value an action gains at those that it names alone."""
+    named: dict[str, list[tuple[int, int]]] = defaultdict(list)
+    for k, gains in enumerate(actions):
+        for value, gain in gains:
+            named[value].append((k, gain - rest))
+    total = 0
+    for inner in inners:
+        beyond: dict[int, int] = defaultdict(int)
+        for value, weight in inner.items():
+            for k, gain in named.get(value, ()):
+                beyond[k] += weight * gain
+        best = max(beyond.values(), default=0)
+        total += rest * sum(inner.values()) + (best if len(beyond) == len(actions) else max(best, 0))
+    return total
+
+
+def check_table(rest: int, actions: list[Gains], a: tuple[int, list[Inner]], b: tuple[int, list[Inner]]) -> None:
+    (scale_a, inners_a), (scale_b, inners_b) = a, b
+    values = set().union(*inners_a, *inners_b)
+    for gains in actions:
+        texts = {value for value, _ in gains}
+        reject_unless(texts <= values and len(texts) == len(gains), "value")
+    reject_unless(posterior(inners_a, rest, actions) * scale_b < posterior(inners_b, rest, actions) * scale_a, "order")
+
+
+def read(path: str, what: str, reader: Any) -> Any:
+    try:
+        return reader(bytes_of(path).decode("utf-8"))
+    except (ValueError, KeyError, RecursionError):
+        stop(f"{path} is no {what}")
+
+
+def main() -> None:
+    if len(sys.argv) != 4:
+        stop("usage: python3 check_certificate.py CERT HYPER_A HYPER_B")
+    verdict, proof = read(sys.argv[1], "certificate", certificate_of)
+    (target_a, *a), (target_b, *b) = (read(path, "hyper", hyper_of) for path in sys.argv[2:])
+    if target_a != target_b:
+        stop("targets differ")
     if verdict == "yes":
-        check_matrix(*proof, a, b)
+        rows, columns, entries = proof
+        check_matrix((rows, columns), entries, tuple(a), tuple(b))
     else:
-        check_table(*proof, a, b)
+        check_table(*proof, tuple(a), tuple(b))
     print("accepted")
 
 
-main()
+try:
+    main()
+except MemoryError:
+    stop("out of memory")

@@ -1,16 +1,16 @@
 # Completions of kuifje for fish: commands, options, gains and files. .ci/words compares the words with the code.
 set -l commands \
-    'hyper:each belief that a run may leave, and how likely it is' \
+    'hyper:each posterior that a run may leave, and how likely it is' \
     'traces:what can be shown, with the probability of each value beside it' \
     'channel:how likely each trace is for each value of the target' \
-    'trail:how many beliefs there are behind each statement' \
+    'trail:how many posteriors there are after each statement' \
     'leak:how much better an adversary does for what it sees' \
-    'attack:what an adversary does best at each belief' \
+    'attack:what an adversary does best at each inner' \
     'reach:with how many tries the target is guessed' \
     'blame:what is left where each statement in turn shows nothing' \
     'quiet:the hyper where some statements show nothing' \
-    'capacity:by how much a look helps at most, however the secret is drawn' \
-    'cascade:the capacity of B behind A' \
+    'capacity:by how much a look helps at most, for any prior on the declared values' \
+    'cascade:the capacity of B after A' \
     'parallel:the capacity of A and B side by side' \
     'choice:the capacity of A with a probability, and else B' \
     'refine:whether B leaks no more than A, as declared' \

@@ -1,8 +1,9 @@
 # `make` shows the first example's answer, proves and builds the program, and leaves it as bin/kuifje. README.md says what each
 # command does and how long it takes.
-.PHONY: first try install test audit hostile bench
+.PHONY: first try lib install dist test audit hostile bench confirm
 
 PREFIX ?= /usr/local
+LIBDIR ?= $(PREFIX)/lib
 FILE ?= examples/first.kf
 COMMAND ?= hyper
 
@@ -13,11 +14,25 @@ first:
 try:
 	@cd crates/kuifje && rt try --data "$(notdir $(FILE))=$(abspath $(FILE))" -- $(COMMAND) "$(notdir $(FILE))"
 
-# The program, its manual page, and what shells and editors know of it: share/README.md says where each file goes. The program is built only
-# where bin/kuifje isn't there.
-SHARE = $(DESTDIR)$(PREFIX)/share
+# What the program and the library are built from.
+SOURCES := crates.txt VERSION $(shell find crates -name out -prune -o -type f \( -name '*.rt' -o -name '*.antt' \) -print)
 
-install: bin/kuifje
+# The library for C, in lib/: docs/LIBRARY.md.
+lib: lib/libkuifje.so.0
+
+# The program and the library, the manual page, and what shells and editors know of the program: share/README.md says where each file goes.
+# Built is what isn't there or is older than its sources.
+SHARE = $(DESTDIR)$(PREFIX)/share
+INCLUDE = $(DESTDIR)$(PREFIX)/include
+LIBRARIES = $(DESTDIR)$(LIBDIR)
+
+install: bin/kuifje lib/libkuifje.so.0
+	install -d "$(INCLUDE)" "$(LIBRARIES)/pkgconfig"
+	install -m 644 include/kuifje.h "$(INCLUDE)/kuifje.h"
+	install -m 644 lib/libkuifje.a lib/libkuifje.so.0 "$(LIBRARIES)"
+	ln -sf libkuifje.so.0 "$(LIBRARIES)/libkuifje.so"
+	sed -e 's|@PREFIX@|$(PREFIX)|' -e 's|@LIBDIR@|$(LIBDIR)|' -e "s|@VERSION@|$$(cat VERSION)|" share/c/kuifje.pc.in \
+		> "$(LIBRARIES)/pkgconfig/kuifje.pc"
 	install -d "$(DESTDIR)$(PREFIX)/bin" "$(SHARE)/man/man1" "$(SHARE)/bash-completion/completions" "$(SHARE)/zsh/site-functions" \
 		"$(SHARE)/fish/vendor_completions.d" "$(SHARE)/kuifje/textmate"
 	install -m 755 bin/kuifje "$(DESTDIR)$(PREFIX)/bin/kuifje"
@@ -30,20 +45,35 @@ install: bin/kuifje
 		install -d "$(SHARE)/$$home/$$part" && \
 		install -m 644 "share/vim/$$part/kuifje.vim" "$(SHARE)/$$home/$$part/kuifje.vim" || exit 1; done; done
 
-bin/kuifje:
+bin/kuifje: $(SOURCES)
 	@.ci/build
+
+lib/libkuifje.so.0: $(SOURCES) share/c/kuifje.map
+	@.ci/build-library
+
+# A tar archive and Debian packages of what is built, in dist/, with their SHA-256 sums.
+dist: bin/kuifje lib/libkuifje.so.0
+	@.ci/dist
 
 # The gate: proves and tries what changed since it last passed on this machine, and runs every test and the program.
 test:
 	.ci/run
 
 # Throws bad texts, bad files and little memory at the built program, and says what it saw.
-hostile: bin/kuifje
+hostile: bin/kuifje lib/libkuifje.so.0
 	python3 hostile/run.py
+	python3 hostile/library.py
 
 # Seconds and megabytes of the built program on programs that grow.
 bench: bin/kuifje
 	python3 bench/run.py
+
+# Has Coq's proofs confirm verdicts of the built program, and compares the checker that is extracted from them with `kuifje check`. Where
+# Coq isn't there it says that it skips. audit/coq/README.md says what is confirmed.
+confirm: bin/kuifje
+	@.ci/coq bin/kuifje
+	@if command -v coqc >/dev/null; then \
+		$(MAKE) -s -C audit/coq check && python3 audit/coq/agreement.py bin/kuifje && python3 audit/coq/speed.py; fi
 
 # The same with nothing kept: all is proved anew, and each wrong body tried anew. A kit whose `rt ci` keeps what passed has --anew for that;
 # one without it keeps nothing.

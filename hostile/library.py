@@ -3,11 +3,13 @@
 
     python3 hostile/library.py [--quick] [--library lib/libkuifje.a] [--program bin/kuifje]
 
-Twenty questions and a dozen bad calls, buffers of every length, many calls, eight threads, each allocation refused in turn, and what valgrind
-finds. Without --quick a million calls, and every command of the pages. Ends with 1 where a trial isn't passed. What needs a C compiler or
-valgrind is left out where there is none, and says so."""
+Twenty-five questions and a dozen bad calls, the cases of crates/kf_cases, buffers of every length, many calls, eight threads, each allocation
+refused in turn, and what valgrind finds. Without --quick all of the cases, a million calls, every command of the pages, and memory beside the
+program's. Ends with 1 where a trial isn't passed. What needs a C compiler or valgrind is left out where there is none, and says so."""
 import argparse
 import ctypes
+import importlib.machinery
+import importlib.util
 import os
 import shutil
 import subprocess
@@ -49,6 +51,16 @@ refine examples/guard.kf
 """.strip().splitlines()]
 
 
+# What takes memory: answers of 2 and of 4 MB, many stores, many cells.
+LARGE = {
+    "many_inners.kf": ("hyper", "var x : 0..65535 := uniform 0..65535;\nobserve x;\n"),
+    "many_traces.kf": ("traces", "var x : 0..1 := 0;\n" + "observe flip 1/2;\n" * 15),
+    "many_stores.kf": ("leak --gain guessing", "var x : 0..65535 := uniform 0..65535;\nvar y : 0..3 := uniform 0..3;\nobserve (x + y) mod 7;\n"),
+    "many_rows.kf": ("capacity", "var x : 0..1023 := uniform 0..1023;\nabout old x;\nobserve x div 2;\nobserve choose { x mod 2 : 3, 1 : 1 };\n"),
+}
+SLACK = 512  # kilobytes: what is loaded of the two programs themselves, by pages
+
+
 class Span(ctypes.Structure):
     _fields_ = [("start", ctypes.c_size_t), ("end", ctypes.c_size_t)]
 
@@ -76,15 +88,18 @@ class Library:
         spans = (Span * max(1, len(words)))(*(Span(*word) for word in words))
         held = (File * max(1, len(files)))(*(File(Span(*name), Span(*contents)) for name, contents in files))
         status = self.call(text, len(text), spans, len(words), held, len(files), out, room, err, room, ctypes.byref(lengths))
+        if max(lengths.out, lengths.err) > room:
+            return self.ask_spans(text, words, files, max(lengths.out, lengths.err))
         return status, out.raw[:lengths.out], err.raw[:lengths.err]
 
-    def ask(self, words, files):
+    def ask(self, words, files, room=1 << 16):
+        """The same of words and of pairs of a name and contents. Where the answer is longer than the room, all of it."""
         text, spans = b"", []
         for piece in [*words, *(piece for file in files for piece in file)]:
             spans.append((len(text), len(text) + len(piece)))
             text += piece
         pairs = spans[len(words):]
-        return self.ask_spans(text, spans[:len(words)], list(zip(pairs[::2], pairs[1::2])))
+        return self.ask_spans(text, spans[:len(words)], list(zip(pairs[::2], pairs[1::2])), room)
 
 
 def bad_calls(library):
@@ -154,6 +169,66 @@ def beside(library, program):
     return f"{len(QUESTIONS)} questions as the program answers them"
 
 
+def is_text(bytes_):
+    """Whether the bytes are UTF-8."""
+    try:
+        bytes_.decode()
+    except UnicodeDecodeError:
+        return False
+    return True
+
+
+def reads_of_cases():
+    """The functions of .ci/cases."""
+    loader = importlib.machinery.SourceFileLoader("reads_of_cases", str(TOP / ".ci" / "cases"))
+    module = importlib.util.module_from_spec(importlib.util.spec_from_loader(loader.name, loader))
+    sys.dont_write_bytecode = True
+    loader.exec_module(module)
+    return module
+
+
+def cases(library, few):
+    """The cases of crates/kf_cases. A library has no reads and no writes that fail, and no sink with too little room: such cases are left out."""
+    reads, asked, left_out = reads_of_cases(), 0, 0
+    for path in sorted((TOP / "crates" / "kf_cases" / "data").iterdir())[::8 if few else 1]:
+        for case in reads.cases_of(path.read_text(encoding="utf-8")):
+            if any(case[key] for key in reads.NUMBERS) or len(case["out"]) >= case["out_room"] or len(case["err"]) >= case["err_room"]:
+                left_out += 1
+                continue
+            asked += 1
+            texts = all(map(is_text, [*case["argv"], *(name for name, _ in case["files"])]))
+            wanted = (case["status"], case["out"], case["err"]) if texts else (64, b"", b"")
+            told = library.ask(case["argv"], case["files"])
+            must(told == wanted, f"{path.name}, {case['name']}: {told}, where {wanted} is wanted")
+    return f"{asked} cases as they have it, {left_out} left out, since something fails in them"
+
+
+def most_memory(command, folder):
+    """The kilobytes that a command holds at most, and how many bytes it prints."""
+    with open(folder / "out", "wb") as out, open(folder / "err", "wb") as err:
+        child = os.posix_spawn(command[0], command, {"PATH": "/usr/bin:/bin", "LC_ALL": "C.UTF-8"},
+                               file_actions=[(os.POSIX_SPAWN_DUP2, out.fileno(), 1), (os.POSIX_SPAWN_DUP2, err.fileno(), 2)])
+        _, status, usage = os.wait4(child, 0)
+    must(os.waitstatus_to_exitcode(status) == 0, f"{command}: {(folder / 'err').read_text()}")
+    return usage.ru_maxrss, (folder / "out").read_bytes()
+
+
+def memory(trials, program, folder):
+    """A call takes no more memory than the program for the same question, and besides its files and twice its answer."""
+    lines = []
+    for name, (command, text) in LARGE.items():
+        (folder / name).write_text(text)
+        word, *options = command.split()
+        words = [word, str(folder / name), *options]
+        by_program, answer = most_memory([str(program), *words], folder)
+        by_library, told = most_memory([trials.program, *words], folder)
+        must(told == answer, f"{words}: another answer")
+        allowed = by_program + (len(text) + 2 * len(answer)) // 1024 + SLACK
+        lines.append(f"{word}: {by_library} kB, the program {by_program} kB, the answer {len(answer) // 1024} kB")
+        must(by_library <= allowed, f"memory of {lines[-1]}")
+    return "\n".join(lines)
+
+
 def pages(trials):
     done = subprocess.run([TOP / ".ci" / "pages", trials.program], cwd=TOP, capture_output=True, text=True, check=False)
     must(done.returncode == 0, f"the pages by the library: {done.stderr}")
@@ -170,6 +245,7 @@ def main():
     library, few = Library(asked.library.resolve().with_suffix(".so.0")), 3 if asked.quick else 20
     print(bad_calls(library), flush=True)
     print(beside(library, asked.program.resolve()), flush=True)
+    print(cases(library, asked.quick), flush=True)
     if shutil.which(os.environ.get("CC", "cc")) is None:
         print("no C compiler: the other trials are left out")
         return
@@ -181,6 +257,7 @@ def main():
         print(trials.pass_all("refusals", [QUESTIONS[at] for at in (0, 9, 16)]), flush=True)
         print(trials.valgrind(QUESTIONS[:few]), flush=True)
         if not asked.quick:
+            print(memory(trials, asked.program.resolve(), Path(scratch)), flush=True)
             print(pages(trials), flush=True)
 
 

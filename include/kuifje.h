@@ -47,11 +47,11 @@ struct kuifje_lengths {
  * files    The files that the words may name. Of two with one name the first counts. A name stands for nothing but itself: "a.kf" and
  *          "./a.kf" are two names.
  * out, err get what the program would write to standard output and to standard error: as much of the front as there is room for, with no
- *          byte of 0 behind it. What stands behind that in a buffer stays.
+ *          byte of 0 after it. What stands after that in a buffer stays.
  * lengths  gets how many bytes that is in all, as snprintf does. Where one is greater than its buffer, call again with a larger one: this
  *          runs the program again. With the statuses 12 and 64 both are 0, and the buffers stay.
  *
- * The caller owns all of this memory and may free it after the call. Each pointer has to point to as many elements as the length behind it
+ * The caller owns all of this memory and may free it after the call. Each pointer has to point to as many elements as the length after it
  * says, aligned as C has it. Where that length is 0 it may point to anything but null; NULL is never right. out, err and lengths may overlap
  * nothing else, and while the call runs nobody may write to any of it, nor read out, err or lengths.
  *

@@ -24,7 +24,7 @@ _kuifje() {
         --gain/table:*)
             compopt -o filenames 2>/dev/null
             _kuifje_files json "${word#table:}"
-            # Without colons in COMP_WORDBREAKS the whole word is replaced, else what stands behind the colon.
+            # Without colons in COMP_WORDBREAKS the whole word is replaced, else what stands after the colon.
             [[ $COMP_WORDBREAKS == *:* ]] || COMPREPLY=("${COMPREPLY[@]/#/table:}")
             ;;
         --gain/*)

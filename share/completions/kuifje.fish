@@ -21,7 +21,7 @@ set -l with_gain leak attack
 set -l with_json refine
 set -l gains bayes tries: guessing table:
 
-# Folders, and the files whose names end in . and the first argument, each behind the second one.
+# Folders, and the files whose names end in . and the first argument, each after the second one.
 function __kuifje_files
     set -l word (commandline -ct | string replace -r '^(--gain=)?table:' '')
     for file in $word*.$argv[1] $word*/

@@ -1,0 +1,97 @@
+#!/usr/bin/env python3
+"""Measures what small texts cost, for the table of docs/COSTS.md.
+
+    python3 bench/costs.py [PROGRAM]
+
+Each question is asked once, in a process of its own, with a limit on its address space and on its time. Prints the rows of the table: how many
+bytes the text has, what it is, the command, and processor seconds, greatest memory and length of the answer, or the status, or that it was
+stopped. Memory is seen from that on which Python takes itself. The program is bin/kuifje where no other is named."""
+import os
+import platform
+import resource
+import subprocess
+import sys
+import tempfile
+import time
+from pathlib import Path
+
+TOP = Path(__file__).resolve().parent.parent
+CODES = "var a : 0..999 := uniform 0..999;\nvar b : 0..999 := uniform 0..999;\nabout old a, old b;\n" + "".join(
+    f"observe a = {n} and b = {n * 7};\n" for n in range(5))
+
+
+def loops():
+    """Six loops to 1,000, one in the other."""
+    declared = "".join(f"var {name}:0..1000:=0;" for name in "abcdef")
+    body = ""
+    for name, inner in zip("fedcba", ["", *"fedcb"]):
+        reset = f"{inner}:=0;" if inner else ""
+        body = f"while {name}<1000{{{reset}{body}{name}:={name}+1;}}"
+    return declared + body
+
+
+def table(actions):
+    rows = ",".join(f'{{"gains":[["0",1]],"name":"a{n}"}}' for n in range(actions))
+    return f'{{"actions":[{rows}],"format":"kuifje-gain-1","over":1,"rest":0}}'
+
+
+# What it is; its texts; the words; the megabytes of address space and the seconds that it may have.
+QUESTIONS = [
+    ("six loops to 1,000, one in the other: 10^18 turns", {"p.kf": loops()}, "hyper p.kf", 2000, 20),
+    ("two variables, uniform on 0..65535: 2^32 stores", {"p.kf": "var x:0..65535:=uniform 0..65535;\nvar y:0..65535:=uniform 0..65535;"}, "hyper p.kf", 2000, 60),
+    ("two variables, uniform on 0..65535 and 0..255", {"p.kf": "var x:0..65535:=uniform 0..65535;\nvar y:0..255:=uniform 0..255;"}, "hyper p.kf", 4000, 60),
+    ("a variable on 0..65535, drawn again from 65,536 stores", {"p.kf": "var x:0..65535:=uniform 0..65535;x:=uniform 0..65535;"}, "hyper p.kf", 2000, 60),
+    ("a variable of 4,096 values, drawn again", {"p.kf": "var x:0..4095:=0;x:=uniform 0..4095;"}, "covers p.kf p.kf", 1500, 60),
+    ("22 coins, shown", {"p.kf": "var x:0..1:=0;" + "observe flip 1/2;" * 22}, "traces p.kf", 3000, 60),
+    ("20 coins, shown", {"p.kf": "var x:0..1:=0;" + "observe flip 1/2;" * 20}, "traces p.kf", 3000, 60),
+    ("`x mod 20` and `x mod 40`, `x` on 0..63", {"a.kf": "var x:0..63:=uniform 0..63;observe x mod 20;", "b.kf": "var x:0..63:=uniform 0..63;observe x mod 40;"},
+     "refine a.kf b.kf", 2000, 120),
+    ("the same turned round", {"a.kf": "var x:0..63:=uniform 0..63;observe x mod 40;", "b.kf": "var x:0..63:=uniform 0..63;observe x mod 20;"},
+     "refine a.kf b.kf", 2000, 120),
+    ("59,000 observations", {"p.kf": "var x:0..1:=uniform 0..1;" + "observe x = 1;\n" * 59_000}, "blame p.kf", 2000, 60),
+    ("a gain table of 29,000 actions", {"p.kf": "var x:0..1:=uniform 0..1;observe x;", "t.json": table(29_000)}, "leak p.kf --gain table:t.json", 2000, 60),
+    ("a million one-time codes, five tries", {"p.kf": CODES}, "leak p.kf --gain bayes", 2000, 60),
+    ("the salt kept", {"p.kf": (TOP / "examples/costs/salt_kept.kf").read_text()}, "leak p.kf --gain bayes", 2000, 60),
+    ("the salt set", {"p.kf": (TOP / "examples/costs/salt_set.kf").read_text()}, "leak p.kf --gain bayes", 2000, 60),
+]
+
+
+def limited(megabytes):
+    resource.setrlimit(resource.RLIMIT_AS, (megabytes << 20, megabytes << 20))
+
+
+def measured(program, texts, words, megabytes, seconds):
+    """What became of a question: processor seconds, greatest memory and the length of the answer, or the status, or that it was stopped."""
+    with tempfile.TemporaryDirectory() as folder, open(Path(folder) / "out", "wb") as out:
+        for name, text in texts.items():
+            (Path(folder) / name).write_text(text)
+        child = subprocess.Popen([program, *words.split()], cwd=folder, stdin=subprocess.DEVNULL, stdout=out, stderr=subprocess.DEVNULL,
+                                 preexec_fn=lambda: limited(megabytes))
+        until = time.monotonic() + seconds
+        while (ended := os.waitid(os.P_PID, child.pid, os.WEXITED | os.WNOHANG | os.WNOWAIT)) is None and time.monotonic() < until:
+            time.sleep(0.002)
+        if ended is None:
+            child.kill()
+        _, status, usage = os.wait4(child.pid, 0)
+        child.returncode = os.waitstatus_to_exitcode(status)
+        own = resource.getrusage(resource.RUSAGE_SELF).ru_maxrss
+        memory = f"{usage.ru_maxrss / 1024:.0f} MB" if usage.ru_maxrss > own + 1024 else f"less than {own / 1024 + 1:.0f} MB"
+        took = f"{usage.ru_utime + usage.ru_stime:.2f} s, {memory}"
+        if ended is None:
+            return f"stopped after {took}"
+        if child.returncode > 1:
+            return f"status {child.returncode} after {took}, with {megabytes / 1000} GB allowed"
+        length = out.seek(0, 2)
+        return f"{took}" + (f", {length / 1e6:.0f} MB of output" if length > 500_000 else "")
+
+
+def main():
+    program = Path(sys.argv[1] if len(sys.argv) > 1 else TOP / "bin" / "kuifje").resolve()
+    model = next((line.split(":")[1].strip() for line in Path("/proc/cpuinfo").read_text().splitlines() if line.startswith("model name")), platform.machine())
+    print(f"{model}, {time.strftime('%Y-%m-%d', time.gmtime())}")
+    for what, texts, words, megabytes, seconds in QUESTIONS:
+        size = max(map(len, texts.values()))
+        print(f"| {size} | {what} | `{words.split()[0]}` | {measured(program, texts, words, megabytes, seconds)} |", flush=True)
+
+
+main()

@@ -4,7 +4,8 @@
  *   lengths     buffers of every length from 0 to the answer's get its front and keep the rest
  *   calls N     N calls give the one answer, and the last nine tenths of them take no more memory
  *   refusals    each allocation refused in turn gives status 12 and nothing, or the answer; nothing is kept
- *   threads N   eight threads with N calls each have the one answer */
+ *   threads N   eight threads with N calls each have the one answer
+ *   stack N     a thread with N KiB of stack has it */
 #include "../include/kuifje.h"
 #include <pthread.h>
 #include <stdio.h>
@@ -221,6 +222,17 @@ static void try_threads(long rounds)
     printf("%d threads with %ld calls each\n", THREADS, rounds);
 }
 
+static void try_stack(long kibibytes)
+{
+    pthread_t small;
+    pthread_attr_t attributes;
+    long rounds = 1;
+    must(pthread_attr_init(&attributes) == 0 && pthread_attr_setstacksize(&attributes, (size_t)kibibytes << 10) == 0, "no such stack");
+    must(pthread_create(&small, &attributes, thread, &rounds) == 0, "no thread");
+    pthread_join(small, NULL);
+    printf("%ld KiB\n", kibibytes);
+}
+
 static int answer(void)
 {
     if (fwrite(out, 1, whole.out, stdout) != whole.out || fflush(stdout) != 0) {
@@ -251,6 +263,8 @@ int main(int count, char **arguments)
         try_refusals();
     else if (strncmp(trial, "threads ", 8) == 0)
         try_threads(number);
+    else if (strncmp(trial, "stack ", 6) == 0)
+        try_stack(number);
     else
         must(0, "no such trial");
     return EXIT_SUCCESS;

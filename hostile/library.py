@@ -60,6 +60,18 @@ LARGE = {
 }
 SLACK = 512  # kilobytes: what is loaded of the two programs themselves, by pages
 
+# What takes stack: expressions and blocks as deep as a text may have them, and a type, a set and a choice that are nested.
+DEEP = {
+    "minus.kf": "var x : 0..1 := uniform 0..1;\nobserve " + "x - (" * 63 + "x" + ")" * 63 + ";\n",
+    "parts.kf": "var x : 0..1 := uniform 0..1;\nobserve " + "((" * 31 + "x, x" + "), x)" * 31 + " = " + "((" * 31 + "x, x" + "), x)" * 31 + ";\n",
+    "conds.kf": "var x : 0..1 := uniform 0..1;\nobserve " + "cond(x = 1, x, " * 63 + "x" + ")" * 63 + ";\n",
+    "blocks.kf": "var x : 0..1 := uniform 0..1;\n" + "if x = 1 { " * 63 + "observe x;" + " } else { skip; }" * 63 + "\n",
+    "loops.kf": "var x : 0..1 := uniform 0..1;\n" + "while x = 1 { " * 63 + "x := 0;" + " }" * 63 + "\n",
+    "choices.kf": "var x : 0..1 := uniform 0..1;\nobserve choose { " + "abs(" * 62 + "x" + ")" * 62 + " : 1 };\n",
+    "json.json": "[" * 126 + "]" * 126,
+}
+STACKS = [8192, 4096, 2048, 1024, 768, 512, 256, 128]  # KiB
+
 
 class Span(ctypes.Structure):
     _fields_ = [("start", ctypes.c_size_t), ("end", ctypes.c_size_t)]
@@ -229,6 +241,17 @@ def memory(trials, program, folder):
     return "\n".join(lines)
 
 
+def stack(trials, folder):
+    """The least of these stacks in which each deep text has its answer; 8 MiB must do."""
+    for name, text in DEEP.items():
+        (folder / name).write_text(text)
+    words = [[word, str(folder / name)] for name in DEEP for word in ("hyper", "blame", "traces") if name != "json.json"]
+    words.append(["leak", str(folder / "minus.kf"), "--gain", f"table:{folder / 'json.json'}"])
+    enough = [size for size in STACKS if all(trials.ask(question, f"stack {size}").returncode == 0 for question in words)]
+    must(STACKS[0] in enough, "8 MiB of stack don't do")
+    return f"stack: the deepest texts have their answers in {min(enough)} KiB"
+
+
 def pages(trials):
     done = subprocess.run([TOP / ".ci" / "pages", trials.program], cwd=TOP, capture_output=True, text=True, check=False)
     must(done.returncode == 0, f"the pages by the library: {done.stderr}")
@@ -258,6 +281,7 @@ def main():
         print(trials.valgrind(QUESTIONS[:few]), flush=True)
         if not asked.quick:
             print(memory(trials, asked.program.resolve(), Path(scratch)), flush=True)
+            print(stack(trials, Path(scratch)), flush=True)
             print(pages(trials), flush=True)
 
 

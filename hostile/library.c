@@ -5,13 +5,18 @@
  *   calls N     N calls give the one answer, and the last nine tenths of them take no more memory
  *   refusals    each allocation refused in turn gives status 12 and nothing, or the answer; nothing is kept
  *   threads N   eight threads with N calls each have the one answer
- *   stack N     a thread with N KiB of stack has it */
+ *   stack N     a thread with N KiB of stack has it
+ *   memory      the words are a program and its words: prints below its answer the kilobytes that it held at most. (A process's peak
+ *               has that of the one which starts it; this one is small) */
 #include "../include/kuifje.h"
 #include <pthread.h>
 #include <stdio.h>
 #include <stdlib.h>
 #include <string.h>
+#include <sys/resource.h>
+#include <sys/wait.h>
 #include <time.h>
+#include <unistd.h>
 
 enum { MOST_FILE = (1 << 20) + 1, MOST_WORDS = 64, MOST_OUT = 1 << 26, MOST_ERR = 1 << 16, THREADS = 8, REST = 0xa5 };
 
@@ -233,6 +238,21 @@ static void try_stack(long kibibytes)
     printf("%ld KiB\n", kibibytes);
 }
 
+static int measure(char **arguments)
+{
+    struct rusage used;
+    int ended = 0;
+    pid_t child = fork();
+    if (child == 0) {
+        unsetenv("TRIAL");
+        execv(arguments[0], arguments);
+        _exit(127);
+    }
+    must(child > 0 && wait4(child, &ended, 0, &used) == child && WIFEXITED(ended), "no end");
+    printf("%ld\n", used.ru_maxrss);
+    return WEXITSTATUS(ended);
+}
+
 static int answer(void)
 {
     if (fwrite(out, 1, whole.out, stdout) != whole.out || fflush(stdout) != 0) {
@@ -249,6 +269,8 @@ int main(int count, char **arguments)
 {
     const char *trial = getenv("TRIAL"), *space = trial == NULL ? NULL : strchr(trial, ' ');
     long number = space == NULL ? 0 : atol(space + 1);
+    if (trial != NULL && strcmp(trial, "memory") == 0)
+        return measure(arguments + 1);
     ask(count, arguments);
     must(kuifje_version() == KUIFJE_VERSION, "another version than the header's");
     status = call(out, MOST_OUT, err, MOST_ERR, &whole);

@@ -215,14 +215,12 @@ def cases(library, few):
     return f"{asked} cases as they have it, {left_out} left out, since something fails in them"
 
 
-def most_memory(command, folder):
-    """The kilobytes that a command holds at most, and how many bytes it prints."""
-    with open(folder / "out", "wb") as out, open(folder / "err", "wb") as err:
-        child = os.posix_spawn(command[0], command, {"PATH": "/usr/bin:/bin", "LC_ALL": "C.UTF-8"},
-                               file_actions=[(os.POSIX_SPAWN_DUP2, out.fileno(), 1), (os.POSIX_SPAWN_DUP2, err.fileno(), 2)])
-        _, status, usage = os.wait4(child, 0)
-    must(os.waitstatus_to_exitcode(status) == 0, f"{command}: {(folder / 'err').read_text()}")
-    return usage.ru_maxrss, (folder / "out").read_bytes()
+def most_memory(trials, command):
+    """The kilobytes that a command holds at most, and what it prints."""
+    done = trials.ask(command, "memory")
+    must(done.returncode == 0, f"{command}: {done.stderr.decode()}")
+    *answer, kilobytes = done.stdout.splitlines(keepends=True)
+    return int(kilobytes), b"".join(answer)
 
 
 def memory(trials, program, folder):
@@ -232,8 +230,8 @@ def memory(trials, program, folder):
         (folder / name).write_text(text)
         word, *options = command.split()
         words = [word, str(folder / name), *options]
-        by_program, answer = most_memory([str(program), *words], folder)
-        by_library, told = most_memory([trials.program, *words], folder)
+        by_program, answer = most_memory(trials, [str(program), *words])
+        by_library, told = most_memory(trials, [trials.program, *words])
         must(told == answer, f"{words}: another answer")
         allowed = by_program + (len(text) + 2 * len(answer)) // 1024 + SLACK
         lines.append(f"{word}: {by_library} kB, the program {by_program} kB, the answer {len(answer) // 1024} kB")

@@ -21,8 +21,8 @@ let int_of = function
   | N0 -> 0
   | Npos p -> let rec go = function XH -> 1 | XO p -> 2 * go p | XI p -> 2 * go p + 1 in go p
 
-(* Long lists are made and soon forgotten: a large young generation is quicker. *)
-let () = Gc.set { (Gc.get ()) with minor_heap_size = 4_000_000; space_overhead = 400 }
+(* Long lists are made and soon forgotten: a large young generation is quicker. Its pages are taken as they are used. *)
+let () = Gc.set { (Gc.get ()) with minor_heap_size = 32_000_000; space_overhead = 400 }
 
 let () =
   match Sys.argv with

@@ -1,7 +1,7 @@
-(* kuifje-confirm CERT A B: gives the bytes of a certificate and of two printed hypers to the extracted [confirm], prints its
-   answer, and ends with the status of that. Nothing else is done here. *)
+(* Gives the bytes of files to the extracted checkers, prints their answer, and ends with its status. Nothing else is done here. *)
 open Verified
 
+let usage = "usage: kuifje-confirm CERT A B | [--turns N] hyper FILE [PRINTED] | [--turns N] texts CERT FILE FILE"
 let refuse words = prerr_endline ("kuifje-confirm: " ^ words); exit 2
 
 let bytes name =
@@ -21,16 +21,29 @@ let int_of = function
   | N0 -> 0
   | Npos p -> let rec go = function XH -> 1 | XO p -> 2 * go p | XI p -> 2 * go p + 1 in go p
 
+let nat_of n = let rec go n m = if n = 0 then m else go (n - 1) (S m) in go n O
+
 (* Long lists are made and soon forgotten: a large young generation is quicker. Its pages are taken as they are used. *)
 let () = Gc.set { (Gc.get ()) with minor_heap_size = 32_000_000; space_overhead = 400 }
 
+(* The answer, and the file that is meant where it is none. *)
+let answer (status, words) name ends =
+  if int_of status = 2 then refuse (name ^ string words) else (print_string (string words ^ ends); exit (int_of status))
+
+let run turns = function
+  | ["hyper"; file] -> answer (report_hyper turns (bytes file)) (file ^ ": ") ""
+  | ["hyper"; file; printed] -> answer (report_confirmed turns (bytes file) (bytes printed)) (file ^ ": ") "\n"
+  | ("texts" :: ([_; _; _] as files)) | ([_; _; _] as files) as words ->
+      let report_of certificate a b =
+        if List.length words = 4 then report_texts turns certificate a b else report (confirm certificate a b) in
+      let (status, file), text = match List.map bytes files with [c; a; b] -> report_of c a b | _ -> refuse usage in
+      answer (status, text) (match file with None -> "" | Some n -> List.nth files (int_of n) ^ ": ") "\n"
+  | _ -> refuse usage
+
 let () =
-  match Sys.argv with
-  | [| _; certificate; a; b |] ->
-      let (status, file), words =
-        try report (confirm (bytes certificate) (bytes a) (bytes b))
-        with Stack_overflow | Out_of_memory -> refuse "want of memory" in
-      let name = match file with None -> "" | Some n -> Sys.argv.(1 + int_of n) ^ ": " in
-      if int_of status = 2 then refuse (name ^ string words)
-      else (print_endline (string words); exit (int_of status))
-  | _ -> refuse "usage: kuifje-confirm CERT A B"
+  try
+    match List.tl (Array.to_list Sys.argv) with
+    | "--turns" :: n :: words ->
+        (match int_of_string_opt n with Some n when 0 <= n && n <= 65535 -> run (nat_of n) words | _ -> refuse usage)
+    | words -> run (nat_of 1024) words
+  with Stack_overflow | Out_of_memory -> refuse "want of memory"

@@ -68,12 +68,14 @@ hostile: bin/kuifje lib/libkuifje.so.0
 bench: bin/kuifje
 	python3 bench/run.py
 
-# Has Coq's proofs confirm verdicts of the built program, and compares the checker that is extracted from them with `kuifje check`. Where
-# Coq isn't there it says that it skips. audit/coq/README.md says what is confirmed.
+# Has Coq's proofs confirm verdicts and hypers of the built program, of every program of the examples, the course and the cases, and compares
+# the checker that is extracted from them with `kuifje check`. Where Coq isn't there it says that it skips. audit/coq/README.md says what is
+# confirmed.
 confirm: bin/kuifje
 	@.ci/coq bin/kuifje
 	@if command -v coqc >/dev/null; then \
-		$(MAKE) -s -C audit/coq check && python3 audit/coq/agreement.py bin/kuifje && python3 audit/coq/speed.py; fi
+		$(MAKE) -s -C audit/coq check && python3 audit/coq/agreement.py bin/kuifje && python3 audit/coq/speed.py && \
+		python3 audit/coq/programs.py bin/kuifje --all; fi
 
 # The same with nothing kept: all is proved anew, and each wrong body tried anew. A kit whose `rt ci` keeps what passed has --anew for that;
 # one without it keeps nothing.

@@ -6,14 +6,13 @@
 
 PROGRAM is kuifje. `kuifje-confirm hyper FILE` has to print the bytes of `kuifje hyper FILE`. Of each program of the examples and the course
 three wrong hypers have to be rejected as well: with another digit in a probability, in the scale, and in an outer probability. Each
-answer may take 60 seconds and 2 GB. Where kuifje refuses a text, kuifje-confirm has to have no answer, or the refusal is for one of the bounds
+answer may take 60 seconds of a processor and 2 GB. Where kuifje refuses a text, kuifje-confirm has to have no answer, or the refusal is for one of the bounds
 below, which are no part of a program's meaning."""
 import re
 import resource
 import subprocess
 import sys
 import tempfile
-import time
 from collections import Counter
 from pathlib import Path
 
@@ -34,17 +33,17 @@ BOUNDS = ("TypeTooLarge", "BadRange", "TooManyVariables", "StoreTooWide", "Long"
 
 
 def limits():
-    """As much stack as may be had, and 2 GB in all."""
+    """As much stack as may be had, 2 GB in all, and 60 seconds of a processor, however much else it does."""
     hard = resource.getrlimit(resource.RLIMIT_STACK)[1]
     resource.setrlimit(resource.RLIMIT_STACK, (BYTES if hard == resource.RLIM_INFINITY else hard, hard))
     resource.setrlimit(resource.RLIMIT_AS, (BYTES, BYTES))
+    resource.setrlimit(resource.RLIMIT_CPU, (SECONDS, SECONDS))
 
 
 def confirm(*words):
-    try:
-        done = subprocess.run([str(word) for word in (CONFIRM, *words)], capture_output=True, timeout=SECONDS, preexec_fn=limits, check=False)
-    except subprocess.TimeoutExpired:
-        return 2, f"not ended after {SECONDS} s".encode()
+    done = subprocess.run([str(word) for word in (CONFIRM, *words)], capture_output=True, preexec_fn=limits, check=False)
+    if done.returncode < 0:
+        return 2, f"ended by signal {-done.returncode}".encode()
     return done.returncode, done.stdout if done.returncode < 2 else done.stderr
 
 
@@ -144,10 +143,11 @@ def content(line):
 
 def every(program, folder):
     count, faults, slowest = Counter(), [], (0.0, None)
+    used = lambda: resource.getrusage(resource.RUSAGE_CHILDREN).ru_utime
     for path in sorted((TOP / "examples").rglob("*.kf")) + sorted((TOP / "course").rglob("*.kf")):
-        before = time.monotonic()
+        before = used()
         text, fault = compare(program, path, count)
-        slowest = max(slowest, (time.monotonic() - before, path.name))
+        slowest = max(slowest, (used() - before, path.name))
         faults += [fault] if fault else [] if text is None else [*faults_of_wrong(folder, path, text)]
     print("examples and course:", dict(count), f"slowest {slowest[1]} {slowest[0]:.1f} s", flush=True)
     cases, path = Counter(), folder / "case.kf"

@@ -9,13 +9,13 @@ from __future__ import annotations
 import html
 import json
 import re
-from collections.abc import Iterable, Iterator, Mapping
+from collections.abc import Iterable, Iterator, Mapping, Sequence
 from dataclasses import dataclass, field, fields, is_dataclass
 from fractions import Fraction
 from functools import cached_property, lru_cache
 from typing import TYPE_CHECKING, ClassVar, TypeVar
 
-from .values import Value, format_value, parse_value, split_values
+from .values import Value, ascending, format_value, parse_value, split_values
 
 if TYPE_CHECKING:
     import pandas
@@ -26,7 +26,6 @@ __all__ = [
     "Blame",
     "BlameLine",
     "Capacity",
-    "Channel",
     "Composition",
     "GainTable",
     "Hyper",
@@ -46,11 +45,13 @@ __all__ = [
 ]
 
 _FRACTION = re.compile(r"-?(?:0|[1-9][0-9]*)(?:/[1-9][0-9]*)?")
+SHORT = 40  # lines of a text that a session shows
+LONG = 200  # rows of a table that a notebook shows
 T = TypeVar("T")
 
 
 @lru_cache(maxsize=1 << 14)
-def _fraction(text: str) -> Fraction:
+def read_fraction(text: str) -> Fraction:
     """The fraction of a printed text, which is in lowest terms."""
     if not _FRACTION.fullmatch(text):
         raise ValueError(f"{text!r} is no fraction")
@@ -60,13 +61,13 @@ def _fraction(text: str) -> Fraction:
     return value
 
 
-def _number(text: str) -> int:
+def read_number(text: str) -> int:
     if not re.fullmatch(r"0|[1-9][0-9]*", text):
         raise ValueError(f"{text!r} is no number")
     return int(text)
 
 
-class _Lines:
+class Lines:
     """The lines of a printed text, one taken after the other."""
 
     def __init__(self, text: str) -> None:
@@ -116,7 +117,7 @@ def _weights(lines: Iterable[str]) -> dict[Value, Fraction]:
     found: dict[Value, Fraction] = {}
     for line in lines:
         value, fraction = _split_last(line)
-        found[parse_value(value)] = _fraction(fraction)
+        found[parse_value(value)] = read_fraction(fraction)
     return found
 
 
@@ -124,7 +125,7 @@ def _print_weights(weights: Mapping[Value, Fraction]) -> str:
     return "".join(f"  {format_value(value)} {fraction}\n" for value, fraction in weights.items())
 
 
-def _keyed(lines: _Lines, word: str, *keys: str) -> tuple[str, ...]:
+def _keyed(lines: Lines, word: str, *keys: str) -> tuple[str, ...]:
     """The values of a line of words: of ``inner 0 outer 1/2`` the texts after ``inner`` and ``outer``."""
     rest = lines.take(word)
     found = []
@@ -169,19 +170,25 @@ class Target:
         return ", ".join(map(str, self.items))
 
 
-@dataclass(frozen=True, kw_only=True)
+@dataclass(frozen=True, kw_only=True, repr=False)
 class Printed:
     """What the program printed: ``str`` is the printed text.
 
     ``question`` is a sentence that says what was asked, where the answer came of a question.
     """
 
-    question: str | None = field(default=None, compare=False, repr=False)
+    question: str | None = field(default=None, compare=False)
+
+    def __repr__(self) -> str:
+        """The printed text below the kind of answer that it is; of a long text its first lines, and how many more there are."""
+        lines = str(self).splitlines()
+        more = [f".. and {len(lines) - SHORT} more lines"] if len(lines) > SHORT + 1 else lines[SHORT:]
+        return "\n".join([f"<{type(self).__name__}>", *lines[:SHORT], *more])
 
     @classmethod
     def parse(cls: type[T], text: str) -> T:
         """The object of a printed text. Raises ``ValueError`` where it isn't one of this kind."""
-        lines = _Lines(text)
+        lines = Lines(text)
         found = cls._read(lines)  # type: ignore[attr-defined]
         lines.end()
         return found  # type: ignore[no-any-return]
@@ -201,11 +208,16 @@ class Printed:
         return pandas.DataFrame(self.records())
 
     def _repr_html_(self) -> str:
-        rows = self.records()
-        heads = "".join(f"<th>{html.escape(name)}</th>" for name in (rows[0] if rows else ()))
-        body = "".join("<tr>" + "".join(f"<td>{html.escape(_shown(cell))}</td>" for cell in row.values()) + "</tr>" for row in rows)
-        asked = f"<caption>{html.escape(self.question)}</caption>" if self.question else ""
-        return f"<table>{asked}<thead><tr>{heads}</tr></thead><tbody>{body}</tbody></table>"
+        return html_table(self.records(), self.question)
+
+
+def html_table(rows: Sequence[Mapping[str, object]], caption: str | None = None) -> str:
+    """Rows as a table in HTML: the first ones where there are many, and how many more there are."""
+    heads = "".join(f"<th>{html.escape(name)}</th>" for name in (rows[0] if rows else ()))
+    body = "".join("<tr>" + "".join(f"<td>{html.escape(_shown(cell))}</td>" for cell in row.values()) + "</tr>" for row in rows[:LONG])
+    more = f'<tr><td colspan="{len(rows[0])}">.. and {len(rows) - LONG} more rows</td></tr>' if len(rows) > LONG else ""
+    head = f"<caption>{html.escape(caption)}</caption>" if caption else ""
+    return f"<table>{head}<thead><tr>{heads}</tr></thead><tbody>{body}{more}</tbody></table>"
 
 
 def _plain(found: object) -> object:
@@ -244,7 +256,7 @@ class Inner:
         return _print_weights(self.distribution)
 
 
-@dataclass(frozen=True)
+@dataclass(frozen=True, repr=False)
 class Hyper(Printed):
     """A hyper-distribution: a distribution on posterior distributions (inners) of the target.
 
@@ -256,28 +268,31 @@ class Hyper(Printed):
     inners: tuple[Inner, ...]
 
     @classmethod
-    def _read(cls, lines: _Lines) -> Hyper:
-        target, scale = Target.parse(lines.take("target")), _number(lines.take("scale"))
+    def _read(cls, lines: Lines) -> Hyper:
+        target, scale = Target.parse(lines.take("target")), read_number(lines.take("scale"))
         inners = []
-        for i in range(_number(lines.take("inners"))):
+        for i in range(read_number(lines.take("inners"))):
             number, outer = _keyed(lines, "inner", "outer")
             if number != str(i):
                 raise ValueError(f"inner {number} stands where inner {i} should")
-            inners.append(Inner(_fraction(outer), _weights(lines.indented())))
+            inners.append(Inner(read_fraction(outer), _weights(lines.indented())))
         return cls(target, scale, tuple(inners))
 
     @cached_property
     def prior(self) -> dict[Value, Fraction]:
-        """The distribution of the target before anything is seen: the average of the inners by their outers."""
+        """The distribution of the target before anything is seen: the average of the inners by their outers, its values ascending."""
         found: dict[Value, Fraction] = {}
         for inner in self.inners:
             for value, probability in inner.distribution.items():
                 found[value] = found.get(value, Fraction(0)) + inner.outer * probability
-        return found
+        return {value: found[value] for value in ascending(found)}
 
     def records(self) -> list[dict[str, object]]:
-        return [{"inner": i, "outer": inner.outer, "value": format_value(x), "probability": p}
-                for i, inner in enumerate(self.inners) for x, p in inner.distribution.items()]
+        return [
+            {"inner": i, "outer": inner.outer, "value": format_value(x), "probability": p}
+            for i, inner in enumerate(self.inners)
+            for x, p in inner.distribution.items()
+        ]
 
     def __str__(self) -> str:
         head = f"target {self.target}\nscale {self.scale}\ninners {len(self.inners)}\n"
@@ -297,7 +312,7 @@ class Trace:
         return f"[{', '.join(map(format_value, self.shown))}]"
 
 
-@dataclass(frozen=True)
+@dataclass(frozen=True, repr=False)
 class TraceTable(Printed):
     """All traces of a program, ascending."""
 
@@ -306,59 +321,23 @@ class TraceTable(Printed):
     traces: tuple[Trace, ...]
 
     @classmethod
-    def _read(cls, lines: _Lines) -> TraceTable:
-        target, scale = Target.parse(lines.take("target")), _number(lines.take("scale"))
+    def _read(cls, lines: Lines) -> TraceTable:
+        target, scale = Target.parse(lines.take("target")), read_number(lines.take("scale"))
         traces = []
-        for _ in range(_number(lines.take("traces"))):
+        for _ in range(read_number(lines.take("traces"))):
             shown, weight = _keyed(lines, "trace", "weight")
-            traces.append(Trace(split_values(shown), _fraction(weight), _weights(lines.indented())))
+            traces.append(Trace(split_values(shown), read_fraction(weight), _weights(lines.indented())))
         return cls(target, scale, tuple(traces))
 
     def records(self) -> list[dict[str, object]]:
-        return [{"trace": t.text, "weight": t.probability, "value": format_value(x), "joint": p}
-                for t in self.traces for x, p in t.joint.items()]
+        return [{"trace": t.text, "weight": t.probability, "value": format_value(x), "joint": p} for t in self.traces for x, p in t.joint.items()]
 
     def __str__(self) -> str:
         head = f"target {self.target}\nscale {self.scale}\ntraces {len(self.traces)}\n"
         return head + "".join(f"trace {t.text} weight {t.probability}\n{_print_weights(t.joint)}" for t in self.traces)
 
 
-@dataclass(frozen=True)
-class Channel(Printed):
-    """A channel matrix: for each value of the target (row) the conditional probability of each trace (column)."""
-
-    target: Target
-    columns: tuple[tuple[Value, ...], ...]
-    rows: Mapping[Value, tuple[Fraction, ...]]
-
-    @classmethod
-    def _read(cls, lines: _Lines) -> Channel:
-        target, columns = Target.parse(lines.take("target")), []
-        for j in range(_number(lines.take("columns"))):
-            number, blank, shown = lines.take("column").partition(" ")
-            if number != str(j) or not blank:
-                raise ValueError(f"column {number} stands where column {j} should")
-            columns.append(split_values(shown))
-        rows: dict[Value, tuple[Fraction, ...]] = {}
-        for _ in range(_number(lines.take("rows"))):
-            value = parse_value(lines.take("row"))
-            rows[value] = tuple(map(_fraction, lines.indented()))
-            if len(rows[value]) != len(columns):
-                raise ValueError(f"row {format_value(value)} has {len(rows[value])} cells for {len(columns)} columns")
-        return cls(target, tuple(columns), rows)
-
-    def records(self) -> list[dict[str, object]]:
-        names = [f"[{', '.join(map(format_value, shown))}]" for shown in self.columns]
-        return [{"value": format_value(value), **dict(zip(names, cells))} for value, cells in self.rows.items()]
-
-    def __str__(self) -> str:
-        head = f"target {self.target}\ncolumns {len(self.columns)}\n"
-        head += "".join(f"column {j} [{', '.join(map(format_value, shown))}]\n" for j, shown in enumerate(self.columns))
-        rows = (f"row {format_value(value)}\n" + "".join(f"  {cell}\n" for cell in cells) for value, cells in self.rows.items())
-        return f"{head}rows {len(self.rows)}\n{''.join(rows)}"
-
-
-@dataclass(frozen=True)
+@dataclass(frozen=True, repr=False)
 class Leakage(Printed):
     """How much a gain function's best action gains before (prior vulnerability) and after (posterior vulnerability) a run is seen."""
 
@@ -369,16 +348,23 @@ class Leakage(Printed):
     additive_leakage: Fraction
 
     @classmethod
-    def _read(cls, lines: _Lines) -> Leakage:
+    def _read(cls, lines: Lines) -> Leakage:
         gain = lines.take("gain")
         prior, posterior, quotient = lines.take("prior"), lines.take("posterior"), lines.take("quotient")
-        return cls(gain, _fraction(prior), _fraction(posterior), None if quotient == "undefined" else _fraction(quotient),
-                   _fraction(lines.take("difference")))
+        return cls(
+            gain,
+            read_fraction(prior),
+            read_fraction(posterior),
+            None if quotient == "undefined" else read_fraction(quotient),
+            read_fraction(lines.take("difference")),
+        )
 
     def __str__(self) -> str:
         quotient = "undefined" if self.multiplicative_leakage is None else self.multiplicative_leakage
-        return (f"gain {self.gain}\nprior {self.prior_vulnerability}\nposterior {self.posterior_vulnerability}\n"
-                f"quotient {quotient}\ndifference {self.additive_leakage}\n")
+        return (
+            f"gain {self.gain}\nprior {self.prior_vulnerability}\nposterior {self.posterior_vulnerability}\n"
+            f"quotient {quotient}\ndifference {self.additive_leakage}\n"
+        )
 
 
 @dataclass(frozen=True)
@@ -390,7 +376,7 @@ class Move:
     actions: Mapping[str, Fraction]
 
 
-@dataclass(frozen=True)
+@dataclass(frozen=True, repr=False)
 class Attack(Printed):
     """What an adversary does best at each inner: values to guess with their probabilities, or actions with what they gain."""
 
@@ -398,7 +384,7 @@ class Attack(Printed):
     moves: tuple[Move, ...]
 
     @classmethod
-    def _read(cls, lines: _Lines) -> Attack:
+    def _read(cls, lines: Lines) -> Attack:
         gain = lines.take("gain")
         moves: list[Move] = []
         while lines.peek() is not None:
@@ -406,12 +392,15 @@ class Attack(Printed):
             if number != str(len(moves)):
                 raise ValueError(f"inner {number} stands where inner {len(moves)} should")
             pairs = (_split_last(line) for line in lines.indented())
-            moves.append(Move(_fraction(outer), _fraction(value), {action: _fraction(f) for action, f in pairs}))
+            moves.append(Move(read_fraction(outer), read_fraction(value), {action: read_fraction(f) for action, f in pairs}))
         return cls(gain, tuple(moves))
 
     def records(self) -> list[dict[str, object]]:
-        return [{"inner": i, "outer": m.outer, "vulnerability": m.value, "action": a, "gains": f}
-                for i, m in enumerate(self.moves) for a, f in m.actions.items()]
+        return [
+            {"inner": i, "outer": m.outer, "vulnerability": m.value, "action": a, "gains": f}
+            for i, m in enumerate(self.moves)
+            for a, f in m.actions.items()
+        ]
 
     def __str__(self) -> str:
         def move(i: int, m: Move) -> str:
@@ -420,7 +409,7 @@ class Attack(Printed):
         return f"gain {self.gain}\n" + "".join(move(i, m) for i, m in enumerate(self.moves))
 
 
-@dataclass(frozen=True)
+@dataclass(frozen=True, repr=False)
 class Reach(Printed):
     """The least number of tries whose posterior vulnerability is at least what was asked for, and that of one try fewer."""
 
@@ -429,27 +418,27 @@ class Reach(Printed):
     before: Fraction
 
     @classmethod
-    def _read(cls, lines: _Lines) -> Reach:
-        return cls(_number(lines.take("tries")), _fraction(lines.take("posterior")), _fraction(lines.take("before")))
+    def _read(cls, lines: Lines) -> Reach:
+        return cls(read_number(lines.take("tries")), read_fraction(lines.take("posterior")), read_fraction(lines.take("before")))
 
     def __str__(self) -> str:
         return f"tries {self.tries}\nposterior {self.posterior_vulnerability}\nbefore {self.before}\n"
 
 
-@dataclass(frozen=True)
+@dataclass(frozen=True, repr=False)
 class Trail(Printed):
     """How many inners about all variables there are after so many top-level statements, from 0 on."""
 
     inners: tuple[int, ...]
 
     @classmethod
-    def _read(cls, lines: _Lines) -> Trail:
+    def _read(cls, lines: Lines) -> Trail:
         counts: list[int] = []
         while lines.peek() is not None:
             number, count = _keyed(lines, "after", "inners")
             if number != str(len(counts)):
                 raise ValueError(f"after {number} stands where after {len(counts)} should")
-            counts.append(_number(count))
+            counts.append(read_number(count))
         return cls(tuple(counts))
 
     def records(self) -> list[dict[str, object]]:
@@ -467,7 +456,7 @@ class BlameLine:
     bayes: Fraction
 
 
-@dataclass(frozen=True)
+@dataclass(frozen=True, repr=False)
 class Blame(Printed):
     """How much the program leaks, and how much where each top-level statement alone shows nothing."""
 
@@ -475,10 +464,10 @@ class Blame(Printed):
     without: tuple[BlameLine, ...]
 
     @classmethod
-    def _read(cls, lines: _Lines) -> Blame:
+    def _read(cls, lines: Lines) -> Blame:
         def line(word: str) -> BlameLine:
             inners, bayes = _keyed(lines, word, "bayes")
-            return BlameLine(_number(inners), _fraction(bayes))
+            return BlameLine(read_number(inners), read_fraction(bayes))
 
         whole = line("all inners")
         without: list[BlameLine] = []
@@ -495,21 +484,21 @@ class Blame(Printed):
         return found + "".join(f"without {i} inners {b.inners} bayes {b.bayes}\n" for i, b in enumerate(self.without))
 
 
-@dataclass(frozen=True)
+@dataclass(frozen=True, repr=False)
 class Capacity(Printed):
     """The Bayes capacity of a channel: the sum of its columns' greatest cells."""
 
     capacity: Fraction
 
     @classmethod
-    def _read(cls, lines: _Lines) -> Capacity:
-        return cls(_fraction(lines.take("capacity")))
+    def _read(cls, lines: Lines) -> Capacity:
+        return cls(read_fraction(lines.take("capacity")))
 
     def __str__(self) -> str:
         return f"capacity {self.capacity}\n"
 
 
-@dataclass(frozen=True)
+@dataclass(frozen=True, repr=False)
 class Composition(Printed):
     """The Bayes capacities of two channels, and of what is put together of them, with its numbers of rows and columns."""
 
@@ -520,16 +509,15 @@ class Composition(Printed):
     both: Fraction
 
     @classmethod
-    def _read(cls, lines: _Lines) -> Composition:
-        sizes = _number(lines.take("rows")), _number(lines.take("columns"))
-        return cls(*sizes, *(_fraction(lines.take(word)) for word in ("first", "second", "both")))
+    def _read(cls, lines: Lines) -> Composition:
+        sizes = read_number(lines.take("rows")), read_number(lines.take("columns"))
+        return cls(*sizes, *(read_fraction(lines.take(word)) for word in ("first", "second", "both")))
 
     def __str__(self) -> str:
-        return (f"rows {self.rows}\ncolumns {self.columns}\nfirst {self.first}\n"
-                f"second {self.second}\nboth {self.both}\n")
+        return f"rows {self.rows}\ncolumns {self.columns}\nfirst {self.first}\n" f"second {self.second}\nboth {self.both}\n"
 
 
-@dataclass(frozen=True)
+@dataclass(frozen=True, repr=False)
 class Made(Printed):
     """A summary of the hyper of a program that the program makes itself."""
 
@@ -539,9 +527,9 @@ class Made(Printed):
     last: Fraction
 
     @classmethod
-    def _read(cls, lines: _Lines) -> Made:
-        observations, scale, inners = (_number(lines.take(word)) for word in ("observations", "scale", "inners"))
-        return cls(observations, scale, inners, _fraction(lines.take("last")))
+    def _read(cls, lines: Lines) -> Made:
+        observations, scale, inners = (read_number(lines.take(word)) for word in ("observations", "scale", "inners"))
+        return cls(observations, scale, inners, read_fraction(lines.take("last")))
 
     def __str__(self) -> str:
         return f"observations {self.observations}\nscale {self.scale}\ninners {self.inners}\nlast {self.last}\n"
@@ -579,7 +567,7 @@ class GainTable:
         return max(sum((p * self.gain(action, value) for value, p in distribution.items()), Fraction(0)) for action in self.actions)
 
 
-@dataclass(frozen=True)
+@dataclass(frozen=True, repr=False)
 class Verdict(Printed):
     """Whether the second program leaks no more than the first, with the matrix or the gain function that proves it."""
 
@@ -588,16 +576,16 @@ class Verdict(Printed):
     table: GainTable | None
 
     @classmethod
-    def _read(cls, lines: _Lines) -> Verdict:
+    def _read(cls, lines: Lines) -> Verdict:
         word = lines.take("refines")
         if word == "yes":
-            rows, columns = map(_number, lines.take("matrix").split(" "))
+            rows, columns = map(read_number, lines.take("matrix").split(" "))
             return cls(True, Matrix(tuple(_matrix_row(lines, columns) for _ in range(rows))), None)
         if word != "no":
             raise ValueError(f"{word!r} is no verdict")
-        over, rest = _number(lines.take("over")), int(lines.take("rest"))
+        over, rest = read_number(lines.take("over")), int(lines.take("rest"))
         actions = []
-        for _ in range(_number(lines.take("actions"))):
+        for _ in range(read_number(lines.take("actions"))):
             name = lines.take("action")
             pairs = (_split_last(line) for line in lines.indented())
             actions.append(Action(name, {parse_value(value): int(gain) for value, gain in pairs}))
@@ -607,8 +595,11 @@ class Verdict(Printed):
         if self.matrix is not None:
             return [{"inner": i, **{f"to {j}": entry for j, entry in enumerate(row)}} for i, row in enumerate(self.matrix.rows)]
         assert self.table is not None
-        return [{"action": action.name, "value": format_value(value), "gains": Fraction(gain, self.table.over)}
-                for action in self.table.actions for value, gain in action.gains.items()]
+        return [
+            {"action": action.name, "value": format_value(value), "gains": Fraction(gain, self.table.over)}
+            for action in self.table.actions
+            for value, gain in action.gains.items()
+        ]
 
     def __str__(self) -> str:
         if self.matrix is not None:
@@ -618,18 +609,19 @@ class Verdict(Printed):
         assert self.table is not None
         table = self.table
         head = f"refines no\nover {table.over}\nrest {table.rest}\nactions {len(table.actions)}\n"
-        return head + "".join(f"action {action.name}\n" + "".join(f"  {format_value(v)} {g}\n" for v, g in action.gains.items())
-                              for action in table.actions)
+        return head + "".join(
+            f"action {action.name}\n" + "".join(f"  {format_value(v)} {g}\n" for v, g in action.gains.items()) for action in table.actions
+        )
 
 
-def _matrix_row(lines: _Lines, columns: int) -> tuple[Fraction, ...]:
-    row = tuple(map(_fraction, lines.next_line().split(" ")))
+def _matrix_row(lines: Lines, columns: int) -> tuple[Fraction, ...]:
+    row = tuple(map(read_fraction, lines.next_line().split(" ")))
     if len(row) != columns:
         raise ValueError(f"a row has {len(row)} entries for {columns} columns")
     return row
 
 
-@dataclass(frozen=True)
+@dataclass(frozen=True, repr=False)
 class Mark(Printed):
     """What a check says of a certificate: accepted, or the first rule that it breaks."""
 
@@ -642,7 +634,7 @@ class Mark(Printed):
         return self.rejected is None
 
     @classmethod
-    def _read(cls, lines: _Lines) -> Mark:
+    def _read(cls, lines: Lines) -> Mark:
         line = lines.next_line()
         if line == "accepted":
             return cls(None)

@@ -6,12 +6,16 @@ items is the tuple of theirs. Each value has one text, and a text is read back a
 
 from __future__ import annotations
 
+import re
+from collections.abc import Iterable
 from functools import cmp_to_key
 from typing import Any, TypeAlias, Union
 
 Value: TypeAlias = Union[bool, int, tuple["Value", ...], frozenset[Any]]
 
-__all__ = ["Value", "compare", "format_value", "parse_value", "split_values"]
+__all__ = ["Value", "ascending", "compare", "format_value", "parse_value", "split_values"]
+
+_NUMBER = re.compile(r"-?[1-9][0-9]*|0")
 
 
 def _kind(value: Value) -> int:
@@ -36,12 +40,20 @@ def compare(a: Value, b: Value) -> int:
                 return decided
         return len(a) - len(b)
     if isinstance(a, frozenset) and isinstance(b, frozenset):
-        apart = sorted(a ^ b, key=cmp_to_key(compare))
+        apart = ascending(a ^ b)
         if not apart:
             return 0
         return 1 if apart[-1] in a else -1
     assert isinstance(a, int) and isinstance(b, int)
     return int(a) - int(b)
+
+
+def ascending(values: Iterable[Value]) -> list[Value]:
+    """The values in the language's order."""
+    found = list(values)
+    if all(type(value) is int for value in found):
+        return sorted(found)
+    return sorted(found, key=cmp_to_key(compare))
 
 
 def format_value(value: Value) -> str:
@@ -53,7 +65,7 @@ def format_value(value: Value) -> str:
     if isinstance(value, tuple):
         return f"({', '.join(map(format_value, value))})"
     if isinstance(value, frozenset):
-        return f"{{{', '.join(map(format_value, sorted(value, key=cmp_to_key(compare))))}}}"
+        return f"{{{', '.join(map(format_value, ascending(value)))}}}"
     raise TypeError(f"{value!r} is no value of the language")
 
 
@@ -80,6 +92,8 @@ def split_values(text: str) -> tuple[Value, ...]:
 
 def _value_at(text: str, at: int) -> tuple[Value, int]:
     """The value whose text begins at a place, and the place after it."""
+    if number := _NUMBER.match(text, at):
+        return int(number[0]), number.end()
     for word, truth in (("true", True), ("false", False)):
         if text.startswith(word, at):
             return truth, at + len(word)
@@ -93,14 +107,7 @@ def _value_at(text: str, at: int) -> tuple[Value, int]:
         if any(compare(x, y) >= 0 for x, y in zip(elements, elements[1:])):
             raise ValueError(f"{text!r} has a set whose elements don't ascend")
         return frozenset(elements), end
-    end = at + (text[at : at + 1] == "-")
-    digits = end
-    while text[end : end + 1] in tuple("0123456789"):
-        end += 1
-    number = text[at:end]
-    if end == digits or str(int(number)) != number:
-        raise ValueError(f"{text!r} has no value at {at}")
-    return int(number), end
+    raise ValueError(f"{text!r} has no value at {at}")
 
 
 def _list_at(text: str, at: int, closing: str) -> tuple[list[Value], int]:

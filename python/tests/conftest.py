@@ -1,4 +1,4 @@
-"""A built program for the tests: the environment's, else the one on the path, else bin/kuifje."""
+"""A built program for the tests: the environment's, else the one on the path, else bin/kuifje; and its library, where lib/ has it."""
 
 import os
 import shutil
@@ -19,3 +19,15 @@ def built():
     """Skips where there is no built program."""
     if program() is None:
         pytest.skip("there is no built program")
+
+
+@pytest.fixture
+def proved(built):
+    """Skips where what answers isn't the proved program: an independent one gives the same answers, and no places of refusals."""
+    from kuifje import Engine
+
+    engine = Engine()
+    answer = engine.ask(["hyper", "p.kf"], {"p.kf": b"@"})
+    engine.close()
+    if answer.err != b"kuifje: p.kf:1:1: Char\n":
+        pytest.skip("another program answers")

@@ -16,19 +16,22 @@ def refusal(status, line, **files):
     return refusal_of(status, f"kuifje: {line}\n", {name.replace("_", "."): text for name, text in files.items()})
 
 
-@pytest.mark.parametrize(("status", "line", "kind", "begins"), [
-    (5, "p.kf:1:5: Char", "Char", "Char is a character with which no token begins."),
-    (6, "p.kf:1:1: LoopBound", "LoopBound", "A loop has at most 1,024 turns"),
-    (7, "p.kf: scale passes 2^127 - 1", "scale passes 2^127 - 1", "All probabilities of a program have one denominator"),
-    (7, "tableau passes 2^62 after 17 pivots", "tableau passes 2^62 after 17 pivots", "tableau passes 2^62 after P pivots: a number"),
-    (8, "tableau has 4000001 cells", "tableau has 4000001 cells", "tableau has C cells: the equations"),
-    (8, "p.kf: 5000 stores", "5000 stores", "C stores comes of covers"),
-    (9, "p.kf: Twice", "Twice", "The line names the file and the first rule"),
-    (5, "p.kf:1:2: Twice", "Twice", "Twice: a name is declared again"),
-    (9, "p.kf: Form 3", "Form 3", "The line names the file and the first rule"),
-    (13, "p.kf: 3 statements", "3 statements", "C statements (status 13) comes of quiet"),
-    (2, "usage: kuifje COMMAND", "usage: kuifje COMMAND", "The usage line (status 2): there is no such command"),
-])
+@pytest.mark.parametrize(
+    ("status", "line", "kind", "begins"),
+    [
+        (5, "p.kf:1:5: Char", "Char", "Char is a character with which no token begins."),
+        (6, "p.kf:1:1: LoopBound", "LoopBound", "A loop has at most 1,024 turns"),
+        (7, "p.kf: scale passes 2^127 - 1", "scale passes 2^127 - 1", "All probabilities of a program have one denominator"),
+        (7, "tableau passes 2^62 after 17 pivots", "tableau passes 2^62 after 17 pivots", "tableau passes 2^62 after P pivots: a number"),
+        (8, "tableau has 4000001 cells", "tableau has 4000001 cells", "tableau has C cells: the equations"),
+        (8, "p.kf: 5000 stores", "5000 stores", "C stores comes of covers"),
+        (9, "p.kf: Twice", "Twice", "The line names the file and the first rule"),
+        (5, "p.kf:1:2: Twice", "Twice", "Twice: a name is declared again"),
+        (9, "p.kf: Form 3", "Form 3", "The line names the file and the first rule"),
+        (13, "p.kf: 3 statements", "3 statements", "C statements (status 13) comes of quiet"),
+        (2, "usage: kuifje COMMAND", "usage: kuifje COMMAND", "The usage line (status 2): there is no such command"),
+    ],
+)
 def test_a_refusal_is_explained(status, line, kind, begins):
     found = refusal(status, line, p_kf=b"var x")
     assert found.kind == kind
@@ -40,7 +43,7 @@ def test_a_refusal_is_explained(status, line, kind, begins):
 def test_every_refusal_of_the_page_on_commands_is_explained():
     """Each fault and each line that docs/COMMANDS.md has, with numbers for its letters."""
     page = (TOP / "docs" / "COMMANDS.md").read_text()
-    table = page[page.index("## Statuses"):page.index("## Order of refusals")]
+    table = page[page.index("## Statuses") : page.index("## Order of refusals")]
     lines = re.findall(r"^\| ([0-9]+) \|.*`kuifje: ((?:NAME: )?(?!NAME)[^`]+)`", table, flags=re.MULTILINE)
     assert len(lines) > 15
     for status, line in lines:

@@ -77,12 +77,24 @@ def test_a_file_is_compared_with_itself_at_a_revision(tmp_path):
     assert gate(tmp_path, policy.replace("HEAD", "nowhere")).exit_code == 2
 
 
-@pytest.mark.parametrize("policy", [
-    "", "x = ", "[[programs]]\n", "[program]\nfile = 'a.kf'\n", "[[program]]\nfile = 'a.kf'\n", "[[program]]\ncapacity = 1\n",
-    "[[program]]\nfile = 'a.kf'\ncapacity = 0.5\n", "[[program]]\nfile = 'a.kf'\ncapacity = 'much'\n", "[[program]]\nfile = 'a.kf'\ncapacity = '1/0'\n",
-    "[[program]]\nfile = 'a.kf'\ncolour = 1\n", "[[refinement]]\nfile = 'a.kf'\n", "[[refinement]]\nfile = 'a.kf'\nof = 'b.kf'\nrevision = 'HEAD'\n",
-    "[[refinement]]\nfile = 'a.kf'\nrevision = '--output=x'\n",
-])
+@pytest.mark.parametrize(
+    "policy",
+    [
+        "",
+        "x = ",
+        "[[programs]]\n",
+        "[program]\nfile = 'a.kf'\n",
+        "[[program]]\nfile = 'a.kf'\n",
+        "[[program]]\ncapacity = 1\n",
+        "[[program]]\nfile = 'a.kf'\ncapacity = 0.5\n",
+        "[[program]]\nfile = 'a.kf'\ncapacity = 'much'\n",
+        "[[program]]\nfile = 'a.kf'\ncapacity = '1/0'\n",
+        "[[program]]\nfile = 'a.kf'\ncolour = 1\n",
+        "[[refinement]]\nfile = 'a.kf'\n",
+        "[[refinement]]\nfile = 'a.kf'\nof = 'b.kf'\nrevision = 'HEAD'\n",
+        "[[refinement]]\nfile = 'a.kf'\nrevision = '--output=x'\n",
+    ],
+)
 def test_what_is_no_policy_ends_with_2(tmp_path, policy):
     assert gate(tmp_path, policy).exit_code == 2
 

@@ -60,6 +60,7 @@ def test_a_hyper_of_a_channel_is_the_programs():
     assert str(channels.hyper(PARITY.channel(), PARITY.hyper().prior)) == str(PARITY.hyper())
 
 
+@pytest.mark.usefixtures("proved")
 def test_a_refusal_has_its_place():
     with pytest.raises(Refusal) as caught:
         Program("var x : 0..3 := uniform 0..3;\n\tobserve x @ 2;\n", name="p.kf").hyper()

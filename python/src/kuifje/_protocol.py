@@ -6,5 +6,5 @@ LIBRARY = "KUIFJE_LIBRARY"  # the environment's names for the library
 PROGRAM = "KUIFJE_PROGRAM"  # and for the program
 NAME = "libkuifje.so.0"
 HEAD = struct.Struct("<hQQ")  # of an answer: its status, and the lengths of what was written to out and err
-NOTHING_TO_RUN = 256  # the status where there is neither a library nor a program
-WANT_OF_MEMORY = 12
+READ_FAILED, WRITE_FAILED, WANT_OF_MEMORY = 3, 4, 12
+VERSION_LENGTH = 64  # bytes of the version that a worker writes first

@@ -5,7 +5,7 @@ from __future__ import annotations
 import json
 import re
 from collections.abc import Mapping
-from dataclasses import dataclass
+from dataclasses import astuple, dataclass
 from functools import cache
 from importlib.resources import files as resources
 from typing import TypedDict
@@ -38,8 +38,12 @@ def _general(kind: str) -> str:
     """The kind as the page has it, with letters for the numbers that differ: ``C stores`` for ``5000 stores``."""
     if kind.startswith("usage: "):
         return "usage line"
-    for number, letter in ((r"^[0-9]+(?= stores| statements)", "C"), (r"(?<= has )[0-9]+(?= cells)", "C"), (r"(?<=after )[0-9]+(?= pivots)", "P"),
-                           (r"(?<=Form )[1-7]$", "N")):
+    for number, letter in (
+        (r"^[0-9]+(?= stores| statements)", "C"),
+        (r"(?<= has )[0-9]+(?= cells)", "C"),
+        (r"(?<=after )[0-9]+(?= pivots)", "P"),
+        (r"(?<=Form )[1-7]$", "N"),
+    ):
         kind = re.sub(number, letter, kind)
     return kind
 
@@ -87,9 +91,17 @@ class Refusal(KuifjeError):
         before = self.source.encode()[: self.column - 1].decode(errors="replace")
         return f"{self.source}\n{''.join(c if c == chr(9) else ' ' for c in before)}^"
 
-    def __str__(self) -> str:
+    @property
+    def text(self) -> str:
+        """The place and the kind in one line."""
         place = f"{self.file or ''}:{self.line}:{self.column}: " if self.line is not None else f"{self.file}: " if self.file else ""
-        return "\n".join(filter(None, (f"{place}{self.kind}", self.caret, self.explanation)))
+        return f"{place}{self.kind}"
+
+    def __str__(self) -> str:
+        return "\n".join(filter(None, (self.text, self.caret, self.explanation)))
+
+    def __reduce__(self) -> tuple[type[Refusal], tuple[object, ...]]:
+        return Refusal, astuple(self)
 
 
 def refusal_of(status: int, line_of_error: str, files: Mapping[str, bytes]) -> Refusal:

@@ -102,7 +102,7 @@ def _check(kind: str, entry: Mapping[str, object]) -> None:
 def _bound(found: object) -> Fraction:
     """A bound: a whole number, or the text of a fraction; a decimal number in TOML isn't exact."""
     if isinstance(found, bool) or not isinstance(found, (int, str)):
-        raise ValueError(f"the bound {found} is neither a whole number nor a text like \"1/4\"")
+        raise ValueError(f'the bound {found} is neither a whole number nor a text like "1/4"')
     try:
         return Fraction(found)
     except ZeroDivisionError:
@@ -114,7 +114,7 @@ def _answered(rule: str, file: str, question: Callable[[], Finding]) -> Finding:
     try:
         return question()
     except Refusal as cause:
-        return Finding(rule, file, None, str(cause).partition("\n")[0], cause.line if cause.file == Path(file).name else None)
+        return Finding(rule, file, None, cause.text, cause.line if cause.file == Path(file).name else None)
     except (KuifjeError, OSError, ValueError, subprocess.SubprocessError) as cause:
         return Finding(rule, file, None, str(cause))
 
@@ -163,8 +163,13 @@ def _refinement(policy: Policy, entry: Mapping[str, object], timeout: float | No
                 raise KuifjeError(shown.stderr.decode(errors="replace").strip())
             other = Program(shown.stdout, name=program.name)
         held = refine(other, program, timeout).refines
-        return Finding("refinement", file, held, f"it leaks {'no ' if held else ''}more than {than}{'' if held else ' under some gain function'}",
-                       None if held else _leaking_line(program, timeout))
+        return Finding(
+            "refinement",
+            file,
+            held,
+            f"it leaks {'no ' if held else ''}more than {than}{'' if held else ' under some gain function'}",
+            None if held else _leaking_line(program, timeout),
+        )
 
     return _answered("refinement", file, question)
 
@@ -204,6 +209,9 @@ def sarif(findings: list[Finding]) -> str:
         return {"ruleId": finding.rule, "level": "error", "message": {"text": str(finding)}, "locations": [{"physicalLocation": place}]}
 
     rules = [{"id": rule} for rule in sorted({finding.rule for finding in findings})]
-    run = {"tool": {"driver": {"name": "kuifje-lab", "rules": rules}}, "invocations": [{"executionSuccessful": status(findings) != 2}],
-           "results": [result(finding) for finding in findings if not finding.held]}
+    run = {
+        "tool": {"driver": {"name": "kuifje-lab", "rules": rules}},
+        "invocations": [{"executionSuccessful": status(findings) != 2}],
+        "results": [result(finding) for finding in findings if not finding.held],
+    }
     return json.dumps({"$schema": SCHEMA, "version": "2.1.0", "runs": [run]}, indent=1, ensure_ascii=False) + "\n"

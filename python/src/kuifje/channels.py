@@ -1,25 +1,30 @@
-"""Channel matrices: made from rows, put together, and with a prior a hyper-distribution. Computed here, and not proved.
+"""Channel matrices: as the program prints them, made from rows, put together, and with a prior a hyper-distribution.
 
-A channel is what ``Program.channel()`` gives, or ``from_rows``. Its columns are labelled by what is shown: a tuple of values.
+What isn't an answer of the program is computed here, exactly, and not proved. The columns of a channel are labelled by what is shown: a tuple of
+values.
 """
 
 from __future__ import annotations
 
 from collections.abc import Mapping, Sequence
+from dataclasses import dataclass
 from fractions import Fraction
 from functools import cmp_to_key
-from math import lcm
+from math import gcd, lcm
 
-from .texts import Channel, Hyper, Inner, Item, Target
-from .values import Value, compare, format_value
+from .expressions import choose, lookup
+from .texts import Hyper, Inner, Item, Lines, Printed, Target, read_fraction, read_number
+from .values import Value, ascending, compare, format_value, parse_value, split_values
 
 __all__ = [
+    "Channel",
     "cascade",
     "from_hyper",
     "from_rows",
     "hidden_choice",
     "hyper",
     "parallel",
+    "product",
     "reduced",
     "to_program",
     "visible_choice",
@@ -27,28 +32,121 @@ __all__ = [
 
 Label = tuple[Value, ...]
 Rational = Fraction | int
-NODES = 1000  # an expression's greatest number of nodes
+NODES = 1000  # of an expression, at most
 GREATEST = 10**9  # the greatest number in a text
+LENGTH = 1 << 20  # bytes of a text, at most
+SCALE = 2**127 - 1  # the greatest scale
 
 
-def from_rows(rows: Mapping[Value, Sequence[Rational]], columns: Sequence[Label] | None = None, target: str = "x") -> Channel:
-    """The channel whose row of a secret has these probabilities, one for each column.
+@dataclass(frozen=True, repr=False)
+class Channel(Printed):
+    """A channel matrix (the book, chapter 4): for each value of the target (row) the conditional probability of each trace (column).
 
-    Columns are labelled ``(0,)``, ``(1,)`` and so on where no labels are given. Raises ``ValueError`` where a probability is below 0, or a row
-    doesn't sum to 1 or has another length than the others.
+    ``rows[x][j]`` is the probability that the values ``columns[j]`` are shown where the target is ``x``; each row sums to 1.
     """
-    cells = {secret: tuple(map(Fraction, row)) for secret, row in rows.items()}
-    lengths = {len(row) for row in cells.values()}
-    if len(lengths) != 1:
-        raise ValueError("a channel has rows, all of one length")
-    labels = tuple(columns) if columns is not None else tuple((j,) for j in range(lengths.pop()))
-    for secret, row in cells.items():
-        if len(row) != len(labels) or any(cell < 0 for cell in row) or sum(row) != 1:
-            raise ValueError(f"the row of {format_value(secret)} is no distribution on {len(labels)} columns")
-    if len(set(labels)) != len(labels):
-        raise ValueError("two columns have one label")
-    ordered = sorted(cells, key=cmp_to_key(compare))
-    return Channel(Target((Item(target, True),)), labels, {secret: cells[secret] for secret in ordered})
+
+    target: Target
+    columns: tuple[Label, ...]
+    rows: Mapping[Value, tuple[Fraction, ...]]
+
+    @classmethod
+    def _read(cls, lines: Lines) -> Channel:
+        target, columns = Target.parse(lines.take("target")), []
+        for j in range(read_number(lines.take("columns"))):
+            number, blank, shown = lines.take("column").partition(" ")
+            if number != str(j) or not blank:
+                raise ValueError(f"column {number} stands where column {j} should")
+            columns.append(split_values(shown))
+        rows: dict[Value, tuple[Fraction, ...]] = {}
+        for _ in range(read_number(lines.take("rows"))):
+            value = parse_value(lines.take("row"))
+            rows[value] = tuple(map(read_fraction, lines.indented()))
+            if len(rows[value]) != len(columns):
+                raise ValueError(f"row {format_value(value)} has {len(rows[value])} cells for {len(columns)} columns")
+        return cls(target, tuple(columns), rows)
+
+    @classmethod
+    def from_rows(cls, rows: Mapping[Value, Sequence[Rational]], columns: Sequence[Label] | None = None, target: str = "x") -> Channel:
+        """The channel whose row of a secret has these probabilities, one for each column.
+
+        Columns are labelled ``(0,)``, ``(1,)`` and so on where no labels are given. Raises ``ValueError`` where a probability is below 0, or a row
+        doesn't sum to 1 or has another length than the others.
+        """
+        cells = {secret: tuple(map(Fraction, row)) for secret, row in rows.items()}
+        lengths = {len(row) for row in cells.values()}
+        if len(lengths) != 1:
+            raise ValueError("a channel has rows, all of one length")
+        labels = tuple(columns) if columns is not None else tuple((j,) for j in range(lengths.pop()))
+        for secret, row in cells.items():
+            if len(row) != len(labels) or any(cell < 0 for cell in row) or sum(row) != 1:
+                raise ValueError(f"the row of {format_value(secret)} is no distribution on {len(labels)} columns")
+        if len(set(labels)) != len(labels):
+            raise ValueError("two columns have one label")
+        ordered = ascending(cells)
+        return cls(Target((Item(target, True),)), labels, {secret: cells[secret] for secret in ordered})
+
+    def to_program(self, prior: Mapping[Value, Rational] | None = None) -> str:
+        """A program without guards whose channel this is, with secrets and columns numbered from 0, at this prior (uniform where none is given).
+
+        A value to which the prior gives 0 is no secret of the program. Raises ``ValueError`` where the text would pass a limit of the language
+        (docs/LANGUAGE.md, "Limits"), and says which: 1,000 nodes of an expression, 1,000,000,000 for a number, 1,048,576 bytes, or 2^127 - 1 for
+        the scale; or where the prior is no distribution on the channel's secrets.
+        """
+        secrets = list(self.rows)
+        weights = _distribution(self, prior) if prior is not None else {x: Fraction(1, len(secrets)) for x in secrets}
+        rows = [_whole(self.rows[x]) for x in secrets]
+        starts = _whole([weights.get(x, Fraction(0)) for x in secrets])
+        scale = sum(starts) * lcm(*(sum(row) for row, weight in zip(rows, starts) if weight))
+        if scale > SCALE:
+            raise ValueError(f"the scale is {scale}, and may be 2^127 - 1")
+        start = f"uniform 0..{len(secrets) - 1}" if prior is None else choose(dict(enumerate(starts)))
+        cases = [lookup("x", [row[j] for row in rows]) for j in range(len(self.columns))]
+        if (nodes := max(5 * case.count("(") + 1 for case in cases)) > NODES:
+            raise ValueError(f"{len(secrets)} secrets make an expression of {nodes} nodes, and it may have {NODES}")
+        text = f"var x : 0..{len(secrets) - 1} := {start};\nabout old x;\nobserve {choose(dict(enumerate(cases)))};\n"
+        if len(text) > LENGTH:
+            raise ValueError(f"the text has {len(text)} bytes, and may have {LENGTH}")
+        return text
+
+    def records(self) -> list[dict[str, object]]:
+        names = [f"[{', '.join(map(format_value, shown))}]" for shown in self.columns]
+        return [{"value": format_value(value), **dict(zip(names, cells))} for value, cells in self.rows.items()]
+
+    def __str__(self) -> str:
+        head = f"target {self.target}\ncolumns {len(self.columns)}\n"
+        head += "".join(f"column {j} [{', '.join(map(format_value, shown))}]\n" for j, shown in enumerate(self.columns))
+        rows = (f"row {format_value(value)}\n" + "".join(f"  {cell}\n" for cell in cells) for value, cells in self.rows.items())
+        return f"{head}rows {len(self.rows)}\n{''.join(rows)}"
+
+
+from_rows = Channel.from_rows
+to_program = Channel.to_program
+
+
+def _distribution(channel: Channel, prior: Mapping[Value, Rational]) -> dict[Value, Fraction]:
+    """A prior without its zeros. Raises ``ValueError`` where it is no distribution, or has a value without a row."""
+    weights = {x: Fraction(p) for x, p in prior.items() if p != 0}
+    if any(p < 0 for p in weights.values()) or sum(weights.values()) != 1:
+        raise ValueError("the prior is no distribution")
+    if lacking := [x for x in weights if x not in channel.rows]:
+        raise ValueError(f"the channel has no row for {format_value(lacking[0])}")
+    return weights
+
+
+def _lowest(row: Sequence[Fraction]) -> list[int]:
+    """The least whole numbers in the ratios of a row."""
+    over = lcm(*(cell.denominator for cell in row))
+    numbers = [int(cell * over) for cell in row]
+    common = gcd(*numbers)
+    return [number // common for number in numbers]
+
+
+def _whole(row: Sequence[Fraction]) -> list[int]:
+    """The least whole numbers in the ratios of a row. Raises ``ValueError`` where one is too great for a text."""
+    numbers = _lowest(row)
+    if max(numbers) > GREATEST:
+        raise ValueError(f"a row needs the number {max(numbers)}, and no number of a text may pass {GREATEST}")
+    return numbers
 
 
 def _of_joint(target: Target, labels: Sequence[Label], rows: Mapping[Value, Mapping[Label, Fraction]]) -> Channel:
@@ -56,41 +154,38 @@ def _of_joint(target: Target, labels: Sequence[Label], rows: Mapping[Value, Mapp
 
 
 def hyper(channel: Channel, prior: Mapping[Value, Rational]) -> Hyper:
-    """The hyper-distribution that a prior and a channel make: one inner for each posterior, columns in proportion merged.
+    """The hyper-distribution that a prior and a channel make (the book, chapter 4): one inner for each posterior, columns in proportion merged.
 
-    Raises ``ValueError`` where the prior is no distribution, or gives a probability above 0 to a value without a row.
+    Inners stand in the program's order: by their values and whole weights without a common factor. Raises ``ValueError`` where the prior is no
+    distribution, or gives a probability above 0 to a value without a row.
     """
-    weights = {x: Fraction(p) for x, p in prior.items() if p != 0}
-    if any(p < 0 for p in weights.values()) or sum(weights.values()) != 1:
-        raise ValueError("the prior is no distribution")
-    if lacking := [x for x in weights if x not in channel.rows]:
-        raise ValueError(f"the channel has no row for {format_value(lacking[0])}")
-    outers: dict[tuple[tuple[Value, Fraction], ...], Fraction] = {}
+    weights = _distribution(channel, prior)
+    secrets = ascending(weights)
+    outers: dict[tuple[tuple[Value, int], ...], Fraction] = {}
     for j in range(len(channel.columns)):
-        joint = {x: p * channel.rows[x][j] for x, p in weights.items()}
-        outer = sum(joint.values(), Fraction(0))
-        if outer > 0:
-            inner = tuple((x, joint[x] / outer) for x in sorted(joint, key=cmp_to_key(compare)) if joint[x] > 0)
-            outers[inner] = outers.get(inner, Fraction(0)) + outer
-    scale = lcm(*((outer * p).denominator for inner, outer in outers.items() for _, p in inner))
+        joint = {x: weights[x] * channel.rows[x][j] for x in secrets if channel.rows[x][j]}
+        if joint:
+            inner = tuple(zip(joint, _lowest(list(joint.values()))))
+            outers[inner] = outers.get(inner, Fraction(0)) + sum(joint.values())
 
-    def by_values(a: tuple[tuple[Value, Fraction], ...], b: tuple[tuple[Value, Fraction], ...]) -> int:
-        for (x, p), (y, q) in zip(a, b):
-            if (decided := compare(x, y)) != 0:
+    def by_values(a: tuple[tuple[Value, int], ...], b: tuple[tuple[Value, int], ...]) -> int:
+        for (x, v), (y, w) in zip(a, b):
+            if decided := compare(x, y) or v - w:
                 return decided
-            if p != q:
-                return -1 if p < q else 1
         return len(a) - len(b)
 
-    ordered = sorted(outers, key=cmp_to_key(by_values))
-    return Hyper(channel.target, scale, tuple(Inner(outers[inner], dict(inner)) for inner in ordered))
+    inners = []
+    for inner in sorted(outers, key=cmp_to_key(by_values)):
+        whole = sum(weight for _, weight in inner)
+        inners.append(Inner(outers[inner], {x: Fraction(weight, whole) for x, weight in inner}))
+    scale = lcm(*((inner.outer * p).denominator for inner in inners for p in inner.distribution.values()))
+    return Hyper(channel.target, scale, tuple(inners))
 
 
 def from_hyper(found: Hyper) -> Channel:
     """The channel that a hyper-distribution shows: a row for each value of the prior, a column for each inner."""
     labels: list[Label] = [(i,) for i in range(len(found.inners))]
-    ordered = sorted(found.prior, key=cmp_to_key(compare))
-    rows = {x: tuple(inner.outer * inner.distribution.get(x, Fraction(0)) / found.prior[x] for inner in found.inners) for x in ordered}
+    rows = {x: tuple(inner.outer * inner.distribution.get(x, Fraction(0)) / p for inner in found.inners) for x, p in found.prior.items()}
     return Channel(found.target, tuple(labels), rows)
 
 
@@ -133,6 +228,19 @@ def parallel(a: Channel, b: Channel) -> Channel:
     return Channel(a.target, tuple(labels), rows)
 
 
+def product(a: Channel, b: Channel) -> Channel:
+    """Both channels, each about a secret of its own: the secret is that of both together, and a column is labelled by what both show."""
+
+    def items(channel: Channel, x: Value) -> tuple[Value, ...]:
+        return x if isinstance(x, tuple) and len(channel.target.items) > 1 else (x,)
+
+    labels = tuple((x, y) for x in a.columns for y in b.columns)
+    rows: dict[Value, tuple[Fraction, ...]] = {
+        items(a, x) + items(b, y): tuple(p * q for p in a.rows[x] for q in b.rows[y]) for x in a.rows for y in b.rows
+    }
+    return Channel(Target(a.target.items + b.target.items), labels, rows)
+
+
 def _parts(a: Channel, b: Channel, probability: Rational) -> tuple[Fraction, Fraction]:
     _same_secrets(a, b)
     first = Fraction(probability)
@@ -158,38 +266,3 @@ def hidden_choice(a: Channel, b: Channel, probability: Rational) -> Channel:
             for label, cell in zip(channel.columns, row):
                 rows[x][label] = rows[x].get(label, Fraction(0)) + part * cell
     return _of_joint(a.target, labels, rows)
-
-
-def to_program(channel: Channel, prior: Mapping[Value, Rational] | None = None) -> str:
-    """A program without guards whose channel this is, with secrets and columns numbered from 0, at this prior (uniform where none is given).
-
-    Raises ``ValueError`` where the text would pass a limit of the language: 1,000 nodes in an expression, or a number above 1,000,000,000.
-    """
-    secrets = list(channel.rows)
-    if prior is None:
-        start = f"uniform 0..{len(secrets) - 1}"
-    else:
-        weights = _whole([Fraction(prior.get(x, 0)) for x in secrets])
-        start = f"choose {{ {', '.join(f'{i} : {w}' for i, w in enumerate(weights))} }}"
-    rows = [_whole(channel.rows[x]) for x in secrets]
-    if len(secrets) * 5 > NODES:
-        raise ValueError(f"{len(secrets)} secrets make an expression of more than {NODES} nodes")
-    cases = ", ".join(f"{j} : {_picked([row[j] for row in rows])}" for j in range(len(channel.columns)))
-    return f"var x : 0..{len(secrets) - 1} := {start};\nabout old x;\nobserve choose {{ {cases} }};\n"
-
-
-def _whole(row: Sequence[Fraction]) -> list[int]:
-    """The least whole numbers in the ratios of a row."""
-    over = lcm(*(cell.denominator for cell in row))
-    numbers = [int(cell * over) for cell in row]
-    if max(numbers) > GREATEST:
-        raise ValueError(f"a row needs the number {max(numbers)}, and no number of a text may pass {GREATEST}")
-    return numbers
-
-
-def _picked(numbers: Sequence[int]) -> str:
-    """An expression that is the number at the place that ``x`` says."""
-    found = str(numbers[-1])
-    for i in range(len(numbers) - 2, -1, -1):
-        found = f"cond(x = {i}, {numbers[i]}, {found})"
-    return found

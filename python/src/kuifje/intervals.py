@@ -63,10 +63,10 @@ def total(intervals: Iterable[Interval]) -> Interval:
 
 
 def log2(x: Fraction | int) -> Interval:
-    """The binary logarithm of a number above 0: exact where it is a whole number.
+    """The binary logarithm of a number above 0: exact where it is a whole number, else no wider than 2^-50. Raises ``ValueError`` for others.
 
     Each binary place is found by squaring: the logarithm of a number from 1 to 2 is at least 1/2 where its square is at least 2. What is carried is
-    rounded down at one end and up at the other.
+    rounded down at one end and up at the other, with more places where they are too few to decide.
     """
     x = Fraction(x)
     if x <= 0:
@@ -77,19 +77,25 @@ def log2(x: Fraction | int) -> Interval:
     rest = x / Fraction(2) ** whole
     if rest == 1:
         return Interval.exactly(whole)
-    unit = 1 << WORKING
+    working = WORKING
+    while (places := _places(rest, 1 << working)) is None:
+        working *= 2  # this ends: no power of a rational number but a power of 2 is one
+    return Interval(whole + Fraction(places, 1 << BITS), whole + Fraction(places + 1, 1 << BITS))
+
+
+def _places(rest: Fraction, unit: int) -> int | None:
+    """The first ``BITS`` binary places of the logarithm of a number between 1 and 2, as a whole number; none where the unit decides too little."""
     low = rest.numerator * unit // rest.denominator
-    high = low + 1
-    places = 0
-    for done in range(BITS + 1):
+    high, places = low + 1, 0
+    for _ in range(BITS):
         low, high = low * low // unit, -(-high * high // unit)
         if low >= 2 * unit:
             places, low, high = 2 * places + 1, low // 2, -(-high // 2)
         elif high <= 2 * unit:
             places = 2 * places
         else:
-            return Interval(whole + Fraction(places, 1 << done), whole + Fraction(places + 1, 1 << done))
-    return Interval(whole + Fraction(places, 2 << BITS), whole + Fraction(places + 1, 2 << BITS))
+            return None
+    return places
 
 
 def _log_of_two() -> Interval:
@@ -99,7 +105,7 @@ def _log_of_two() -> Interval:
 
 
 def natural_log(x: Fraction | int) -> Interval:
-    """The natural logarithm of a number above 0."""
+    """The natural logarithm of a number above 0. Raises ``ValueError`` for others."""
     binary, two = log2(x), _log_of_two()
     ends = [a * b for a in (binary.low, binary.high) for b in (two.low, two.high)]
     return Interval(min(ends), max(ends))

@@ -6,13 +6,15 @@ Quantitative Information Flow* (2020).
 
 from __future__ import annotations
 
+import re
 from collections.abc import Callable, Iterable, Mapping, Sequence
 from fractions import Fraction
 from itertools import permutations
 from math import lcm
 
+from .channels import Channel
 from .intervals import Interval, log2, natural_log, total
-from .texts import Action, Channel, GainTable, Hyper
+from .texts import Action, GainTable, Hyper
 from .values import Value
 
 __all__ = [
@@ -93,11 +95,13 @@ def differential_privacy(channel: Channel, neighbours: Iterable[tuple[Value, Val
 def gain_table(actions: Mapping[str, Callable[[Value], Fraction | int]], values: Sequence[Value]) -> GainTable:
     """The gain function whose actions gain so much at each of these values, as a table, and 0 at any other value.
 
-    ``actions`` has for each action's name a function from a value to what the action gains there. What they gain is rational.
+    ``actions`` has for each action's name a function from a value to what the action gains there. What they gain is rational. Raises ``ValueError``
+    where a name isn't one of 1 to 64 ASCII letters, digits, ``_`` or ``-`` (docs/FORMATS.md, "Gain tables").
     """
+    if wrong := [name for name in actions if not re.fullmatch("[A-Za-z0-9_-]{1,64}", name)]:
+        raise ValueError(f"{wrong[0]!r} can't be the name of an action")
     gains = {name: {value: Fraction(gain(value)) for value in values} for name, gain in actions.items()}
     over = 1
     for fraction in (f for named in gains.values() for f in named.values()):
         over = lcm(over, fraction.denominator)
     return GainTable(over, 0, tuple(Action(name, {x: int(f * over) for x, f in named.items()}) for name, named in gains.items()))
-

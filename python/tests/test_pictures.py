@@ -8,7 +8,7 @@ import pytest
 matplotlib = pytest.importorskip("matplotlib")
 
 from kuifje import Order, Pair, Program, channels, pictures  # noqa: E402
-from kuifje.texts import Blame, BlameLine  # noqa: E402
+from kuifje.texts import Blame, BlameLine, Trail  # noqa: E402
 
 STORED = Path(__file__).parent / "pictures"
 HALF, THIRD, QUARTER = Fraction(1, 2), Fraction(1, 3), Fraction(1, 4)
@@ -17,6 +17,7 @@ HYPER = channels.hyper(CHANNEL, {1: QUARTER, 2: HALF, 3: QUARTER})
 TWO = channels.from_rows({0: (Fraction(17, 20), Fraction(3, 20)), 1: (Fraction(3, 20), Fraction(17, 20))})
 TEXT = "var a : 0..3 := uniform 0..3;\nabout old a;\nif a = 3 {\n\tskip;\n} else { skip; }\nobserve 0;\nobserve a mod 2;\n"
 BLAME = Blame(BlameLine(3, Fraction(3, 4)), (BlameLine(2, HALF), BlameLine(3, Fraction(3, 4)), BlameLine(2, HALF)))
+TRAIL = Trail((1, 2, 2, 3))
 NAMES = ("whole", "parity", "odd", "half", "other", "nothing")
 YES = {("whole", name) for name in NAMES} | {(name, "nothing") for name in NAMES} | {("parity", "odd"), ("odd", "parity")}
 UNKNOWN = ({"half", "other"},)
@@ -29,6 +30,7 @@ DRAWN = {
     "hasse": lambda: pictures.hasse(ORDER),
     "vulnerability": lambda: pictures.vulnerability(TWO),
     "blame": lambda: pictures.blame(Program(TEXT), BLAME),
+    "trail": lambda: pictures.trail(Program(TEXT), TRAIL),
 }
 
 
@@ -86,11 +88,30 @@ def test_blame_stands_beside_its_line():
     assert {("1/4", 2), ("0", 5), ("1/4", 6), ("if a = 3 {", 2), ("observe a mod 2;", 6)} <= set(places)
 
 
-@pytest.mark.parametrize("draw", [
-    lambda: pictures.triangle(channels.hyper(channels.from_rows({x: (1,) for x in range(4)}), {x: QUARTER for x in range(4)})),
-    lambda: pictures.vulnerability(CHANNEL),
-    lambda: pictures.blame(Program(TEXT), Blame(BLAME.all, BLAME.without[:2])),
-])
+def test_beliefs_stand_beside_their_lines():
+    """Two beliefs after the first statement and the second, four after the third: bars of half the length, and of the whole."""
+    axes = pictures.trail(Program(TEXT), Trail((1, 2, 2, 4)))
+    places = [(text.get_text(), text.get_position()[1]) for text in axes.texts]
+    assert {("2", 2), ("2", 5), ("4", 6)} <= set(places)
+    assert [round(-bar.get_width() / 0.12, 9) for bar in axes.patches] == [0.5, 0.5, 1]
+
+
+def test_statements_on_one_line_are_marked_together():
+    text = "var x : 0..1 := uniform 0..1; about old x; skip; observe x;\n"
+    axes = pictures.trail(Program(text), Trail((1, 1, 2)))
+    assert ("1, 2", 0) in [(found.get_text(), found.get_position()[1]) for found in axes.texts]
+    assert len(pictures.trail(Program("var x : 0..1 := 0;\n"), Trail((1,))).patches) == 0
+
+
+@pytest.mark.parametrize(
+    "draw",
+    [
+        lambda: pictures.trail(Program(TEXT), Trail((1, 1))),
+        lambda: pictures.triangle(channels.hyper(channels.from_rows({x: (1,) for x in range(4)}), {x: QUARTER for x in range(4)})),
+        lambda: pictures.vulnerability(CHANNEL),
+        lambda: pictures.blame(Program(TEXT), Blame(BLAME.all, BLAME.without[:2])),
+    ],
+)
 def test_what_does_not_fit_is_refused(draw):
     with pytest.raises(ValueError):
         draw()

@@ -9,21 +9,22 @@ from __future__ import annotations
 import os
 from collections.abc import Callable, Mapping, Sequence
 from fractions import Fraction
-from math import sqrt
+from math import log2, sqrt
 from typing import Any
 
+from .channels import Channel
 from .channels import hyper as hyper_of
 from .measures import bayes_vulnerability, posterior_vulnerability
 from .orders import Order
 from .program import Program
 from .questions import statement_lines, target_of
-from .texts import Blame, Channel, Hyper
+from .texts import Blame, Hyper, Trail
 from .values import Value, format_value
 
-__all__ = ["bars", "blame", "channel", "hasse", "save", "triangle", "vulnerability"]
+__all__ = ["bars", "blame", "channel", "hasse", "save", "trail", "triangle", "vulnerability"]
 
-BLUE, VERMILION, GREEN, AMBER, PURPLE, SKY, YELLOW, BLACK = (
-    "#0072B2", "#D55E00", "#009E73", "#E69F00", "#CC79A7", "#56B4E9", "#F0E442", "#000000")
+BLUE, VERMILION, GREEN, AMBER, PURPLE, SKY, YELLOW, BLACK = ("#0072B2", "#D55E00", "#009E73", "#E69F00", "#CC79A7", "#56B4E9", "#F0E442", "#000000")
+GREY = "#666666"
 FILLS = (SKY, AMBER, GREEN, YELLOW, PURPLE, VERMILION, BLUE)
 HATCHES = ("", "///", "||", "xx", "\\\\\\", "++", "--")
 HEIGHT = sqrt(3) / 2
@@ -79,8 +80,17 @@ def triangle(hyper: Hyper, axes: Axes | None = None) -> Axes:
     for inner in hyper.inners:
         x, y = _corner(inner.distribution, values)
         axes.scatter([x], [y], s=3200 * float(inner.outer), color=SKY, edgecolor=BLUE, linewidth=1.5, zorder=2)
-        axes.annotate(_number(inner.outer), (x, y), xytext=(0, 7 + 28 * sqrt(float(inner.outer))), textcoords="offset points", ha="center",
-                      va="center", fontsize=12, zorder=4, bbox={"facecolor": "white", "alpha": 0.8, "edgecolor": "none", "pad": 0.5})
+        axes.annotate(
+            _number(inner.outer),
+            (x, y),
+            xytext=(0, 7 + 28 * sqrt(float(inner.outer))),
+            textcoords="offset points",
+            ha="center",
+            va="center",
+            fontsize=12,
+            zorder=4,
+            bbox={"facecolor": "white", "alpha": 0.8, "edgecolor": "none", "pad": 0.5},
+        )
     x, y = _corner(hyper.prior, values)
     axes.scatter([x], [y], s=110, facecolor="none", edgecolor=BLACK, linewidth=2, zorder=3)
     axes.text(0.5, -0.14, f"posteriors of {hyper.target}: area and number = outer, ring = prior", ha="center", va="center", fontsize=11)
@@ -113,8 +123,16 @@ def bars(hyper: Hyper, axes: Axes | None = None) -> Axes:
         left += width
     handles = [Patch(facecolor=style[x][0], hatch=style[x][1], edgecolor="white", label=format_value(x)) for x in reversed(values)]
     if len(values) <= 20:
-        axes.legend(handles=handles, title=str(hyper.target), loc="center left", bbox_to_anchor=(1.01, 0.5), fontsize=12, title_fontsize=12,
-                    frameon=False, handleheight=1.4)
+        axes.legend(
+            handles=handles,
+            title=str(hyper.target),
+            loc="center left",
+            bbox_to_anchor=(1.01, 0.5),
+            fontsize=12,
+            title_fontsize=12,
+            frameon=False,
+            handleheight=1.4,
+        )
     axes.set_xlim(0, 1)
     axes.set_ylim(0, 1)
     axes.set_xticks([])
@@ -162,11 +180,28 @@ def hasse(order: Order, axes: Axes | None = None) -> Axes:
     for pair in {tuple(sorted((node_of[a], node_of[b]))) for a, b in order.open}:
         axes.plot(*zip(*(place[node] for node in pair)), color=VERMILION, linewidth=1.4, linestyle=(0, (4, 4)), zorder=1)
         (x, y), (z, w) = (place[node] for node in pair)
-        axes.text((x + z) / 2, (y + w) / 2, "?", color=VERMILION, fontsize=15, fontweight="bold", ha="center", va="center",
-                  bbox={"facecolor": "white", "edgecolor": "none", "pad": 1})
+        axes.text(
+            (x + z) / 2,
+            (y + w) / 2,
+            "?",
+            color=VERMILION,
+            fontsize=15,
+            fontweight="bold",
+            ha="center",
+            va="center",
+            bbox={"facecolor": "white", "edgecolor": "none", "pad": 1},
+        )
     for node, (x, y) in place.items():
-        axes.text(x, y, " = ".join(node), ha="center", va="center", fontsize=14, zorder=2,
-                  bbox={"boxstyle": "round,pad=0.45", "facecolor": "#E8F2FA", "edgecolor": BLUE, "linewidth": 1.5})
+        axes.text(
+            x,
+            y,
+            " = ".join(node),
+            ha="center",
+            va="center",
+            fontsize=14,
+            zorder=2,
+            bbox={"boxstyle": "round,pad=0.45", "facecolor": "#E8F2FA", "edgecolor": BLUE, "linewidth": 1.5},
+        )
     axes.set_xlim(-widest / 2 - 0.1, widest / 2 + 0.1)
     axes.set_ylim(-0.5, len(levels) - 0.5)
     axes.text(0, 1, "top leaks least", transform=axes.transAxes, fontsize=11, va="top")
@@ -174,8 +209,9 @@ def hasse(order: Order, axes: Axes | None = None) -> Axes:
     return axes
 
 
-def vulnerability(matrix: Channel, measure: Callable[[Mapping[Value, Fraction]], Fraction] = bayes_vulnerability, points: int = 60,
-                  axes: Axes | None = None) -> Axes:
+def vulnerability(
+    matrix: Channel, measure: Callable[[Mapping[Value, Fraction]], Fraction] = bayes_vulnerability, points: int = 60, axes: Axes | None = None
+) -> Axes:
     """Prior and posterior vulnerability of a channel with two secrets, over the probability of the first one.
 
     ``measure`` is the vulnerability of a distribution, as ``GainTable.vulnerability`` is. It is worked out exactly at ``points`` + 1 priors, here and
@@ -202,26 +238,61 @@ def vulnerability(matrix: Channel, measure: Callable[[Mapping[Value, Fraction]],
     return axes
 
 
-def blame(program: Program, found: Blame, axes: Axes | None = None) -> Axes:
-    """The program's text, and in its margin how far the posterior Bayes vulnerability falls where that top-level statement alone shows nothing."""
-    text = program.text.decode(errors="replace")
-    lines, starts = text.expandtabs(4).rstrip("\n").split("\n"), statement_lines(text)
-    if len(starts) != len(found.without):
-        raise ValueError(f"the text has {len(starts)} top-level statements, and the answer {len(found.without)}")
-    falls = {line: found.all.bayes - quiet.bayes for line, quiet in zip(starts, found.without)}
-    greatest = max((abs(fall) for fall in falls.values()), default=Fraction(0))
+def _listing(axes: Axes | None, text: str, marks: Mapping[int, Sequence[tuple[str, float]]], caption: str) -> Axes:
+    """A program's text with a margin: beside a line its marks, each a number and the length of a bar from -1 to 1, below 0 in another colour."""
+    lines = text.expandtabs(4).rstrip("\n").split("\n")
     axes = _axes(axes, 9, 0.34 * len(lines) + 1.1)
     for i, line in enumerate(lines):
         axes.text(0.3, i, line, family="monospace", fontsize=12, va="center")
-        if fall := falls.get(i):
-            axes.barh(i, -float(abs(fall) / greatest) * 0.12, height=0.8, left=0.26, color=VERMILION if fall > 0 else SKY)
-            axes.text(0.13, i, _number(fall), ha="right", va="center", fontsize=12)
-        elif i in falls:
-            axes.text(0.13, i, "0", ha="right", va="center", fontsize=12, color="#666666")
+        if i in marks:
+            length = max((length for _, length in marks[i]), key=abs)
+            colour = BLACK if any(length for _, length in marks[i]) else GREY
+            axes.text(0.13, i, ", ".join(number for number, _ in marks[i]), ha="right", va="center", fontsize=12, color=colour)
+            if length:
+                axes.barh(i, -abs(length) * 0.12, height=0.8, left=0.26, color=VERMILION if length > 0 else SKY)
     axes.plot([0.27, 0.27], [-0.6, len(lines) - 0.4], color=BLACK, linewidth=1)
-    axes.text(0, len(lines) + 0.2, f"margin: by how much the posterior Bayes vulnerability of {target_of(text)}, {_number(found.all.bayes)}, falls if "
-              "that statement alone shows nothing", fontsize=10, va="center")
+    axes.text(0, len(lines) + 0.2, caption, fontsize=10, va="center")
     axes.set_xlim(0, 1)
     axes.set_ylim(len(lines) + 0.7, -0.8)
     axes.axis("off")
     return axes
+
+
+def _starts(text: str, statements: int) -> list[int]:
+    """The lines, from 0, on which the statements begin. Raises ``ValueError`` where the text hasn't as many."""
+    starts = statement_lines(text)
+    if len(starts) != statements:
+        raise ValueError(f"the text has {len(starts)} top-level statements, and the answer {statements}")
+    return starts
+
+
+def blame(program: Program, found: Blame, axes: Axes | None = None) -> Axes:
+    """The program's text, and in its margin how far the posterior Bayes vulnerability falls where that top-level statement alone shows nothing.
+
+    Raises ``ValueError`` where the answer is that of a program with another number of top-level statements.
+    """
+    text = program.text.decode(errors="replace")
+    falls = [found.all.bayes - quiet.bayes for quiet in found.without]
+    greatest = max((abs(fall) for fall in falls), default=Fraction(0)) or Fraction(1)
+    marks: dict[int, list[tuple[str, float]]] = {}
+    for line, fall in zip(_starts(text, len(falls)), falls):
+        marks.setdefault(line, []).append((_number(fall), float(fall / greatest)))
+    whole = f"the posterior Bayes vulnerability of {target_of(text)}, {_number(found.all.bayes)},"
+    caption = f"margin: by how much {whole} falls if that statement alone shows nothing"
+    return _listing(axes, text, marks, caption)
+
+
+def trail(program: Program, found: Trail, axes: Axes | None = None) -> Axes:
+    """The program's text, and in its margin how many beliefs (inners) about all variables there are after each top-level statement.
+
+    Bars are on a logarithmic scale. Raises ``ValueError`` where the answer is that of a program with another number of top-level statements.
+    """
+    text = program.text.decode(errors="replace")
+    most = log2(max(found.inners)) or 1.0
+    marks: dict[int, list[tuple[str, float]]] = {}
+    for line, inners in zip(_starts(text, len(found.inners) - 1), found.inners[1:]):
+        marks.setdefault(line, []).append((str(inners), log2(inners) / most))
+    caption = (
+        f"margin: how many beliefs about all variables there are after that statement (bars: logarithms); before the first one {found.inners[0]}"
+    )
+    return _listing(axes, text, marks, caption)

@@ -8,8 +8,9 @@ from collections.abc import Mapping
 from dataclasses import replace
 from fractions import Fraction
 from pathlib import Path
-from typing import TypeVar
+from typing import TYPE_CHECKING, TypeVar
 
+from .channels import Channel
 from .engine import Answer, Engine, default_engine
 from .errors import KuifjeError, refusal_of
 from .questions import sentence, warn_of
@@ -17,7 +18,6 @@ from .texts import (
     Attack,
     Blame,
     Capacity,
-    Channel,
     Composition,
     GainTable,
     Hyper,
@@ -31,7 +31,10 @@ from .texts import (
 )
 from .values import format_value
 
-__all__ = ["Certificate", "Gain", "Program", "cascade", "check", "choice", "covers", "parallel", "refine"]
+if TYPE_CHECKING:
+    from .templates import Expansion
+
+__all__ = ["Certificate", "Gain", "Program", "cascade", "certificate", "check", "choice", "covers", "parallel", "refine"]
 
 TABLE = "gain.json"
 CERTIFICATE = "certificate.json"
@@ -39,12 +42,19 @@ Gain = str | GainTable
 P = TypeVar("P", bound=Printed)
 
 
-def _asked(engine: Engine | None, words: list[str], files: Mapping[str, bytes], timeout: float | None) -> Answer:
-    """The answer to a question. Raises ``Refusal`` where the program gives none."""
-    answer = (engine or default_engine()).ask(words, files, timeout)
-    if answer.status > 1:
-        raise refusal_of(answer.status, answer.err.decode(errors="replace"), files)
-    return answer
+def _asked(
+    engine: Engine | None, words: list[str], programs: Mapping[str, Program], timeout: float | None, files: Mapping[str, bytes] = {}
+) -> Answer:
+    """The answer to a question about programs, by the names that the words have for them, and other files. Raises ``Refusal`` where there is none."""
+    texts = {name: program.text for name, program in programs.items()} | dict(files)
+    answer = (engine or default_engine()).ask(words, texts, timeout)
+    if answer.status <= 1:
+        return answer
+    refusal = refusal_of(answer.status, answer.err.decode(errors="replace"), texts)
+    program = programs.get(refusal.file or "")
+    if program is None or program.expansion is None:
+        raise refusal
+    raise program.expansion.placed(refusal)
 
 
 def _gain(gain: Gain) -> tuple[str, dict[str, bytes]]:
@@ -64,13 +74,21 @@ def gain_json(table: GainTable) -> str:
 
 
 class Program:
-    """A program, by its text. ``name`` is what refusals call it, and ``turns`` how many turns a loop may take each time it is entered."""
+    """A program, by its text (docs/LANGUAGE.md).
 
-    def __init__(self, text: str | bytes, *, name: str = "program.kf", turns: int = 1024, engine: Engine | None = None) -> None:
+    ``name`` is what refusals call it, ``turns`` how many turns a loop may take each time it is entered, ``engine`` what answers (the default engine
+    where none is given), and ``expansion`` the template's expansion that the text is, if it is one. Each question takes ``timeout`` seconds at most
+    (none: the engine's), and raises ``Refusal`` where the program gives no answer and ``TooLarge`` where that takes too much time or memory.
+    Raises ``ValueError`` where the name can't be a file's.
+    """
+
+    def __init__(
+        self, text: str | bytes, *, name: str = "program.kf", turns: int = 1024, engine: Engine | None = None, expansion: Expansion | None = None
+    ) -> None:
         if "/" in name or "\0" in name or name in ("", ".", "..", TABLE, CERTIFICATE):
             raise ValueError(f"{name!r} can't be the name of a program")
         self.text = text.encode() if isinstance(text, str) else bytes(text)
-        self.name, self.turns, self.engine = name, turns, engine
+        self.name, self.turns, self.engine, self.expansion = name, turns, engine, expansion
 
     @classmethod
     def from_file(cls, path: str | os.PathLike[str], *, turns: int = 1024, engine: Engine | None = None) -> Program:
@@ -130,7 +148,7 @@ class Program:
     def _answer(self, kind: type[P], words: list[str], timeout: float | None, files: Mapping[str, bytes] = {}) -> P:
         """The answer to a question about this program, which goes along with it."""
         words = [*words, "--turns", str(self.turns)]
-        found = kind.parse(_asked(self.engine, words, {self.name: self.text, **files}, timeout).out.decode())
+        found = kind.parse(_asked(self.engine, words, {self.name: self}, timeout, files).out.decode())
         warn_of(self.text.decode(errors="replace"))
         return replace(found, question=self.question)
 
@@ -152,40 +170,59 @@ def _two(words: list[str], a: Program, b: Program, timeout: float | None, files:
     first, second = (a.name, b.name) if a.name != b.name else (f"a-{a.name}", f"b-{b.name}")
     command, *others = words
     words = [command, *others, first, second, *last, "--turns", str(a.turns)]
-    return _asked(a.engine, words, {first: a.text, second: b.text, **files}, timeout)
+    return _asked(a.engine, words, {first: a, second: b}, timeout, files)
+
+
+def _of_two(kind: type[P], asked: str, answer: Answer, a: Program, b: Program) -> P:
+    """The answer to a question about two programs, which goes along with it: ``{a}`` and ``{b}`` stand for their names."""
+    for text in (a.text, b.text):
+        warn_of(text.decode(errors="replace"))
+    question = f"{asked.format(a=a.name, b=b.name)} {a.question or ''}".strip()
+    return replace(kind.parse(answer.out.decode()), question=question)
 
 
 def refine(a: Program, b: Program, timeout: float | None = None) -> Verdict:
-    """Whether ``b`` leaks no more than ``a`` under any gain function, with the matrix or the table that proves it."""
-    return Verdict.parse(_two(["refine"], a, b, timeout).out.decode())
+    """Whether ``b`` leaks no more than ``a`` under any gain function, with the matrix or the table that proves it.
+
+    In the book (chapter 9): whether b refines a, written A ⊑ B. Both need one target, and the same prior on it for a yes. Raises ``Refusal`` and
+    ``TooLarge`` as a question to a program does, and ``KuifjeError`` where their loops may take different numbers of turns.
+    """
+    return _of_two(Verdict, "Does {b} leak no more than {a}, to any adversary?", _two(["refine"], a, b, timeout), a, b)
 
 
 def certificate(a: Program, b: Program, timeout: float | None = None) -> Certificate:
-    """The certificate of ``refine(a, b)``."""
+    """The certificate of ``refine(a, b)``, as ``kuifje refine --json`` writes it (docs/FORMATS.md)."""
     return Certificate(_two(["refine"], a, b, timeout, last=("--json",)).out)
 
 
 def covers(a: Program, b: Program, timeout: float | None = None) -> Verdict:
     """Whether ``b`` leaks no more than ``a`` about initial and final values together, for every prior on the initial stores."""
-    return Verdict.parse(_two(["covers"], a, b, timeout).out.decode())
+    found = Verdict.parse(_two(["covers"], a, b, timeout).out.decode())
+    return replace(found, question=f"Does {b.name} leak no more than {a.name} about initial and final values together, whatever the prior?")
 
 
 def check(proof: Certificate, a: Program, b: Program, timeout: float | None = None) -> Mark:
-    """Whether a certificate proves what it says of ``a`` and ``b``."""
-    return Mark.parse(_two(["check", CERTIFICATE], a, b, timeout, {CERTIFICATE: proof.text}).out.decode())
+    """Whether a certificate proves what it says of ``a`` and ``b``, or the first rule that it breaks (docs/FORMATS.md)."""
+    answer = _two(["check", CERTIFICATE], a, b, timeout, {CERTIFICATE: proof.text})
+    return _of_two(Mark, "Does the certificate prove its verdict on {a} and {b}?", answer, a, b)
 
 
 def cascade(a: Program, b: Program, timeout: float | None = None) -> Composition:
-    """The Bayes capacities of two channels, and of what ``b`` makes of what ``a`` shows."""
-    return Composition.parse(_two(["cascade"], a, b, timeout).out.decode())
+    """The Bayes capacities of two channels, and of what ``b`` makes of what ``a`` shows. Each item of their targets must be ``old``."""
+    answer = _two(["cascade"], a, b, timeout)
+    return _of_two(Composition, "By what factor can what {b} makes of what {a} shows help an adversary?", answer, a, b)
 
 
 def parallel(a: Program, b: Program, timeout: float | None = None) -> Composition:
-    """The Bayes capacities of two channels, and of both seen together."""
-    return Composition.parse(_two(["parallel"], a, b, timeout).out.decode())
+    """The Bayes capacities of two channels, and of both seen together. Each item of their targets must be ``old``."""
+    answer = _two(["parallel"], a, b, timeout)
+    return _of_two(Composition, "By what factor can what {a} and {b} show together help an adversary?", answer, a, b)
 
 
 def choice(a: Program, b: Program, probability: Fraction, timeout: float | None = None) -> Composition:
-    """The Bayes capacities of two channels, and of ``a`` with this probability and else ``b``, where it is seen which."""
-    last = (f"{probability.numerator}/{probability.denominator}",)
-    return Composition.parse(_two(["choice"], a, b, timeout, last=last).out.decode())
+    """The Bayes capacities of two channels, and of ``a`` with this probability and else ``b``, where it is seen which.
+
+    Each item of their targets must be ``old``.
+    """
+    answer = _two(["choice"], a, b, timeout, last=(f"{probability.numerator}/{probability.denominator}",))
+    return _of_two(Composition, f"By what factor can {{a}} with probability {probability} and else {{b}} help an adversary?", answer, a, b)

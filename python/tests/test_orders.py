@@ -30,8 +30,12 @@ def test_an_order_of_five():
 
 def made(names, yes, unknown=()):
     """An order of which these pairs are known."""
-    pairs = {(a, b): Pair(None if (a, b) in unknown else (a, b) in yes, cause=TooLarge("long") if (a, b) in unknown else None)
-             for a in names for b in names if a != b}
+    pairs = {
+        (a, b): Pair(None if (a, b) in unknown else (a, b) in yes, cause=TooLarge("long") if (a, b) in unknown else None)
+        for a in names
+        for b in names
+        if a != b
+    }
     return Order(tuple(names), pairs)
 
 

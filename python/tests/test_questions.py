@@ -25,11 +25,14 @@ def test_statements_begin_on_their_lines():
     assert statement_lines("var x : 0..1 := 0;\n") == [] == statement_lines("")
 
 
-@pytest.mark.parametrize(("text", "target"), [
-    ("var x : 0..1 := 0; about old x;", "old x"),
-    ("var x : 0..1 := 0; vis y : bool := true; # about x;\n", "x, y"),
-    ("about  old  x ,y;", "old x, y"),
-])
+@pytest.mark.parametrize(
+    ("text", "target"),
+    [
+        ("var x : 0..1 := 0; about old x;", "old x"),
+        ("var x : 0..1 := 0; vis y : bool := true; # about x;\n", "x, y"),
+        ("about  old  x ,y;", "old x, y"),
+    ],
+)
 def test_a_target_is_read(text, target):
     assert str(target_of(text)) == target
 
@@ -37,5 +40,6 @@ def test_a_target_is_read(text, target):
 def test_a_question_says_which_secret_is_meant():
     assert sentence("var x : 0..1 := 0; var y : 0..1 := 0; about old x, y;") == (
         "What an observer learns about x, as it was before the first statement; and about y, as it is after the last statement, where all variables "
-        "are drawn as the program declares them.")
+        "are drawn as the program declares them."
+    )
     assert sentence("") is None

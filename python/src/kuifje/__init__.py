@@ -4,6 +4,7 @@ Questions go to the proved program; numbers are exact. The terms are those of Al
 Science of Quantitative Information Flow* (2020).
 """
 
+from .channels import Channel
 from .engine import Engine, default_engine
 from .errors import KuifjeError, Refusal, TooLarge
 from .notebook import load_ipython_extension
@@ -13,7 +14,6 @@ from .texts import (
     Action,
     Attack,
     Blame,
-    Channel,
     Composition,
     GainTable,
     Hyper,
@@ -28,7 +28,39 @@ from .texts import (
 from .values import Value, format_value, parse_value
 
 __all__ = [
-    "Action", "Attack", "Blame", "Certificate", "Channel", "Composition", "Engine", "GainTable", "Hyper", "Inner", "KuifjeError", "Leakage", "Mark",
-    "Order", "Pair", "Program", "Reach", "Refusal", "TooLarge", "TraceTable", "Trail", "Value", "Verdict", "cascade", "certificate", "check", "choice", "covers",
-    "default_engine", "format_value", "load_ipython_extension", "order", "parallel", "parse_value", "refine",
+    "Action",
+    "Attack",
+    "Blame",
+    "Certificate",
+    "Channel",
+    "Composition",
+    "Engine",
+    "GainTable",
+    "Hyper",
+    "Inner",
+    "KuifjeError",
+    "Leakage",
+    "Mark",
+    "Order",
+    "Pair",
+    "Program",
+    "Reach",
+    "Refusal",
+    "TooLarge",
+    "TraceTable",
+    "Trail",
+    "Value",
+    "Verdict",
+    "cascade",
+    "certificate",
+    "check",
+    "choice",
+    "covers",
+    "default_engine",
+    "format_value",
+    "load_ipython_extension",
+    "order",
+    "parallel",
+    "parse_value",
+    "refine",
 ]

@@ -5,14 +5,19 @@ Each verdict is the proved program's. What is put together of them here (equal p
 
 from __future__ import annotations
 
-import html
+import json
 from collections.abc import Iterator
 from dataclasses import dataclass
 from functools import cached_property
 from itertools import permutations
+from typing import TYPE_CHECKING
 
 from .errors import KuifjeError, Refusal, TooLarge
 from .program import Certificate, Program, certificate, refine
+from .texts import html_table
+
+if TYPE_CHECKING:
+    import pandas
 
 __all__ = ["Order", "Pair", "order"]
 
@@ -65,8 +70,9 @@ class Order:
     def edges(self) -> tuple[tuple[tuple[str, ...], tuple[str, ...]], ...]:
         """From each node to those that leak less, without what follows by way of a node between: the lines of a Hasse diagram."""
         below = {(a, b) for a, b in permutations(self.nodes, 2) if self.refines(a[0], b[0])}
-        return tuple((a, b) for a, b in permutations(self.nodes, 2)
-                     if (a, b) in below and not any((a, c) in below and (c, b) in below for c in self.nodes))
+        return tuple(
+            (a, b) for a, b in permutations(self.nodes, 2) if (a, b) in below and not any((a, c) in below and (c, b) in below for c in self.nodes)
+        )
 
     @cached_property
     def open(self) -> tuple[tuple[str, str], ...]:
@@ -96,11 +102,23 @@ class Order:
         lines += [f"it isn't known whether {b} leaks no more than {a}: {self.pairs[a, b].cause}" for a, b in self.open]
         return "".join(f"{line}\n" for line in lines)
 
+    def to_pandas(self) -> pandas.DataFrame:
+        """The table of ``records`` as a data frame."""
+        import pandas
+
+        return pandas.DataFrame(self.records())
+
+    def to_json(self) -> str:
+        """The order as JSON: ``nodes``, ``edges`` and ``open`` as here, and the certificate of each pair that has a verdict."""
+        proofs = [
+            {"of": a, "by": b, "refines": pair.refines, "certificate": json.loads(pair.proof.text)}
+            for (a, b), pair in self.pairs.items()
+            if pair.proof is not None
+        ]
+        return json.dumps({"nodes": self.nodes, "edges": self.edges, "open": self.open, "verdicts": proofs}, ensure_ascii=False)
+
     def _repr_html_(self) -> str:
-        heads = "".join(f"<th>{html.escape(name)}</th>" for name in self.names)
-        rows = "".join("<tr>" + "".join(f"<td>{html.escape(str(cell))}</td>" for cell in row.values()) + "</tr>" for row in self.records())
-        caption = "<caption>Does the column's program leak no more than the row's?</caption>"
-        return f"<table>{caption}<thead><tr><th></th>{heads}</tr></thead><tbody>{rows}</tbody></table>"
+        return html_table(self.records(), "Does the column's program leak no more than the row's?")
 
 
 def _pair(a: Program, b: Program, timeout: float | None) -> Pair:

@@ -55,8 +55,12 @@ def warn_of(text: str) -> None:
     """Warns where no item of the target is asked about as it was."""
     target = target_of(text)
     if target is not None and not any(item.old for item in target.items):
-        warnings.warn("no item of the target is old: the question is about values after the last statement; for what a secret was, write 'about old' "
-                      "and its name", AsItIsLeft, stacklevel=4)
+        warnings.warn(
+            "no item of the target is old: the question is about values after the last statement; for what a secret was, write 'about old' "
+            "and its name",
+            AsItIsLeft,
+            stacklevel=4,
+        )
 
 
 def statement_lines(text: str) -> list[int]:

@@ -99,5 +99,38 @@ def test_what_is_no_policy_ends_with_2(tmp_path, policy):
     assert gate(tmp_path, policy).exit_code == 2
 
 
+# Which class of the model each object of a SARIF file is, by the property that holds it.
+CLASSES = {
+    "runs": "Run", "tool": "Tool", "driver": "ToolComponent", "rules": "ReportingDescriptor", "invocations": "Invocation", "results": "Result",
+    "message": "Message", "locations": "Location", "physicalLocation": "PhysicalLocation", "artifactLocation": "ArtifactLocation", "region": "Region",
+}  # fmt: skip
+
+
+def check_object(model, name, found):
+    """Compares an object with the class that is made of the schema of SARIF 2.1.0: it has what is required, and nothing that isn't known."""
+    known = {a.metadata["schema_property_name"]: a.default for a in getattr(model, name).__attrs_attrs__}
+    required = {key for key, default in known.items() if repr(default) == "NOTHING"}
+    assert required <= found.keys() <= known.keys(), name
+    for key, value in found.items():
+        for member in value if isinstance(value, list) else [value]:
+            if isinstance(member, dict):
+                check_object(model, CLASSES[key], member)
+
+
+@pytest.mark.usefixtures("built")
+@pytest.mark.parametrize("of", ["pin_whole.kf", "nothing.kf", "pin.kf"])
+def test_sarif_has_what_its_version_requires(tmp_path, of):
+    """By the classes that Debian's python3-sarif-python-om has of the schema of version 2.1.0: of a rule that doesn't hold, of one without an
+    answer, and of none; a message has a text, too, which the schema requires of it as one of two."""
+    model = pytest.importorskip("sarif_om")
+    gate(tmp_path, REFINEMENT.replace("pin_whole.kf", of), "--sarif", str(tmp_path / "r.sarif"), pin=PIN, pin_whole=WHOLE)
+    report = json.loads((tmp_path / "r.sarif").read_text())
+    check_object(model, "SarifLog", report)
+    (run,) = report["runs"]
+    assert len(run["results"]) == (of != "pin.kf") and all(result["message"]["text"] for result in run["results"])
+    assert {result["ruleId"] for result in run["results"]} <= {rule["id"] for rule in run["tool"]["driver"]["rules"]}
+    assert report["version"] == "2.1.0" and report["$schema"].endswith("sarif-2.1.0.json")
+
+
 def test_a_policy_that_is_not_there_ends_with_2(tmp_path):
     assert CliRunner().invoke(main, ["gate", str(tmp_path / "none.toml")]).exit_code == 2

@@ -1,5 +1,7 @@
 """The refinement order of programs, by hand."""
 
+import json
+
 import pytest
 
 from kuifje import Engine, Program, Refusal, TooLarge, check, order
@@ -84,3 +86,23 @@ def test_a_refusal_of_one_program_is_raised_and_one_of_both_is_a_pair_without_a_
     assert caught.value.kind == "LoopBound"
     found = order(*(Program("", name=name, engine=Answering(8, "tableau has 4000001 cells")) for name in names))
     assert len(found.open) == 2 and found.pairs["a", "b"].cause.kind == "tableau has 4000001 cells"
+
+
+def test_the_lines_of_an_order_are_its_transitive_reduction():
+    """As networkx has it, of the order by divisors of 60: an edge where the quotient is prime."""
+    networkx = pytest.importorskip("networkx")
+    numbers = [n for n in range(1, 61) if 60 % n == 0]
+    found = made([str(n) for n in numbers], {(str(a), str(b)) for a in numbers for b in numbers if a % b == 0})
+    graph = found.to_networkx()
+    whole = networkx.DiGraph((a, b) for a in found.nodes for b in found.nodes if a != b and int(a[0]) % int(b[0]) == 0)
+    assert set(graph.edges) == set(networkx.transitive_reduction(whole).edges)
+    assert set(graph.edges) == {((str(a),), (str(b),)) for a in numbers for b in numbers if a % b == 0 and a // b in (2, 3, 5)}
+    assert set(graph.nodes) == {(str(n),) for n in numbers}
+
+
+def test_an_order_is_json_and_a_data_frame():
+    found = made("ab", {("a", "b")})
+    read = json.loads(found.to_json())
+    assert read == {"nodes": [["a"], ["b"]], "edges": [[["a"], ["b"]]], "open": [], "verdicts": []}
+    pytest.importorskip("pandas")
+    assert found.to_pandas().to_dict("records") == [{"program": "a", "a": "yes", "b": "yes"}, {"program": "b", "a": "no", "b": "yes"}]

@@ -60,6 +60,12 @@ def test_discs_lie_at_their_posteriors():
     assert {"1/3", "1/4", "7/24", "1/8"} <= set(texts_of(axes))
 
 
+def test_two_values_lie_on_a_side():
+    axes = pictures.triangle(channels.hyper(TWO, {0: HALF, 1: HALF}))
+    centres = sorted(tuple(map(float, dots.get_offsets()[0])) for dots in axes.collections)
+    assert [(round(x, 9), y) for x, y in centres] == [(0.15, 0), (0.5, 0), (0.85, 0)]
+
+
 def test_bars_are_as_wide_as_outers():
     widths = {round(patch.get_width(), 9) for patch in pictures.bars(HYPER).patches}
     assert widths == {round(float(inner.outer), 9) for inner in HYPER.inners}

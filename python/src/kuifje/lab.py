@@ -1,37 +1,210 @@
-"""The command ``kuifje-lab``."""
+"""The command ``kuifje-lab``: reports, orders, pictures, sweeps, expanded templates, and a check for pipelines.
+
+Each command ends with 0, or with 2 and a line on standard error where it can't be done, which a refusal of a program is, too. ``gate`` ends with 1 as
+well: where a rule doesn't hold.
+"""
 
 from __future__ import annotations
 
+import re
 import sys
 import warnings
+from collections.abc import Callable
+from concurrent.futures import ProcessPoolExecutor
+from fractions import Fraction
 from pathlib import Path
+from typing import Any
 
 import click
 
 from . import gates
+from .errors import KuifjeError
+from .orders import order
+from .program import Program
 from .questions import AsItIsLeft
+from .values import parse_value
+
+FILE = click.Path(path_type=Path)
+F = Callable[..., None]
 
 
-@click.group()
+class _Lab(click.Group):
+    """The commands; what can't be done ends with 2."""
+
+    def invoke(self, ctx: click.Context) -> Any:
+        with warnings.catch_warnings():
+            warnings.simplefilter("ignore", AsItIsLeft)
+            try:
+                return super().invoke(ctx)
+            except ImportError as cause:
+                cause_text = f"{cause.name} isn't installed; the package's page names the Debian packages"
+            except (KuifjeError, OSError, ValueError) as cause:
+                cause_text = str(cause)
+        click.echo(f"kuifje-lab: {cause_text}", err=True)
+        sys.exit(2)
+
+
+@click.group(cls=_Lab)
 def main() -> None:
-    """Checks on what programs leak, for pipelines."""
+    """What programs leak: reports, pictures and checks, by the proved program's answers."""
+
+
+def _asking(command: F) -> F:
+    """The options of a command that asks questions."""
+    command = click.option("--timeout", type=float, help="Seconds that a question may take; as long as it takes where it isn't said.")(command)
+    return click.option("--turns", type=int, default=1024, show_default=True, help="How many turns a loop may take.")(command)
+
+
+def _output(command: F) -> F:
+    return click.option("-o", "--output", type=FILE, help="The file to write; standard output where it isn't said.")(command)
+
+
+def _write(text: str, output: Path | None) -> None:
+    if output is None:
+        click.echo(text, nl=False)
+    else:
+        output.write_text(text, encoding="utf-8")
 
 
 @main.command()
-@click.argument("policy", type=click.Path(path_type=Path))
-@click.option("--junit", type=click.Path(path_type=Path), help="Writes the results as JUnit XML to this file.")
-@click.option("--sarif", type=click.Path(path_type=Path), help="Writes the rules that don't hold as SARIF 2.1.0 to this file.")
+@click.argument("files", type=FILE, nargs=-1, required=True)
+@click.option("--title", default="What programs leak", show_default=True, help="The report's title.")
+@_output
+@_asking
+def report(files: tuple[Path, ...], title: str, output: Path | None, turns: int, timeout: float | None) -> None:
+    """Writes all that is found about programs as one HTML file that opens anywhere."""
+    from . import reports
+
+    _write(reports.report([Program.from_file(file, turns=turns) for file in files], title, timeout), output)
+
+
+@main.command("order")
+@click.argument("files", type=FILE, nargs=-1, required=True)
+@click.option("--json", "as_json", is_flag=True, help="Prints the order as JSON, with all certificates.")
+@click.option("-o", "--output", type=FILE, help="Draws the order to this file, which ends with .svg or .png.")
+@_asking
+def order_(files: tuple[Path, ...], as_json: bool, output: Path | None, turns: int, timeout: float | None) -> None:
+    """Prints which of several programs leaks no more than which, to any adversary."""
+    found = order(*(Program.from_file(file, turns=turns) for file in files), timeout=timeout)
+    click.echo(found.to_json() + "\n" if as_json else str(found), nl=False)
+    if output is not None:
+        from . import pictures
+
+        pictures.save(pictures.hasse(found), output)
+
+
+@main.command()
+@click.argument("kind", type=click.Choice(["bars", "blame", "channel", "trail", "triangle", "vulnerability"]))
+@click.argument("file", type=FILE)
+@click.option("-o", "--output", type=FILE, required=True, help="The file to draw, which ends with .svg or .png.")
+@_asking
+def plot(kind: str, file: Path, output: Path, turns: int, timeout: float | None) -> None:
+    """Draws an answer about a program."""
+    from . import pictures
+
+    program = Program.from_file(file, turns=turns)
+    drawn: dict[str, Callable[[], Any]] = {
+        "bars": lambda: pictures.bars(program.hyper(timeout)),
+        "blame": lambda: pictures.blame(program, program.blame(timeout)),
+        "channel": lambda: pictures.channel(program.channel(timeout)),
+        "trail": lambda: pictures.trail(program, program.trail(timeout)),
+        "triangle": lambda: pictures.triangle(program.hyper(timeout)),
+        "vulnerability": lambda: pictures.vulnerability(program.channel(timeout)),
+    }
+    pictures.save(drawn[kind](), output)
+
+
+def _value(text: str) -> object:
+    """A value of the language, a fraction, or else the text itself."""
+    readers: tuple[Callable[[str], object], ...] = (parse_value, Fraction)
+    for read in readers:
+        try:
+            return read(text)
+        except (ValueError, ZeroDivisionError):
+            continue
+    return text
+
+
+def _grid(settings: tuple[str, ...]) -> dict[str, list[object]]:
+    """The values of names: of ``n=4`` and ``n=6..8`` the numbers 4, 6, 7 and 8. Raises ``ValueError`` of other texts."""
+    found: dict[str, list[object]] = {}
+    for setting in settings:
+        name, is_there, text = setting.partition("=")
+        if not (is_there and name.isidentifier()):
+            raise ValueError(f"{setting!r} isn't like NAME=VALUE")
+        between = re.fullmatch(r"(-?[0-9]+)\.\.(-?[0-9]+)", text)
+        found.setdefault(name, []).extend(range(int(between[1]), int(between[2]) + 1) if between else [_value(text)])
+    return found
+
+
+SETTING = click.option(
+    "--set", "settings", multiple=True, metavar="NAME=VALUE", help="A value of the template's; VALUE is a value, or A..B in a sweep."
+)
+
+
+@main.command()
+@click.argument("template", type=FILE)
+@SETTING
+@_output
+def expand(template: Path, settings: tuple[str, ...], output: Path | None) -> None:
+    """Writes the text of a template (.kf.j2) with these values."""
+    from .templates import Template
+
+    grid = _grid(settings)
+    if several := [name for name, values in grid.items() if len(values) != 1]:
+        raise ValueError(f"{several[0]} has {len(grid[several[0]])} values")
+    _write(Template.from_file(template).expand(**{name: values[0] for name, values in grid.items()}).text, output)
+
+
+@main.command()
+@click.argument("template", type=FILE)
+@click.argument("question")
+@SETTING
+@click.option("--cache", type=FILE, help="A folder that keeps answers, so that a sweep that is run again asks only what is new.")
+@click.option("--workers", type=int, help="How many processes ask; as many as there are processors where it isn't said.")
+@click.option("--scheduler", help="The address of a dask scheduler whose workers ask.")
+@_output
+@_asking
+def sweep(
+    template: Path,
+    question: str,
+    settings: tuple[str, ...],
+    cache: Path | None,
+    workers: int | None,
+    scheduler: str | None,
+    output: Path | None,
+    turns: int,
+    timeout: float | None,
+) -> None:
+    """Asks QUESTION (like "leak --gain tries:2") of a template with each combination of values, and writes a table as CSV. A refusal is a row."""
+    from . import sweeps
+
+    def ask(executor: Any) -> None:
+        frame = sweeps.sweep(template, _grid(settings), question, executor, turns=turns, timeout=timeout, cache=cache, progress=sys.stderr.isatty())
+        _write(frame.to_csv(index=False), output)
+
+    if scheduler is not None:
+        from distributed import Client
+
+        with Client(scheduler) as client:
+            ask(client)
+    else:
+        with ProcessPoolExecutor(workers) as pool:
+            ask(pool)
+
+
+@main.command()
+@click.argument("policy", type=FILE)
+@click.option("--junit", type=FILE, help="Writes the results as JUnit XML to this file.")
+@click.option("--sarif", type=FILE, help="Writes the rules that don't hold as SARIF 2.1.0 to this file.")
 @click.option("--timeout", type=float, help="Seconds that a question may take; as long as it takes where it isn't said.")
 def gate(policy: Path, junit: Path | None, sarif: Path | None, timeout: float | None) -> None:
     """Ends with 0 where all rules of POLICY hold, with 1 where one doesn't, and with 2 where the policy can't be read or a question got no answer."""
     try:
         read = gates.Policy.from_file(policy)
-    except (OSError, ValueError) as cause:
-        click.echo(f"{policy}: {cause}", err=True)
-        sys.exit(2)
-    with warnings.catch_warnings():
-        warnings.simplefilter("ignore", AsItIsLeft)
-        findings = gates.judge(read, timeout)
+    except ValueError as cause:
+        raise ValueError(f"{policy}: {cause}") from None
+    findings = gates.judge(read, timeout)
     for finding in findings:
         click.echo(finding)
     for path, text in ((junit, gates.junit), (sarif, gates.sarif)):

@@ -17,6 +17,7 @@ from .program import Certificate, Program, certificate, refine
 from .texts import html_table
 
 if TYPE_CHECKING:
+    import networkx
     import pandas
 
 __all__ = ["Order", "Pair", "order"]
@@ -107,6 +108,15 @@ class Order:
         import pandas
 
         return pandas.DataFrame(self.records())
+
+    def to_networkx(self) -> networkx.DiGraph:
+        """The order as a graph: ``nodes`` are its nodes, and an edge goes from each to those that leak less, as ``edges`` has it."""
+        import networkx
+
+        graph = networkx.DiGraph()
+        graph.add_nodes_from(self.nodes)
+        graph.add_edges_from(self.edges)
+        return graph
 
     def to_json(self) -> str:
         """The order as JSON: ``nodes``, ``edges`` and ``open`` as here, and the certificate of each pair that has a verdict."""

@@ -1,7 +1,8 @@
 """Pictures of answers, with matplotlib: each function draws on axes of its own or on those given, and returns them.
 
-``save(axes, path)`` writes a picture as SVG or PNG, by the path's ending. Colours are those of Okabe and Ito, which people of all kinds of colour
-vision tell apart, and no picture depends on colour alone. Numbers in pictures are exact where they are short.
+``save(axes, path)`` writes a picture as SVG or PNG, by the path's ending, and ``svg(axes)`` gives the text of the SVG. Colours are those of Okabe
+and Ito, which people of all kinds of colour vision tell apart, and no picture depends on colour alone. Numbers in pictures are exact where they are
+short.
 """
 
 from __future__ import annotations
@@ -9,8 +10,10 @@ from __future__ import annotations
 import os
 from collections.abc import Callable, Mapping, Sequence
 from fractions import Fraction
+from io import BytesIO
 from math import log2, sqrt
-from typing import Any
+from pathlib import Path
+from typing import Any, BinaryIO
 
 from .channels import Channel
 from .channels import hyper as hyper_of
@@ -21,13 +24,14 @@ from .questions import statement_lines, target_of
 from .texts import Blame, Hyper, Trail
 from .values import Value, format_value
 
-__all__ = ["bars", "blame", "channel", "hasse", "save", "trail", "triangle", "vulnerability"]
+__all__ = ["bars", "blame", "channel", "hasse", "save", "svg", "trail", "triangle", "vulnerability"]
 
 BLUE, VERMILION, GREEN, AMBER, PURPLE, SKY, YELLOW, BLACK = ("#0072B2", "#D55E00", "#009E73", "#E69F00", "#CC79A7", "#56B4E9", "#F0E442", "#000000")
 GREY = "#666666"
 FILLS = (SKY, AMBER, GREEN, YELLOW, PURPLE, VERMILION, BLUE)
 HATCHES = ("", "///", "||", "xx", "\\\\\\", "++", "--")
 HEIGHT = sqrt(3) / 2
+CORNERS = ((0.0, 0.0), (1.0, 0.0), (0.5, HEIGHT))
 Axes = Any
 
 
@@ -40,12 +44,29 @@ def _axes(axes: Axes | None, width: float, height: float) -> Axes:
 
 
 def save(axes: Axes, path: str | os.PathLike[str]) -> None:
-    """Writes the picture to a file, whose ending says how: ``.svg`` or ``.png``. The same picture is always the same file."""
+    """Writes the picture to a file, whose ending says how: ``.svg`` or ``.png``. The same picture is always the same file.
+
+    Raises ``ValueError`` where the ending is another.
+    """
+    kind = Path(path).suffix.removeprefix(".")
+    if kind not in ("svg", "png"):
+        raise ValueError(f"{path} ends with neither .svg nor .png")
+    with open(path, "wb") as sink:
+        _write(axes, sink, kind)
+
+
+def svg(axes: Axes) -> str:
+    """The picture as the text of an SVG file."""
+    sink = BytesIO()
+    _write(axes, sink, "svg")
+    return sink.getvalue().decode()
+
+
+def _write(axes: Axes, sink: BinaryIO, kind: str) -> None:
     import matplotlib
 
     with matplotlib.rc_context({"svg.hashsalt": "kuifje", "svg.fonttype": "none"}):
-        metadata = {"Date": None} if str(path).endswith(".svg") else {}
-        axes.figure.savefig(path, dpi=150, metadata=metadata)
+        axes.figure.savefig(sink, format=kind, dpi=150, metadata={"Date": None} if kind == "svg" else {})
 
 
 def _number(fraction: Fraction) -> str:
@@ -55,9 +76,10 @@ def _number(fraction: Fraction) -> str:
 
 
 def _corner(point: Mapping[Value, Fraction], values: Sequence[Value]) -> tuple[float, float]:
-    """Where a distribution on three values lies in a triangle whose corners are the values, the third one above."""
-    _, right, top = (float(point.get(value, Fraction(0))) for value in values)
-    return right + top / 2, top * HEIGHT
+    """Where a distribution on at most three values lies in a triangle whose corners are the values, the third one above."""
+    shares = [float(point.get(value, Fraction(0))) for value in values]
+    x, y = (sum(share * corner[i] for share, corner in zip(shares, CORNERS)) for i in (0, 1))
+    return x, y
 
 
 def triangle(hyper: Hyper, axes: Axes | None = None) -> Axes:
@@ -69,13 +91,12 @@ def triangle(hyper: Hyper, axes: Axes | None = None) -> Axes:
     if len(values) > 3:
         raise ValueError(f"a triangle has three corners, and there are {len(values)} values")
     axes = _axes(axes, 6, 5.4)
-    corners = [(0.0, 0.0), (1.0, 0.0), (0.5, HEIGHT)]
-    axes.fill(*zip(*corners), facecolor="#F7F7F7", edgecolor=BLACK, linewidth=1.2)
+    axes.fill(*zip(*CORNERS), facecolor="#F7F7F7", edgecolor=BLACK, linewidth=1.2)
     for k in (0.25, 0.5, 0.75):
         rest = 1 - k
         for ends in (((k, 0), (k + rest / 2, rest * HEIGHT)), ((rest, 0), (rest / 2, rest * HEIGHT)), ((k / 2, k * HEIGHT), (1 - k / 2, k * HEIGHT))):
             axes.plot(*zip(*ends), color="#CCCCCC", linewidth=0.7, zorder=1)
-    for value, (x, y), (dx, dy) in zip(values, corners, ((-0.06, -0.04), (0.06, -0.04), (0, 0.07))):
+    for value, (x, y), (dx, dy) in zip(values, CORNERS, ((-0.06, -0.04), (0.06, -0.04), (0, 0.07))):
         axes.text(x + dx, y + dy, format_value(value), ha="center", va="center", fontsize=15, fontweight="bold")
     for inner in hyper.inners:
         x, y = _corner(inner.distribution, values)
@@ -162,7 +183,7 @@ def channel(matrix: Channel, axes: Axes | None = None) -> Axes:
     axes.xaxis.tick_top()
     axes.tick_params(length=0)
     axes.set_ylabel(str(matrix.target), fontsize=12)
-    axes.set_xlabel(f"framed: column maxima; they sum to the capacity {_number(sum(greatest, Fraction(0)))}", fontsize=12)
+    axes.set_xlabel(f"framed: column maxima\ntheir sum is the capacity: {_number(sum(greatest, Fraction(0)))}", fontsize=12)
     for side in axes.spines.values():
         side.set_visible(False)
     return axes
@@ -241,7 +262,7 @@ def vulnerability(
 def _listing(axes: Axes | None, text: str, marks: Mapping[int, Sequence[tuple[str, float]]], caption: str) -> Axes:
     """A program's text with a margin: beside a line its marks, each a number and the length of a bar from -1 to 1, below 0 in another colour."""
     lines = text.expandtabs(4).rstrip("\n").split("\n")
-    axes = _axes(axes, 9, 0.34 * len(lines) + 1.1)
+    axes = _axes(axes, max(9, 0.15 * max(map(len, lines))), 0.34 * len(lines) + 1.1)
     for i, line in enumerate(lines):
         axes.text(0.3, i, line, family="monospace", fontsize=12, va="center")
         if i in marks:

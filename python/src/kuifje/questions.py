@@ -7,7 +7,7 @@ import warnings
 
 from .texts import Target
 
-__all__ = ["AsItIsLeft", "sentence", "statement_lines", "target_of"]
+__all__ = ["AsItIsLeft", "sentence", "statement_lines", "target_of", "warning_of"]
 
 _COMMENT = re.compile(r"#[^\n]*")
 _ABOUT = re.compile(r"\babout\b([^;]*);")
@@ -51,16 +51,20 @@ def sentence(text: str) -> str | None:
     return f"What an observer learns about {about}, where all variables are drawn as the program declares them."
 
 
+def warning_of(text: str) -> str | None:
+    """What to say where no item of the target is asked about as it was; none where one is."""
+    target = target_of(text)
+    if target is None or any(item.old for item in target.items):
+        return None
+    return (
+        "no item of the target is old: the question is about values after the last statement; for what a secret was, write 'about old' and its name"
+    )
+
+
 def warn_of(text: str) -> None:
     """Warns where no item of the target is asked about as it was."""
-    target = target_of(text)
-    if target is not None and not any(item.old for item in target.items):
-        warnings.warn(
-            "no item of the target is old: the question is about values after the last statement; for what a secret was, write 'about old' "
-            "and its name",
-            AsItIsLeft,
-            stacklevel=4,
-        )
+    if (warning := warning_of(text)) is not None:
+        warnings.warn(warning, AsItIsLeft, stacklevel=4)
 
 
 def statement_lines(text: str) -> list[int]:

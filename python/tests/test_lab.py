@@ -1,0 +1,129 @@
+"""The command kuifje-lab: what it writes, and how it ends."""
+
+import csv
+import io
+import json
+import sys
+from pathlib import Path
+
+import pytest
+
+pytest.importorskip("click")
+
+from click.testing import CliRunner  # noqa: E402
+
+from kuifje.lab import main  # noqa: E402
+
+EXAMPLES = Path(__file__).resolve().parents[2] / "examples"
+PIN, WHOLE = str(EXAMPLES / "pin.kf"), str(EXAMPLES / "pin_whole.kf")
+LOCK = """var x : 0..{{ n - 1 }} := uniform 0..{{ n - 1 }};
+about old x;
+{% for i in range(t) %}
+if x = {{ i }} { skip; } else { skip; }
+{% endfor %}
+"""
+
+pytestmark = pytest.mark.usefixtures("built")
+
+
+def lab(*words):
+    return CliRunner(mix_stderr=False).invoke(main, list(map(str, words)))
+
+
+@pytest.fixture
+def lock(tmp_path):
+    (tmp_path / "lock.kf.j2").write_text(LOCK)
+    return tmp_path / "lock.kf.j2"
+
+
+def test_an_order_is_printed_and_drawn(tmp_path):
+    pytest.importorskip("matplotlib")
+    found = lab("order", PIN, WHOLE, "-o", tmp_path / "order.svg")
+    assert (found.exit_code, found.output) == (0, "pin\npin_whole\npin_whole leaks less than pin\n")
+    assert "pin_whole" in (tmp_path / "order.svg").read_text()
+    read = json.loads(lab("order", "--json", PIN, WHOLE).output)
+    assert read["nodes"] == [["pin"], ["pin_whole"]] and read["edges"] == [[["pin"], ["pin_whole"]]] and read["open"] == []
+    assert [(v["of"], v["by"], v["refines"], v["certificate"]["verdict"]) for v in read["verdicts"]] == [
+        ("pin", "pin_whole", True, "yes"), ("pin_whole", "pin", False, "no")]  # fmt: skip
+
+
+@pytest.mark.parametrize("kind", ["bars", "blame", "channel", "trail"])
+def test_a_picture_is_drawn(tmp_path, kind):
+    pytest.importorskip("matplotlib")
+    for ending, begins in ((".svg", b"<?xml"), (".png", b"\x89PNG")):
+        assert lab("plot", kind, PIN, "-o", tmp_path / f"drawn{ending}").exit_code == 0
+        assert (tmp_path / f"drawn{ending}").read_bytes().startswith(begins)
+
+
+def test_pictures_of_few_values(tmp_path):
+    pytest.importorskip("matplotlib")
+    (tmp_path / "bit.kf").write_text("var x : 0..1 := uniform 0..1;\nabout old x;\nobserve choose { x : 3, 1 - x : 1 };\n")
+    for kind in ("triangle", "vulnerability"):
+        assert lab("plot", kind, tmp_path / "bit.kf", "-o", tmp_path / f"{kind}.svg").exit_code == 0
+        assert (tmp_path / f"{kind}.svg").exists()
+
+
+def test_a_template_is_expanded(tmp_path, lock):
+    wanted = "var x : 0..3 := uniform 0..3;\nabout old x;\nif x = 0 { skip; } else { skip; }\n"
+    assert lab("expand", lock, "--set", "n=4", "--set", "t=1").output == wanted
+    assert lab("expand", lock, "--set", "n=4", "--set", "t=1", "-o", tmp_path / "lock.kf").exit_code == 0
+    assert (tmp_path / "lock.kf").read_text() == wanted
+    (tmp_path / "values.kf.j2").write_text("{{ a }} {{ b }} {{ c }} {{ d }}")
+    values = ["--set", "a=true", "--set", "b=(1, {0})", "--set", "c=2/6", "--set", "d=two words"]
+    assert lab("expand", tmp_path / "values.kf.j2", *values).output == "true (1, {0}) 1/3 two words"
+
+
+def test_a_sweep_is_a_table(tmp_path, lock):
+    """Of n values t are told, and one of the others is guessed: (t + 1) / n."""
+    pytest.importorskip("pandas")
+    words = ["sweep", lock, "leak --gain bayes", "--set", "n=4..6", "--set", "t=1", "--set", "t=2", "--workers", "2", "--cache", tmp_path / "kept"]
+    for _ in range(2):
+        rows = list(csv.DictReader(io.StringIO(lab(*words).output)))
+        assert [(row["n"], row["t"], row["posterior_vulnerability"], row["refusal"]) for row in rows] == [
+            ("4", "1", "1/2", ""), ("4", "2", "3/4", ""), ("5", "1", "2/5", ""), ("5", "2", "3/5", ""), ("6", "1", "1/3", ""), ("6", "2", "1/2", "")
+        ]  # fmt: skip
+    assert len(list((tmp_path / "kept").iterdir())) == 6
+    assert lab("sweep", lock, "capacity", "--set", "n=4", "--set", "t=1", "-o", tmp_path / "out.csv").exit_code == 0
+    assert (tmp_path / "out.csv").read_text() == "n,t,value,status,refusal\n4,1,2,,\n"
+
+
+def test_a_sweep_over_a_cluster(lock):
+    distributed = pytest.importorskip("distributed")
+    with distributed.LocalCluster(n_workers=1, threads_per_worker=1, dashboard_address=None) as cluster:
+        found = lab("sweep", lock, "capacity", "--set", "n=4", "--set", "t=1", "--scheduler", cluster.scheduler_address)
+    assert found.output == "n,t,value,status,refusal\n4,1,2,,\n"
+
+
+def test_what_cannot_be_done_ends_with_2(tmp_path, lock):
+    (tmp_path / "bad.kf").write_text("var x : 0..3 := uniform 0..3;\nobserve x @ 2;\n")
+    (tmp_path / "four.kf").write_text("var x : 0..3 := uniform 0..3;\nobserve x;\n")
+    for words, cause in [
+        (["report", tmp_path / "none.kf"], "none.kf"),
+        (["plot", "bars", tmp_path / "bad.kf", "-o", tmp_path / "x.svg"], "Char"),
+        (["plot", "bars", PIN, "-o", tmp_path / "x.pdf"], "x.pdf"),
+        (["plot", "triangle", tmp_path / "four.kf", "-o", tmp_path / "x.svg"], "three corners"),
+        (["plot", "blame", PIN, "-o", tmp_path / "x.svg", "--timeout", "0"], "longer"),
+        (["expand", lock], "undefined"),
+        (["expand", lock, "--set", "n"], "NAME=VALUE"),
+        (["expand", lock, "--set", "n=1..3", "--set", "t=1"], "3 values"),
+        (["sweep", lock, "colour", "--set", "n=4", "--set", "t=1"], "colour"),
+        (["gate", tmp_path / "none.toml"], "none.toml"),
+    ]:
+        found = lab(*words)
+        assert found.exit_code == 2 and found.stderr.startswith("kuifje-lab: ") and cause in found.stderr, words
+    assert not list(tmp_path.glob("x.*"))
+
+
+@pytest.mark.usefixtures("proved")
+def test_an_order_with_a_program_that_is_refused_ends_with_2(tmp_path):
+    (tmp_path / "bad.kf").write_text("var x : 0..3 := uniform 0..3;\nobserve x @ 2;\n")
+    found = lab("order", PIN, tmp_path / "bad.kf")
+    assert found.exit_code == 2 and "bad.kf:2:11: Char\nobserve x @ 2;\n          ^\n" in found.stderr
+
+
+def test_a_package_that_is_not_there_is_named(monkeypatch):
+    monkeypatch.setitem(sys.modules, "jinja2", None)
+    monkeypatch.delitem(sys.modules, "kuifje.reports", raising=False)
+    monkeypatch.delitem(sys.modules, "kuifje.templates", raising=False)
+    found = lab("expand", "x.kf.j2")
+    assert (found.exit_code, found.stderr) == (2, "kuifje-lab: jinja2 isn't installed; the package's page names the Debian packages\n")

@@ -1,8 +1,8 @@
 """Pictures of answers, with matplotlib: each function draws on axes of its own or on those given, and returns them.
 
-``save(axes, path)`` writes a picture as SVG or PNG, by the path's ending, and ``svg(axes)`` gives the text of the SVG. Colours are those of Okabe
-and Ito, which people of all kinds of colour vision tell apart, and no picture depends on colour alone. Numbers in pictures are exact where they are
-short.
+``save(axes, path)`` writes a picture as SVG or PNG, by the path's ending, ``svg(axes)`` gives the text of the SVG, and ``show(axes)`` shows it in a
+notebook. Colours are those of Okabe and Ito, which people of all kinds of colour vision tell apart, and no picture depends on colour alone. Numbers
+in pictures are exact where they are short.
 """
 
 from __future__ import annotations
@@ -24,7 +24,7 @@ from .questions import statement_lines, target_of
 from .texts import Blame, Hyper, Trail
 from .values import Value, format_value
 
-__all__ = ["bars", "blame", "channel", "hasse", "save", "svg", "trail", "triangle", "vulnerability"]
+__all__ = ["bars", "blame", "channel", "hasse", "save", "show", "svg", "trail", "triangle", "vulnerability"]
 
 BLUE, VERMILION, GREEN, AMBER, PURPLE, SKY, YELLOW, BLACK = ("#0072B2", "#D55E00", "#009E73", "#E69F00", "#CC79A7", "#56B4E9", "#F0E442", "#000000")
 GREY = "#666666"
@@ -60,6 +60,13 @@ def svg(axes: Axes) -> str:
     sink = BytesIO()
     _write(axes, sink, "svg")
     return sink.getvalue().decode()
+
+
+def show(axes: Axes) -> Any:
+    """The picture as a notebook shows it."""
+    from IPython.display import SVG
+
+    return SVG(svg(axes))
 
 
 def _write(axes: Axes, sink: BinaryIO, kind: str) -> None:

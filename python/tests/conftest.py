@@ -5,9 +5,14 @@ import shutil
 from pathlib import Path
 
 import pytest
+from hypothesis import settings
 
 from kuifje._protocol import PROGRAM
 from kuifje._worker import program
+
+# A machine that is shared is slow at times, and the gate finds the same each time.
+settings.register_profile("gate", deadline=None, derandomize=True)
+settings.load_profile("gate")
 
 TOP = Path(__file__).resolve().parents[2]
 if not os.environ.get(PROGRAM) and shutil.which("kuifje") is None and (TOP / "bin" / "kuifje").exists():

@@ -63,6 +63,28 @@ def test_a_question_without_an_answer_never_holds(tmp_path, text):
 
 
 @pytest.mark.usefixtures("built")
+def test_a_bound_under_a_table_and_one_that_is_undefined(tmp_path):
+    """An action that gains nothing: the prior vulnerability is 0, and the leakage by a factor has no value. One that gains 1 learns nothing."""
+    table = '{"actions":[{"gains":[],"name":"a"}],"format":"kuifje-gain-1","over":1,"rest":%d}'
+    (tmp_path / "one.json").write_text(table % 1)
+    (tmp_path / "nothing.json").write_text(table % 0)
+    policy = '[[program]]\nfile = "pin.kf"\ngain = "table:%s.json"\n%s = 1\n'
+    assert gate(tmp_path, policy % ("one", "multiplicative_leakage"), pin=PIN).exit_code == 0
+    found = gate(tmp_path, policy % ("nothing", "multiplicative_leakage"), pin=PIN)
+    assert found.exit_code == 2 and "it is undefined" in found.output
+    assert gate(tmp_path, policy % ("nothing", "additive_leakage"), pin=PIN).exit_code == 0
+
+
+@pytest.mark.usefixtures("built")
+def test_a_place_is_where_most_leaks(tmp_path):
+    """The second statement shows one of four values, the first nothing; where a block leaks no less alone, no line is named."""
+    text = "var x : 0..3 := uniform 0..3;\nabout old x;\nobserve 0;\nobserve x;\n"
+    bound = '[[program]]\nfile = "x.kf"\ncapacity = 1\n'
+    assert "x.kf:4: capacity: does not hold: 4, at most 1" in gate(tmp_path, bound, x=text).output
+    assert gate(tmp_path, bound, x=text + "observe x;\n").output == "x.kf: capacity: does not hold: 4, at most 1\n"
+
+
+@pytest.mark.usefixtures("built")
 def test_a_file_is_compared_with_itself_at_a_revision(tmp_path):
     def git(*words):
         subprocess.run(["git", "-C", tmp_path, "-c", "user.name=a", "-c", "user.email=a@b", *words], check=True, capture_output=True)

@@ -102,3 +102,67 @@ def test_an_interrupt_ends_the_question_alone():
             signal.signal(signal.SIGALRM, previous)
     assert len(Program(PARITY.text, engine=engine).hyper().inners) == 2
     engine.close()
+
+
+NOISY = Program("var y : 0..1 := uniform 0..1;\nabout old y;\nobserve choose { y : 3, 1 - y : 1 };\n", name="noisy.kf")
+
+
+def test_compositions_by_hand():
+    """Parity has the capacity 2, all four values have 4. Both show 4; each with probability 1/2 shows 3; a parity that is told rightly with
+    probability 3/4 shows 3/4 + 3/4."""
+    found = kuifje.parallel(PARITY, WHOLE)
+    assert (found.rows, found.first, found.second, found.both) == (4, 2, 4, 4)
+    found = kuifje.choice(PARITY, WHOLE, Fraction(1, 2))
+    assert (found.rows, found.columns, found.both) == (4, 6, 3)
+    found = kuifje.cascade(PARITY, NOISY)
+    assert (found.rows, found.columns, found.first, found.second, found.both) == (4, 2, 2, Fraction(3, 2), Fraction(3, 2))
+    assert found.question.startswith("By what factor can what noisy.kf makes of what parity.kf shows help an adversary?")
+
+
+def test_verdicts_for_every_prior():
+    found = kuifje.covers(WHOLE, PARITY)
+    assert (
+        found.refines and found.question == "Does parity.kf leak no more than whole.kf about initial and final values together, whatever the prior?"
+    )
+    assert not kuifje.covers(PARITY, WHOLE).refines
+
+
+def test_questions_about_two_programs():
+    question = kuifje.refine(WHOLE, PARITY).question
+    assert question.startswith("Does parity.kf leak no more than whole.kf, to any adversary? What an observer learns about x, as it was")
+    same = Program(PARITY.text, name="parity.kf")
+    assert kuifje.refine(PARITY, same).matrix.rows == ((1, 0), (0, 1))
+    with pytest.raises(kuifje.KuifjeError, match="1024 turns in one program, and 5"):
+        kuifje.refine(PARITY, Program(PARITY.text, turns=5))
+    with pytest.warns(UserWarning, match="no item of the target is old"):
+        left = Program("var x : 0..1 := uniform 0..1;\n", name="left.kf")
+        kuifje.refine(left, left)
+
+
+def test_programs_and_gains_of_files(tmp_path):
+    """A bet on an even number gains 1 where it is right: 1/2 before its parity is seen, and 1 with it, for two of four values."""
+    (tmp_path / "parity.kf").write_bytes(PARITY.text)
+    (tmp_path / "even.json").write_text(
+        '{"actions":[{"gains":[["0",1],["2",1]],"name":"bet"},{"gains":[],"name":"pass"}],"format":"kuifje-gain-1","over":1,"rest":0}'
+    )
+    program = Program.from_file(tmp_path / "parity.kf")
+    assert repr(program) == f"<Program parity.kf, {len(PARITY.text)} bytes>"
+    found = program.leak(f"table:{tmp_path / 'even.json'}")
+    assert (found.prior_vulnerability, found.posterior_vulnerability) == (Fraction(1, 2), Fraction(1, 2))
+    assert [move.actions["bet"] for move in program.attack(f"table:{tmp_path / 'even.json'}").moves] == [1, 0]
+    assert "bytes>" in repr(kuifje.certificate(WHOLE, PARITY))
+    for name in ("", "..", "a/b", "gain.json", "certificate.json"):
+        with pytest.raises(ValueError):
+            Program("skip;", name=name)
+
+
+def test_answers_that_have_one_row_or_several():
+    """Of four equal values, of which two are left: the traces, and the least of the best guesses."""
+    assert [(trace.shown, trace.probability, trace.joint) for trace in PARITY.traces().traces] == [
+        ((bit,), Fraction(1, 2), {bit: Fraction(1, 4), bit + 2: Fraction(1, 4)}) for bit in (0, 1)
+    ]
+    assert [(move.outer, move.value, move.actions) for move in PARITY.attack("bayes").moves] == [
+        (Fraction(1, 2), Fraction(1, 2), {str(bit): Fraction(1, 2)}) for bit in (0, 1)
+    ]
+    assert PARITY.trail().inners == (1, 2) and len(PARITY.quiet(0, 1).inners) == 1
+    assert list(PARITY.channel().rows.values()) == [(1, 0), (0, 1)] * 2

@@ -138,7 +138,10 @@ class Program:
         return self._answer(Blame, ["blame", self.name], timeout)
 
     def quiet(self, start: int, end: int, timeout: float | None = None) -> Hyper:
-        """The hyper-distribution where the top-level statements from ``start`` up to but not with ``end`` show nothing."""
+        """The hyper-distribution where the top-level statements from ``start`` up to but not with ``end`` show nothing, both counted from 0.
+
+        ``start`` is below ``end``, and ``end`` at most the number of statements; else it is a ``Refusal``.
+        """
         return self._answer(Hyper, ["quiet", self.name, f"{start}..{end}"], timeout)
 
     def trail(self, timeout: float | None = None) -> Trail:

@@ -151,7 +151,7 @@ def test_programs_and_gains_of_files(tmp_path):
     assert (found.prior_vulnerability, found.posterior_vulnerability) == (Fraction(1, 2), Fraction(1, 2))
     assert [move.actions["bet"] for move in program.attack(f"table:{tmp_path / 'even.json'}").moves] == [1, 0]
     assert "bytes>" in repr(kuifje.certificate(WHOLE, PARITY))
-    for name in ("", "..", "a/b", "gain.json", "certificate.json"):
+    for name in ("", "--json", "..", "a/b", "gain.json", "certificate.json"):
         with pytest.raises(ValueError):
             Program("skip;", name=name)
 

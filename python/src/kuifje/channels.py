@@ -109,6 +109,7 @@ class Channel(Printed):
         return text
 
     def records(self) -> list[dict[str, object]]:
+        """A row for each value: ``value``, and a column for each trace."""
         names = [f"[{', '.join(map(format_value, shown))}]" for shown in self.columns]
         return [{"value": format_value(value), **dict(zip(names, cells))} for value, cells in self.rows.items()]
 
@@ -183,14 +184,17 @@ def hyper(channel: Channel, prior: Mapping[Value, Rational]) -> Hyper:
 
 
 def from_hyper(found: Hyper) -> Channel:
-    """The channel that a hyper-distribution shows: a row for each value of the prior, a column for each inner."""
+    """The channel that a hyper-distribution shows, in its reduced form: a row for each value of the prior, a column ``(i,)`` for each inner.
+
+    With the hyper's prior it gives the hyper again (the book, chapter 4).
+    """
     labels: list[Label] = [(i,) for i in range(len(found.inners))]
     rows = {x: tuple(inner.outer * inner.distribution.get(x, Fraction(0)) / p for inner in found.inners) for x, p in found.prior.items()}
     return Channel(found.target, tuple(labels), rows)
 
 
 def reduced(channel: Channel) -> Channel:
-    """The reduced channel: columns of zeros left out, and columns in proportion added up, each under the first one's label."""
+    """The reduced channel (the book, chapter 4): columns of zeros left out, and columns in proportion added up, each under the first one's label."""
     found: dict[tuple[Fraction, ...], tuple[Label, list[Fraction]]] = {}
     for j, label in enumerate(channel.columns):
         column = [row[j] for row in channel.rows.values()]
@@ -211,7 +215,10 @@ def _same_secrets(a: Channel, b: Channel) -> None:
 
 
 def cascade(a: Channel, b: Channel) -> Channel:
-    """What ``b`` makes of what ``a`` shows: each label of ``a`` is the secret of ``b`` whose items it lists."""
+    """What ``b`` makes of what ``a`` shows, the product of both matrices (the book, chapter 8).
+
+    Each label of ``a`` is the secret of ``b`` whose items it lists. Raises ``ValueError`` where ``b`` has no such secret.
+    """
     secrets = {(x if isinstance(x, tuple) and len(b.target.items) > 1 else (x,)): x for x in b.rows}
     if lacking := [label for label in a.columns if label not in secrets]:
         raise ValueError(f"[{', '.join(map(format_value, lacking[0]))}] is no secret of the second channel")
@@ -221,7 +228,10 @@ def cascade(a: Channel, b: Channel) -> Channel:
 
 
 def parallel(a: Channel, b: Channel) -> Channel:
-    """Both channels, independently, about the same secret; a column is labelled by what both show."""
+    """Both channels, independently, about the same secret (the book, chapter 8); a column is labelled by what both show.
+
+    Raises ``ValueError`` where their secrets differ.
+    """
     _same_secrets(a, b)
     labels = [(x, y) for x in a.columns for y in b.columns]
     rows = {x: tuple(p * q for p in a.rows[x] for q in b.rows[x]) for x in a.rows}
@@ -250,14 +260,20 @@ def _parts(a: Channel, b: Channel, probability: Rational) -> tuple[Fraction, Fra
 
 
 def visible_choice(a: Channel, b: Channel, probability: Rational) -> Channel:
-    """The first channel with this probability, else the second, where it is seen which; a label says which, and what is shown."""
+    """The first channel with this probability, else the second, where it is seen which (the book, chapter 8): a label is ``(0, ..)`` or ``(1, ..)``.
+
+    Raises ``ValueError`` where their secrets differ, or it is no probability.
+    """
     p, q = _parts(a, b, probability)
     labels = [(0, label) for label in a.columns] + [(1, label) for label in b.columns]
     return Channel(a.target, tuple(labels), {x: tuple(p * c for c in a.rows[x]) + tuple(q * c for c in b.rows[x]) for x in a.rows})
 
 
 def hidden_choice(a: Channel, b: Channel, probability: Rational) -> Channel:
-    """The first channel with this probability, else the second, where it isn't seen which: columns of one label are added up."""
+    """The first channel with this probability, else the second, where it isn't seen which (the book, chapter 8): columns of one label are added up.
+
+    Raises ``ValueError`` where their secrets differ, or it is no probability.
+    """
     p, q = _parts(a, b, probability)
     labels = [*a.columns, *(label for label in b.columns if label not in a.columns)]
     rows: dict[Value, dict[Label, Fraction]] = {x: {} for x in a.rows}

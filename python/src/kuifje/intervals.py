@@ -25,10 +25,12 @@ class Interval:
 
     @classmethod
     def exactly(cls, value: Fraction | int) -> Interval:
+        """The interval of this number alone."""
         return cls(Fraction(value), Fraction(value))
 
     @property
     def width(self) -> Fraction:
+        """How far its ends are apart."""
         return self.high - self.low
 
     def __add__(self, other: Interval) -> Interval:

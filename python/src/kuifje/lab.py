@@ -32,6 +32,7 @@ class _Lab(click.Group):
     """The commands; what can't be done ends with 2."""
 
     def invoke(self, ctx: click.Context) -> Any:
+        """Runs a command, without the warnings that are for sessions."""
         with warnings.catch_warnings():
             warnings.simplefilter("ignore", AsItIsLeft)
             try:

@@ -33,37 +33,44 @@ Distribution = Mapping[Value, Fraction]
 
 
 def bayes_vulnerability(distribution: Distribution) -> Fraction:
-    """The probability of the likeliest value: how likely one guess is right."""
+    """Bayes vulnerability (the book, chapter 2): the probability of the likeliest value, so that of one right guess."""
     return max(distribution.values())
 
 
 def prior_vulnerability(hyper: Hyper, vulnerability: Callable[[Distribution], Fraction] = bayes_vulnerability) -> Fraction:
-    """The vulnerability of the distribution before anything is seen."""
+    """The vulnerability of the distribution before anything is seen (the book, chapter 3).
+
+    ``vulnerability`` is that of a distribution, as ``bayes_vulnerability`` or a ``GainTable``'s is.
+    """
     return vulnerability(hyper.prior)
 
 
 def posterior_vulnerability(hyper: Hyper, vulnerability: Callable[[Distribution], Fraction] = bayes_vulnerability) -> Fraction:
-    """The expected vulnerability of the posterior: over all inners, each with its outer."""
+    """The expected vulnerability of the posterior, over all inners, each with its outer (the book, chapter 5)."""
     return sum((inner.outer * vulnerability(inner.distribution) for inner in hyper.inners), Fraction(0))
 
 
 def shannon_entropy(distribution: Distribution) -> Interval:
-    """Shannon entropy, in bits."""
+    """Shannon entropy, in bits (the book, chapter 2): an interval no wider than 2^-50."""
     return total(p * -log2(p) for p in distribution.values() if p > 0)
 
 
 def mutual_information(hyper: Hyper) -> Interval:
-    """How much Shannon entropy, in bits, falls from the prior to the expected posterior."""
+    """Mutual information of the secret and what is seen, in bits: how far Shannon entropy falls from the prior to the expected posterior.
+
+    It is an interval no wider than 2^-49.
+    """
     return shannon_entropy(hyper.prior) - total(inner.outer * shannon_entropy(inner.distribution) for inner in hyper.inners)
 
 
 def min_entropy_leakage(hyper: Hyper) -> Interval:
-    """The binary logarithm of the multiplicative Bayes leakage, in bits."""
+    """Min-entropy leakage, in bits: the binary logarithm of the multiplicative Bayes leakage, as an interval no wider than 2^-50."""
     return log2(posterior_vulnerability(hyper) / prior_vulnerability(hyper))
 
 
 def additive_capacity(hyper: Hyper) -> Fraction:
-    """The greatest additive leakage, at this prior, under any gain function each of whose actions gains at most 1 more at one value than at another.
+    """The greatest additive leakage, at this prior, under any gain function each of whose actions gains at most 1 more at one value than at another
+    (the book, chapter 7).
 
     It is the expected total variation distance between the posterior and the prior: a vulnerability under such a gain function is 1-Lipschitz in it,
     and the actions that gain 1 where a posterior is above the prior, less what they gain at the prior, reach it.
@@ -76,10 +83,10 @@ def additive_capacity(hyper: Hyper) -> Fraction:
 
 
 def differential_privacy(channel: Channel, neighbours: Iterable[tuple[Value, Value]] | None = None) -> tuple[Fraction | None, Interval | None]:
-    """The least ratio e^ε by which the probability of what is shown differs between two secrets, and the interval of ε.
+    """The least ratio e^ε by which the probability of what is shown differs between two secrets, exactly, and the interval of ε.
 
-    Over all pairs of rows (local differential privacy), or over the pairs that are neighbours, in both directions. ``(None, None)`` where something
-    may be shown of one of the two and can't be of the other: then ε is infinite.
+    Over all pairs of rows (local differential privacy; Duchi, Jordan and Wainwright, 2013), or over pairs that are neighbours, in both directions.
+    ``(None, None)`` where something may be shown of one of the two and can't be of the other: then ε is infinite.
     """
     pairs = list(permutations(channel.rows, 2)) if neighbours is None else [pair for a, b in neighbours for pair in ((a, b), (b, a))]
     greatest = Fraction(1)

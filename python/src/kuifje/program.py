@@ -68,7 +68,7 @@ def _gain(gain: Gain) -> tuple[str, dict[str, bytes]]:
 
 
 def gain_json(table: GainTable) -> str:
-    """The file of a gain table (docs/FORMATS.md, "Gain tables")."""
+    """The file of a gain table (docs/FORMATS.md, "Gain tables"), as ``kuifje leak --gain table:FILE`` takes it."""
     actions = [{"gains": [[format_value(value), gain] for value, gain in action.gains.items()], "name": action.name} for action in table.actions]
     return json.dumps({"actions": actions, "format": "kuifje-gain-1", "over": table.over, "rest": table.rest}, separators=(",", ":"))
 
@@ -85,14 +85,14 @@ class Program:
     def __init__(
         self, text: str | bytes, *, name: str = "program.kf", turns: int = 1024, engine: Engine | None = None, expansion: Expansion | None = None
     ) -> None:
-        if "/" in name or "\0" in name or name in ("", ".", "..", TABLE, CERTIFICATE):
+        if name.startswith("-") or "/" in name or "\0" in name or name in ("", ".", "..", TABLE, CERTIFICATE):
             raise ValueError(f"{name!r} can't be the name of a program")
         self.text = text.encode() if isinstance(text, str) else bytes(text)
         self.name, self.turns, self.engine, self.expansion = name, turns, engine, expansion
 
     @classmethod
     def from_file(cls, path: str | os.PathLike[str], *, turns: int = 1024, engine: Engine | None = None) -> Program:
-        """The program in a file."""
+        """The program in a file, under the last part of its path as a name. Raises ``OSError`` where it can't be read."""
         return cls(Path(path).read_bytes(), name=Path(path).name, turns=turns, engine=engine)
 
     def __repr__(self) -> str:
@@ -104,37 +104,54 @@ class Program:
         return sentence(self.text.decode(errors="replace"))
 
     def hyper(self, timeout: float | None = None) -> Hyper:
-        """The hyper-distribution that a run leaves: which posteriors there may be, and how likely each is."""
+        """The hyper-distribution that a run leaves (the book, chapter 4): the posteriors on the target that there may be, and how likely each is.
+
+        The outers of its inners sum to 1, and so do the probabilities of each inner.
+        """
         return self._answer(Hyper, ["hyper", self.name], timeout)
 
     def traces(self, timeout: float | None = None) -> TraceTable:
-        """Each trace with its probability, and with the joint probabilities of the target's values."""
+        """The joint matrix, trace by trace: each trace with its probability, and with the joint probabilities of the target's values (chapter 4)."""
         return self._answer(TraceTable, ["traces", self.name], timeout)
 
     def channel(self, timeout: float | None = None) -> Channel:
-        """The channel matrix from the target's values to traces, given the declarations. Each item of the target must be ``old``."""
+        """The channel matrix from the target's values to traces, given the declarations (the book, chapter 4): each row sums to 1.
+
+        Each item of the target must be ``old``, else it is a ``Refusal``.
+        """
         return self._answer(Channel, ["channel", self.name], timeout)
 
     def leak(self, gain: Gain = "bayes", timeout: float | None = None) -> Leakage:
-        """Prior and posterior vulnerability under a gain function, and how they differ."""
+        """Prior and posterior vulnerability under a gain function, and multiplicative and additive leakage (the book, chapters 3 and 5).
+
+        ``gain`` is ``"bayes"`` (one guess), ``"tries:3"`` (so many), ``"guessing"`` (the expected number of guesses, where less is worse for the
+        secret), a ``GainTable``, or ``"table:"`` and the path of one. Raises ``OSError`` where that file can't be read.
+        """
         word, files = _gain(gain)
         return self._answer(Leakage, ["leak", self.name, "--gain", word], timeout, files)
 
     def attack(self, gain: Gain = "bayes", timeout: float | None = None) -> Attack:
-        """What an adversary with this gain function does best at each inner."""
+        """What an adversary with this gain function does best at each inner; ``gain`` is as for ``leak``."""
         word, files = _gain(gain)
         return self._answer(Attack, ["attack", self.name, "--gain", word], timeout, files)
 
     def reach(self, probability: Fraction, timeout: float | None = None) -> Reach:
-        """How many tries guess the target with at least this probability once a run is seen."""
+        """The least number of tries that guess the target with at least this probability once a run is seen.
+
+        ``probability`` lies above 0 and is at most 1, with a numerator and a denominator below 10^9; else it is a ``Refusal``.
+        """
         return self._answer(Reach, ["reach", self.name, f"{probability.numerator}/{probability.denominator}"], timeout)
 
     def capacity(self, timeout: float | None = None) -> Fraction:
-        """The Bayes capacity of the channel."""
+        """The Bayes capacity of the channel: the sum of its columns' greatest cells (the book, chapter 7).
+
+        No prior on the target's possible values makes the multiplicative leakage greater, under gains that aren't below 0. Each item of the target
+        must be ``old``, else it is a ``Refusal``.
+        """
         return self._answer(Capacity, ["capacity", self.name], timeout).capacity
 
     def blame(self, timeout: float | None = None) -> Blame:
-        """How much is left where each top-level statement alone shows nothing."""
+        """How many inners there are and their posterior Bayes vulnerability: as it is, and where each top-level statement alone shows nothing."""
         return self._answer(Blame, ["blame", self.name], timeout)
 
     def quiet(self, start: int, end: int, timeout: float | None = None) -> Hyper:
@@ -145,7 +162,7 @@ class Program:
         return self._answer(Hyper, ["quiet", self.name, f"{start}..{end}"], timeout)
 
     def trail(self, timeout: float | None = None) -> Trail:
-        """How many inners about all variables there are after each top-level statement."""
+        """How many inners about all variables there are before the first top-level statement and after each."""
         return self._answer(Trail, ["trail", self.name], timeout)
 
     def _answer(self, kind: type[P], words: list[str], timeout: float | None, files: Mapping[str, bytes] = {}) -> P:
@@ -157,7 +174,10 @@ class Program:
 
 
 class Certificate:
-    """A certificate of a verdict, as the program writes it: a file that ``check`` accepts, and that anybody can check without this program."""
+    """A certificate of a verdict, as the program writes it: a file that ``check`` accepts, and that anybody can check without this program.
+
+    ``text`` is the file (docs/FORMATS.md, "Certificates"); whether it is one is for ``check`` to say.
+    """
 
     def __init__(self, text: str | bytes) -> None:
         self.text = text.encode() if isinstance(text, str) else bytes(text)

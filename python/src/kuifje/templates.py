@@ -93,6 +93,7 @@ class _Marks(Extension):
     """Puts a mark before each piece of text and each value of what is parsed, where the environment's ``marked`` says so."""
 
     def preprocess(self, source: str, name: str | None, filename: str | None = None) -> str:
+        """Keeps a source that jinja2 reads, with LF at the end of each line."""
         environment: Any = self.environment
         lines = re.split(r"\r\n|\r|\n", source)
         text = "\n".join(lines)
@@ -110,6 +111,7 @@ class _Marks(Extension):
             at += len(value)
 
     def filter_stream(self, stream: Any) -> Any:
+        """The tokens of the source that was kept last, with marks."""
         environment: Any = self.environment
         number = len(environment.sources) - 1
         for token in stream:

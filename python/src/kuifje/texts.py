@@ -62,6 +62,7 @@ def read_fraction(text: str) -> Fraction:
 
 
 def read_number(text: str) -> int:
+    """The number of a printed text. Raises ``ValueError`` where it is none."""
     if not re.fullmatch(r"0|[1-9][0-9]*", text):
         raise ValueError(f"{text!r} is no number")
     return int(text)
@@ -77,6 +78,7 @@ class Lines:
         self._at = 0
 
     def peek(self) -> str | None:
+        """The next line; none after the last one."""
         return self._lines[self._at] if self._at < len(self._lines) else None
 
     def take(self, word: str) -> str:
@@ -88,6 +90,7 @@ class Lines:
         return line[len(word) + 1 :]
 
     def next_line(self) -> str:
+        """Takes the next line. Raises ``ValueError`` where there is none."""
         line = self.peek()
         if line is None:
             raise ValueError("the text ends too early")
@@ -101,6 +104,7 @@ class Lines:
             yield line[2:]
 
     def end(self) -> None:
+        """Raises ``ValueError`` where there is one more line."""
         if (line := self.peek()) is not None:
             raise ValueError(f"line {self._at + 1}: {line!r} stands after the end")
 
@@ -156,6 +160,7 @@ class Target:
 
     @classmethod
     def parse(cls, text: str) -> Target:
+        """The target of a printed text, like ``old x, y``. Raises ``ValueError`` where it is none."""
         items = tuple(Item(word.removeprefix("old "), word.startswith("old ")) for word in text.split(", "))
         if any(not item.name or " " in item.name for item in items):
             raise ValueError(f"{text!r} is no target")
@@ -288,6 +293,7 @@ class Hyper(Printed):
         return {value: found[value] for value in ascending(found)}
 
     def records(self) -> list[dict[str, object]]:
+        """A row for each value of each inner: ``inner`` (from 0), ``outer``, ``value``, ``probability``."""
         return [
             {"inner": i, "outer": inner.outer, "value": format_value(x), "probability": p}
             for i, inner in enumerate(self.inners)
@@ -309,6 +315,7 @@ class Trace:
 
     @property
     def text(self) -> str:
+        """The values that are shown, as the program prints them: ``[0, true]``."""
         return f"[{', '.join(map(format_value, self.shown))}]"
 
 
@@ -330,6 +337,7 @@ class TraceTable(Printed):
         return cls(target, scale, tuple(traces))
 
     def records(self) -> list[dict[str, object]]:
+        """A row for each value of each trace: ``trace``, ``weight``, ``value``, ``joint``."""
         return [{"trace": t.text, "weight": t.probability, "value": format_value(x), "joint": p} for t in self.traces for x, p in t.joint.items()]
 
     def __str__(self) -> str:
@@ -396,6 +404,7 @@ class Attack(Printed):
         return cls(gain, tuple(moves))
 
     def records(self) -> list[dict[str, object]]:
+        """A row for each action of each inner: ``inner`` (from 0), ``outer``, ``vulnerability``, ``action``, ``gains``."""
         return [
             {"inner": i, "outer": m.outer, "vulnerability": m.value, "action": a, "gains": f}
             for i, m in enumerate(self.moves)
@@ -442,6 +451,7 @@ class Trail(Printed):
         return cls(tuple(counts))
 
     def records(self) -> list[dict[str, object]]:
+        """A row for each number of statements, from 0 on: ``after``, ``inners``."""
         return [{"after": i, "inners": count} for i, count in enumerate(self.inners)]
 
     def __str__(self) -> str:
@@ -476,6 +486,7 @@ class Blame(Printed):
         return cls(whole, tuple(without))
 
     def records(self) -> list[dict[str, object]]:
+        """A row for the whole program, and one for each statement without which it was run: ``program``, ``inners``, ``bayes``."""
         lines = [("all", self.all), *((f"without {i}", line) for i, line in enumerate(self.without))]
         return [{"program": name, "inners": line.inners, "bayes": line.bayes} for name, line in lines]
 
@@ -592,6 +603,7 @@ class Verdict(Printed):
         return cls(False, None, GainTable(over, rest, tuple(actions)))
 
     def records(self) -> list[dict[str, object]]:
+        """The proof: a row for each inner with its entries of the matrix, or one for each gain of the table."""
         if self.matrix is not None:
             return [{"inner": i, **{f"to {j}": entry for j, entry in enumerate(row)}} for i, row in enumerate(self.matrix.rows)]
         assert self.table is not None
@@ -631,6 +643,7 @@ class Mark(Printed):
 
     @property
     def accepted(self) -> bool:
+        """Whether the certificate proves its verdict."""
         return self.rejected is None
 
     @classmethod

@@ -30,6 +30,7 @@ class Words(argparse.ArgumentParser):
     """A reader of words. It raises ``ValueError`` for other words, where a command would end the process."""
 
     def error(self, message: str) -> Any:
+        """Raises what is wrong."""
         raise ValueError(message)
 
 

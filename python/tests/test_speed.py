@@ -1,0 +1,46 @@
+"""How long a small question takes through the open worker, and how long a large answer takes to be read: by the library, the best of some runs."""
+
+import os
+import time
+
+import pytest
+
+from kuifje import Engine, Hyper, Program
+from kuifje._protocol import LIBRARY
+
+pytestmark = pytest.mark.whole
+
+
+def best(runs, question):
+    """Seconds of the shortest of some runs."""
+    found = []
+    for _ in range(runs):
+        start = time.perf_counter()
+        question()
+        found.append(time.perf_counter() - start)
+    return min(found)
+
+
+@pytest.fixture
+def engine():
+    if not os.environ.get(LIBRARY):
+        pytest.skip(f"{LIBRARY} names no library")
+    engine = Engine()
+    yield engine
+    engine.close()
+
+
+def test_a_small_question_takes_less_than_a_millisecond(engine):
+    program = Program("var x : 0..3 := uniform 0..3;\nabout old x;\nobserve x mod 2;\n", engine=engine)
+    seconds = best(500, program.leak)
+    print(f"a small question: {seconds * 1e6:.0f} microseconds")
+    assert seconds < 0.001
+
+
+def test_a_hyper_of_65536_inners_is_read_in_less_than_a_second(engine):
+    program = Program("var x : 0..65535 := uniform 0..65535;\nabout old x;\nobserve x;\n", engine=engine)
+    asked = best(5, program.hyper)
+    text = str(program.hyper())
+    read = best(5, lambda: Hyper.parse(text))
+    print(f"a hyper of 65,536 inners: {asked:.2f} seconds, of which {read:.2f} are for reading it")
+    assert len(program.hyper().inners) == 65536 and read < 1

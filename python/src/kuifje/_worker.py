@@ -56,7 +56,9 @@ def _end_with(parent: int) -> None:
     """Ends this process, and a program that it has started, once its parent is gone."""
     while os.getppid() == parent:
         time.sleep(1)
-    os.killpg(0, signal.SIGKILL)
+    if os.getpgrp() == os.getpid():
+        os.killpg(0, signal.SIGKILL)
+    os._exit(1)
 
 
 def serve(source: BinaryIO, sink: BinaryIO) -> None:

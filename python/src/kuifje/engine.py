@@ -16,6 +16,7 @@ import threading
 import time
 import weakref
 from collections.abc import Mapping, Sequence
+from pathlib import Path
 from typing import IO
 
 from ._protocol import HEAD, LIBRARY, NAME, PROGRAM, VERSION_LENGTH, WANT_OF_MEMORY
@@ -25,6 +26,7 @@ from .errors import KuifjeError, TooLarge
 __all__ = ["Answer", "Engine", "default_engine"]
 
 GIGABYTE = 1 << 30
+PACKAGES = str(Path(__file__).resolve().parents[1])  # where the worker finds this package, and nothing else but the standard library
 ANSWER_SHARE = 32  # an answer may have one byte for so many bytes of memory, since its objects here take about as many times its text
 
 
@@ -83,12 +85,12 @@ class Engine:
         """The worker, started where none runs. Raises ``KuifjeError`` where it has nothing to run."""
         if self._worker is None or self._worker.poll() is not None:
             self._worker = subprocess.Popen(
-                [sys.executable, "-m", "kuifje._worker", str(self.memory), str(os.getpid())],
+                [sys.executable, "-P", "-S", "-m", "kuifje._worker", str(self.memory), str(os.getpid())],
                 stdin=subprocess.PIPE,
                 stdout=subprocess.PIPE,
                 bufsize=0,
                 start_new_session=True,
-                env={**os.environ, "PYTHONPATH": os.pathsep.join(filter(None, sys.path)), "MALLOC_ARENA_MAX": "1"},
+                env={**os.environ, "PYTHONPATH": PACKAGES, "MALLOC_ARENA_MAX": "1"},
             )
             assert self._worker.stdout is not None
             try:

@@ -150,7 +150,7 @@ def test_a_worker_ends_with_its_process(tmp_path, monkeypatch):
     stand_in(tmp_path, monkeypatch, f"echo $$ > {tmp_path}/pid; exec sleep 100")
     script = "from kuifje import Program; Program('skip;').hyper()"
     process = subprocess.Popen([sys.executable, "-c", script], env={**os.environ, "PYTHONPATH": os.pathsep.join(sys.path)})
-    deadline = time.monotonic() + 20
+    deadline = time.monotonic() + 120
     while not ((tmp_path / "pid").exists() and (tmp_path / "pid").read_text().strip()) and time.monotonic() < deadline:
         time.sleep(0.05)
     pid = int((tmp_path / "pid").read_text())

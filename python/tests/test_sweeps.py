@@ -133,7 +133,7 @@ def test_a_worker_of_a_cluster_is_ended_in_the_middle():
         ended = next(iter(pids.values()))
         assert thread.is_alive() and ended != os.getpid()
         os.kill(ended, signal.SIGKILL)
-        thread.join(120)
+        thread.join(600)
         (frame,) = found
         assert [(row.n, row.t, row.posterior) for row in frame.itertuples()] == [(n, t, posterior(n, t)) for n in range(10, 30) for t in (1, 2, 3)]
         assert set(pids.values()) - {ended} <= set(frame["pid"])

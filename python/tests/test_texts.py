@@ -32,6 +32,12 @@ HALF = Fraction(1, 2)
 HYPER = Hyper.parse("target old x\nscale 4\ninners 2\ninner 0 outer 3/4\n  {0} 1\ninner 1 outer 1/4\n  {} 1/2\n  {1} 1/2\n")
 
 
+def test_a_hyper_has_outers_and_a_prior():
+    """{} and {1} come of the second inner alone, with half of 1/4 each; the prior's values ascend."""
+    assert HYPER.outers == (Fraction(3, 4), Fraction(1, 4))
+    assert list(HYPER.prior.items()) == [(frozenset(), Fraction(1, 8)), (frozenset({0}), Fraction(3, 4)), (frozenset({1}), Fraction(1, 8))]
+
+
 def test_an_answer_shows_what_the_program_printed():
     assert repr(HYPER) == f"<Hyper>\n{HYPER}".rstrip()
     trail = texts.Trail(tuple(range(1, 100)))

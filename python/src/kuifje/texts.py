@@ -283,6 +283,11 @@ class Hyper(Printed):
             inners.append(Inner(read_fraction(outer), _weights(lines.indented())))
         return cls(target, scale, tuple(inners))
 
+    @property
+    def outers(self) -> tuple[Fraction, ...]:
+        """The probability of each inner, in their order; they sum to 1."""
+        return tuple(inner.outer for inner in self.inners)
+
     @cached_property
     def prior(self) -> dict[Value, Fraction]:
         """The distribution of the target before anything is seen: the average of the inners by their outers, its values ascending."""

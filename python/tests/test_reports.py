@@ -108,5 +108,5 @@ def test_a_report_is_drawn_by_a_browser(pins, tmp_path):
         f"--user-data-dir={tmp_path / 'profile'}",
         "--dump-dom",
     ]
-    done = subprocess.run([*words, (tmp_path / "report.html").as_uri()], capture_output=True, text=True, timeout=120, check=True)
+    done = subprocess.run([*words, (tmp_path / "report.html").as_uri()], capture_output=True, text=True, timeout=300, check=True)
     assert re.search(r"<title>(.*)</title>", done.stdout)[1] == ",".join(["true"] * 7)

@@ -9,8 +9,9 @@ from __future__ import annotations
 import os
 import threading
 import warnings
-from collections.abc import Callable, Iterable, Iterator, Mapping, Sequence
+from collections.abc import Callable, Iterable, Mapping, Sequence
 from concurrent.futures import Executor, Future, ProcessPoolExecutor, as_completed
+from contextlib import AbstractContextManager, nullcontext
 from dataclasses import dataclass
 from itertools import product
 from pathlib import Path
@@ -121,26 +122,29 @@ def sweep(
     template = template if isinstance(template, Template) else Template.from_file(template)
     listed = points(grid)
     task = _Task(template, measure, turns, timeout, memory, None if cache is None else Path(cache).resolve())
-    if executor is None:
-        with ProcessPoolExecutor() as pool:
-            rows = list(_rows(pool, task, listed, progress))
-    else:
-        rows = list(_rows(executor.get_executor(pure=False) if hasattr(executor, "get_executor") else executor, task, listed, progress))
+    with _opened(executor) as opened:
+        rows = _rows(opened, task, listed, progress)
     found = dict.fromkeys(name for row in rows for name in row if name not in REFUSED)
     return pandas.DataFrame([{**dict.fromkeys([*found, *REFUSED]), **row} for row in rows], dtype=object)
 
 
-def _rows(executor: Executor, task: _Task, listed: list[dict[str, object]], progress: bool) -> Iterator[dict[str, object]]:
-    """The rows of points, in their order, as the executor finds them."""
+def _opened(executor: Executor | Any) -> AbstractContextManager[Executor]:
+    """The executor of a sweep: a pool of processes that ends with it where none is given, and that of a client where it is one."""
+    if executor is None:
+        return ProcessPoolExecutor()
+    return nullcontext(executor.get_executor(pure=False) if hasattr(executor, "get_executor") else executor)
+
+
+def _rows(executor: Executor, task: _Task, listed: list[dict[str, object]], progress: bool) -> list[dict[str, object]]:
+    """The rows of points, in their order, once the executor has found them all. Those that wait are given up where one raises."""
     futures: list[Future[dict[str, object]]] = [executor.submit(task, point) for point in listed]
     try:
-        for _ in _tracked(as_completed(futures), len(futures), progress):
-            pass
-        return iter([future.result() for future in futures])
-    except BaseException:
+        for future in _tracked(as_completed(futures), len(futures), progress):
+            future.result()
+    finally:
         for future in futures:
             future.cancel()
-        raise
+    return [future.result() for future in futures]
 
 
 def _tracked(done: Iterable[Future[dict[str, object]]], total: int, progress: bool) -> Iterable[Future[dict[str, object]]]:

@@ -1,11 +1,13 @@
 """The C library is called as its header says: a stand-in in C that answers with what it was called with."""
 
+import os
 import shutil
 import subprocess
+import sys
 
 import pytest
 
-from kuifje._library import LIBRARY, Library, load
+from kuifje._library import LIBRARY, NAME, Library, load
 
 STAND_IN = r"""
 #include <stddef.h>
@@ -66,6 +68,17 @@ def test_a_call_hands_over_words_and_files(tmp_path):
 def test_the_environment_names_the_library(tmp_path, monkeypatch):
     monkeypatch.setenv(LIBRARY, built_as(tmp_path, 2001))
     assert load().run(["x"], {})[0] == 2
+
+
+def test_the_systems_library_is_found_by_its_name(tmp_path):
+    """Where it stands is what this process has mapped; where there is none there is none."""
+    built = built_as(tmp_path, 1000)
+    shutil.copy(built, tmp_path / NAME)
+    script = "from kuifje._library import load; library = load(); print(library and library.path)"
+    for folder, wanted in ((tmp_path, str(tmp_path / NAME)), (tmp_path / "empty", None)):
+        environment = {"PYTHONPATH": os.pathsep.join(sys.path), "LD_LIBRARY_PATH": str(folder)}
+        found = subprocess.run([sys.executable, "-c", script], env=environment, capture_output=True, text=True, check=True).stdout.strip()
+        assert found == wanted or wanted is None and (found == "None" or NAME in found)
 
 
 def test_another_major_version_is_refused(tmp_path):

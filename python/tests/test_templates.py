@@ -34,6 +34,10 @@ def test_values_and_tables_are_written_in_the_language():
     )
 
 
+def test_a_value_may_have_any_name():
+    assert Template("{{ values }} {{ text }}").program({"values": 1, "text": 2, "self": 3}).text == b"1 2"
+
+
 def test_a_table_halves():
     """256 numbers: 8 brackets deep, and each at its place."""
     numbers = [n * 7 % 256 for n in range(256)]

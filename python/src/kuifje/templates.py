@@ -167,7 +167,7 @@ class Template:
         """The template in a file; it may include those in the same folder."""
         return cls(Path(path).read_text(encoding="utf-8"), Path(path).name, Path(path).resolve().parent)
 
-    def expand(self, **values: object) -> Expansion:
+    def expand(self, /, **values: object) -> Expansion:
         """The text with these values. Raises ``BadTemplate`` where there is none."""
         text, _ = self._rendered(values, marked=False)
         marked, sources = self._rendered(values, marked=True)

@@ -46,7 +46,7 @@ def test_a_pair_without_a_verdict_is_open():
     assert found.open == (("b", "c"),) and found.refines("b", "c") is None
     assert found.records()[1] == {"program": "b", "a": "no", "b": "yes", "c": "?"}
     assert "it isn't known whether c leaks no more than b: long\n" in str(found)
-    assert "<td>?</td>" in found._repr_html_()
+    assert "<td>?</td>" in found._repr_html_() and repr(found) == f"<Order>\n{found}".rstrip()
 
 
 def test_what_follows_from_other_verdicts_is_known():

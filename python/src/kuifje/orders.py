@@ -35,7 +35,7 @@ class Pair:
     cause: KuifjeError | None = None
 
 
-@dataclass(frozen=True)
+@dataclass(frozen=True, repr=False)
 class Order:
     """The refinement order of programs, by their names; ``pairs[a, b]`` says whether ``b`` leaks no more than ``a``."""
 
@@ -102,6 +102,9 @@ class Order:
         lines += [f"{' = '.join(b)} leaks less than {' = '.join(a)}" for a, b in self.edges]
         lines += [f"it isn't known whether {b} leaks no more than {a}: {self.pairs[a, b].cause}" for a, b in self.open]
         return "".join(f"{line}\n" for line in lines)
+
+    def __repr__(self) -> str:
+        return f"<Order>\n{self}".rstrip()
 
     def to_pandas(self) -> pandas.DataFrame:
         """The table of ``records`` as a data frame."""

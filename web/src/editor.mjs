@@ -1,0 +1,107 @@
+// An editor for one program: the language's colours, a refusal at its place, and what each statement leaks in the margin.
+import CodeMirror from "codemirror";
+import { element } from "./elements.mjs";
+import { WORDS, characterAt } from "./programs.mjs";
+
+const KINDS = { declaration: "def", type: "type", statement: "keyword", distribution: "builtin", constant: "atom", operator: "operator", function: "builtin" };
+/** @type {Record<string, string>} */
+const KIND_OF = {};
+for (const [kind, words] of Object.entries(WORDS)) {
+    words.forEach((word) => {
+        KIND_OF[word] = /** @type {Record<string, string>} */ (KINDS)[kind];
+    });
+}
+const MARGIN = "blame-margin";
+
+CodeMirror.defineMode("kuifje", () => ({
+    token(/** @type {any} */ stream) {
+        if (stream.eatSpace()) {
+            return null;
+        }
+        if (stream.match(/^#.*/)) {
+            return "comment";
+        }
+        if (stream.match(/^[0-9]+/)) {
+            return "number";
+        }
+        if (stream.match(/^(:=|\.\.|!=|<=|>=|[=<>+\-*/])/)) {
+            return "operator";
+        }
+        const word = stream.match(/^[A-Za-z_][A-Za-z0-9_]*/);
+        if (word) {
+            return KIND_OF[word[0]] || "variable";
+        }
+        stream.next();
+        return null;
+    },
+    lineComment: "#",
+}));
+
+/**
+ * @param {HTMLElement} parent
+ * @param {string} label what a screen reader calls it
+ * @param {() => void} onChange is called after each change of the text, be it typed or set
+ */
+export function createEditor(parent, label, onChange) {
+    const editor = CodeMirror(parent, {
+        mode: "kuifje", lineNumbers: true, indentUnit: 2, lineWrapping: true, inputStyle: "contenteditable", viewportMargin: 30,
+        screenReaderLabel: label, spellcheck: false, gutters: ["CodeMirror-linenumbers", MARGIN],
+        // The key moves on to the next part of the page, as everywhere.
+        extraKeys: { Tab: false, "Shift-Tab": false },
+    });
+    /** @type {any[]} */
+    let marks = [];
+    editor.on("change", onChange);
+
+    function clear() {
+        marks.forEach((mark) => mark.clear());
+        marks = [];
+    }
+
+    return {
+        /** @returns {string} */
+        text: () => editor.getValue(),
+        /** @param {string} text */
+        set(text) {
+            if (text !== editor.getValue()) {
+                editor.setValue(text);
+            }
+        },
+        clear,
+        /**
+         * Marks the place of a refusal, and says below its line what it is.
+         * @param {number} line from 1 @param {number} column in bytes, from 1 @param {string} word @param {string} text
+         */
+        refuse(line, column, word, text) {
+            clear();
+            const number = Math.min(line - 1, editor.lastLine());
+            const whole = editor.getLine(number);
+            const from = line - 1 > number ? whole.length : characterAt(whole, column);
+            const after = /^([A-Za-z0-9_]+|.)?/u.exec(whole.slice(from));
+            const length = Math.max(after === null ? 0 : after[0].length, 1);
+            const isAtEnd = from >= whole.length;
+            marks.push(editor.markText({ line: number, ch: isAtEnd ? Math.max(from - 1, 0) : from }, { line: number, ch: from + length }, { className: "refused" }));
+            const note = element("div", { class: "refusal-note" }, element("strong", {}, `▲ ${word}`), text === "" ? "" : `: ${text}`);
+            marks.push(editor.addLineWidget(number, note));
+            editor.addLineClass(number, "background", "refused-line");
+            marks.push({ clear: () => editor.removeLineClass(number, "background", "refused-line") });
+        },
+        /**
+         * Writes a word in the margin of lines. @param {{ line: number, text: string, title: string, isStrong: boolean }[]} words
+         */
+        blame(words) {
+            editor.clearGutter(MARGIN);
+            words.forEach(({ line, text, title, isStrong }) => {
+                editor.setGutterMarker(line, MARGIN, element("div", { class: isStrong ? "blamed" : "unblamed", title }, text));
+            });
+        },
+        /** @param {number} line @param {number} column */
+        goTo(line, column) {
+            const number = Math.min(line - 1, editor.lastLine());
+            editor.focus();
+            editor.setCursor({ line: number, ch: characterAt(editor.getLine(number), column) });
+        },
+        focus: () => editor.focus(),
+        refresh: () => editor.refresh(),
+    };
+}

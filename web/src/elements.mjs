@@ -1,0 +1,55 @@
+// Elements of the page. A text becomes a text node and nothing else: no text of a program, a link or an answer is ever read as markup.
+
+/** @typedef {Node | string | null | false} Child */
+
+/**
+ * @template {keyof HTMLElementTagNameMap} K
+ * @param {K} name
+ * @param {Record<string, any>} attributes a function is called when the event of that name comes; true is an attribute without a value
+ * @param {...Child} children
+ * @returns {HTMLElementTagNameMap[K]}
+ */
+export function element(name, attributes, ...children) {
+    const made = document.createElement(name);
+    for (const [key, value] of Object.entries(attributes)) {
+        if (typeof value === "function") {
+            made.addEventListener(key, value);
+        } else if (value !== false && value !== null) {
+            made.setAttribute(key, value === true ? "" : String(value));
+        }
+    }
+    made.append(.../** @type {(Node | string)[]} */ (children.filter((child) => child !== null && child !== false)));
+    return made;
+}
+
+/** @param {string} id @returns {any} the page's element of this name */
+export function byId(id) {
+    const found = document.getElementById(id);
+    if (found === null) {
+        throw new Error(`the page has no ${id}`);
+    }
+    return found;
+}
+
+/** @param {Element} parent @param {...Child} children */
+export function fill(parent, ...children) {
+    parent.replaceChildren(.../** @type {(Node | string)[]} */ (children.filter((child) => child !== null && child !== false)));
+}
+
+/**
+ * A table with its heads above. A cell that is a text stands in a cell of its own.
+ * @param {string} caption
+ * @param {(Child)[]} heads
+ * @param {(Child)[][]} rows the first cell of each row is its head
+ */
+export function table(caption, heads, rows) {
+    const head = element("thead", {}, element("tr", {}, ...heads.map((it) => element("th", { scope: "col" }, it))));
+    const body = rows.map((row) => element("tr", {}, ...row.map((cell, index) => (index === 0 ? element("th", { scope: "row" }, cell) : element("td", {}, cell)))));
+    const made = element("table", {}, element("caption", {}, caption), head, element("tbody", {}, ...body));
+    return element("div", { class: "scroll", tabindex: "0", role: "region", "aria-label": caption }, made);
+}
+
+/** @param {string} text @param {() => void} action @param {Record<string, any>} [more] */
+export function button(text, action, more) {
+    return element("button", { type: "button", click: action, ...more }, text);
+}

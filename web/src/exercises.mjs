@@ -1,0 +1,158 @@
+// An exercise: what is asked, fields for the numbers that were worked out by hand, and its solution, hidden until it is asked for. What is right
+// the program says: it is asked what the solution asks it, and its answer is compared.
+import { button, element, fill } from "./elements.mjs";
+import { fractionOf, isSame } from "./fractions.mjs";
+import { blameOf, hyperOf, reportOf, tracesOf, trailOf } from "./answers.mjs";
+import { wordsOf, namesIn } from "./commands.mjs";
+import { blocksOf } from "./reader.mjs";
+
+/** @typedef {import("./reader.mjs").Place} Place */
+/** @typedef {{ label: string, right: string[], isOrdered: boolean }} Field what is asked for, and the words that are right */
+
+/** @param {string} text @param {string} word */
+const lineOf = (text, word) => (new RegExp(`^${word} (.*)$`, "m").exec(text) || ["", ""])[1];
+
+/** Which fields a command's answer has. @param {string[]} words @param {string} out @returns {Field[]} */
+function fieldsOf(words, out) {
+    const one = (/** @type {string} */ label, /** @type {string} */ right) => ({ label, right: [right], isOrdered: true });
+    const many = (/** @type {string} */ label, /** @type {string[]} */ right, /** @type {boolean} */ isOrdered) => ({ label, right, isOrdered });
+    switch (words[0]) {
+        case "leak": {
+            const { prior, posterior, quotient, difference } = reportOf(out);
+            return [one("prior", prior), one("posterior", posterior), one("quotient", quotient), one("difference", difference)];
+        }
+        case "hyper":
+        case "quiet":
+            return [many("outer probabilities, in any order", hyperOf(out).groups.map((it) => it.weight), false)];
+        case "traces":
+            return [many("joint probabilities, in any order", tracesOf(out).groups.flatMap((it) => it.shares.map(({ share }) => share)), false)];
+        case "channel":
+            return [many("cells, row by row", out.split("\n").filter((line) => line.startsWith("  ")).map((line) => line.trim()), true)];
+        case "capacity":
+            return [one("capacity", lineOf(out, "capacity"))];
+        case "cascade":
+        case "parallel":
+        case "choice":
+            return ["first", "second", "both"].map((word) => one(`capacity, ${word}`, lineOf(out, word)));
+        case "reach":
+            return [one("tries", lineOf(out, "tries")), one("posterior", lineOf(out, "posterior"))];
+        case "attack":
+            return [many("values of the inners, in any order", (out.match(/ value \S+$/gm) || []).map((it) => it.slice(" value ".length)), false)];
+        case "blame": {
+            const { all, without } = blameOf(out);
+            return [many("one guess: of all, then without each statement", [all, ...without].map(({ bayes }) => bayes), true)];
+        }
+        case "trail":
+            return [many("posteriors after each statement, from the declarations on", trailOf(out), true)];
+        case "refine":
+        case "covers":
+            return [one("yes or no", lineOf(out, "refines"))];
+        case "check":
+            return [one("accepted, or rejected and a rule", out.trim())];
+        default:
+            return [];
+    }
+}
+
+/** @param {string} a @param {string} b */
+function isEqual(a, b) {
+    const [f, g] = [fractionOf(a), fractionOf(b)];
+    return f !== null && g !== null ? isSame(f, g) : a.trim().toLowerCase() === b.trim().toLowerCase();
+}
+
+/** Whether what was typed is right. @param {Field} field @param {string} typed */
+function isRight(field, typed) {
+    const words = field.right.length === 1 ? [typed] : typed.split(/[\s,;]+/).filter((word) => word !== "");
+    if (words.length !== field.right.length) {
+        return false;
+    }
+    const left = [...field.right];
+    return words.every((word, index) => {
+        const at = field.isOrdered ? (isEqual(left[index], word) ? index : -1) : left.findIndex((right) => isEqual(right, word));
+        if (at >= 0 && !field.isOrdered) {
+            left.splice(at, 1);
+        }
+        return at >= 0;
+    });
+}
+
+/** The commands of a solution that ask the program and nothing else. @param {any[]} blocks */
+function commandsOf(blocks) {
+    const lines = blocks.filter((block) => block.t === "code" && block.kind === "console").flatMap((block) => block.text.split("\n"));
+    const found = lines.filter((line) => line.startsWith("$ ")).map((line) => wordsOf(line.slice(2)));
+    return /** @type {string[][]} */ (found.filter((words) => words !== null));
+}
+
+/** A command with the solution's own programs by a name that says nothing of them. @param {string[]} words */
+const disguised = (words) => words.map((word) => word.replace(/course\/solutions\/\S+\.(kf|json)/, (_, kind) => (kind === "kf" ? "your program" : "your table"))).join(" ");
+
+/**
+ * @param {Place} place @param {string[]} words @param {Record<string, string>} files
+ */
+function checkOf(place, words, files) {
+    const result = element("div", { role: "status", class: "check" });
+    const fields = element("div", { class: "fields" });
+    const own = namesIn(words).programs.filter((name) => name.startsWith("course/solutions/"));
+    const begin = async () => {
+        const outcome = await place.host.ask(words, files);
+        if (outcome.kind !== "answer" || outcome.status > 1) {
+            fill(result, "The program has no answer here.");
+            return;
+        }
+        const wanted = fieldsOf(words, outcome.out);
+        const inputs = wanted.map((field) => element("input", { type: "text", autocomplete: "off", spellcheck: "false" }));
+        const check = () => {
+            const right = wanted.map((field, index) => isRight(field, inputs[index].value));
+            inputs.forEach((input, index) => input.setAttribute("aria-invalid", String(!right[index])));
+            const wrong = wanted.filter((_, index) => !right[index]).map(({ label }) => label);
+            fill(result, wrong.length === 0 ? "✓ Right: the program has the same." : `✗ Not yet: ${wrong.join("; ")}.`);
+        };
+        const submit = (/** @type {Event} */ event) => {
+            event.preventDefault();
+            check();
+        };
+        fill(fields, element("form", { submit }, ...wanted.map((field, index) => element("label", {}, `${field.label} `, inputs[index])), element("button", { type: "submit" }, "Check")));
+        if (inputs.length > 0) {
+            inputs[0].focus();
+        }
+    };
+    const compare = async () => {
+        const right = await place.host.ask(words, files);
+        const tried = await place.host.ask(words, { ...files, [own[0]]: place.host.program() });
+        if (right.kind !== "answer" || tried.kind !== "answer") {
+            fill(result, "The program has no answer here.");
+        } else if (tried.status > 1) {
+            fill(result, `✗ Your program is refused: ${tried.err.trim()}`);
+        } else {
+            const withoutNames = (/** @type {string} */ out) => out.replace(/^target .*\n/, "").replace(/^scale .*\n/m, "");
+            const isLike = withoutNames(right.out) === withoutNames(tried.out);
+            fill(result, isLike ? "✓ Of your program the answer is the same as of the solution." : "✗ Of your program the answer is another one than of the solution.");
+        }
+    };
+    return element("div", { class: "asked" }, element("code", {}, disguised(words)), " ", button("Check my numbers", begin),
+        own.length === 1 && button("Check my program", compare, { title: "asks this of the text in the first editor" }), fields, result);
+}
+
+/** @param {Place} place @param {import("./library.mjs").Exercise} exercise @param {number} number */
+export function exerciseOf(place, exercise, number) {
+    const files = { ...place.files };
+    exercise.solved.forEach((block) => {
+        if (block.name !== undefined) {
+            files[block.name] = block.text;
+        }
+    });
+    const inside = element("div", {});
+    const solution = element("details", { class: "solution", toggle: () => {
+        if (solution.open && inside.childNodes.length === 0) {
+            fill(inside, ...blocksOf({ ...place, files }, exercise.solved));
+        }
+    } }, element("summary", {}, "Solution"), inside);
+    const seen = new Set();
+    const commands = commandsOf(exercise.solved).filter((words) => {
+        const isNew = !seen.has(words.join(" ")) && words.every((word) => !/\.(kf|json)$/.test(word) || word.replace(/^table:/, "") in files);
+        seen.add(words.join(" "));
+        return isNew;
+    });
+    return element("section", { class: "exercise", "aria-label": `Exercise ${number}` }, element("h4", {}, `Exercise ${number}`),
+        ...blocksOf(place, exercise.asked), ...commands.map((words) => checkOf(place, words, files)), solution);
+}

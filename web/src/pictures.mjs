@@ -1,0 +1,205 @@
+// Pictures of answers, drawn with D3. Each has a text for screen readers, and beside it stands the table that it shows. Colours are safe for
+// colour-blind people: those of Okabe and Ito for a few values, cividis for many and for probabilities.
+import { select } from "d3-selection";
+import { scaleLinear } from "d3-scale";
+import { interpolateCividis } from "d3-scale-chromatic";
+import { linkHorizontal } from "d3-shape";
+import { NOTHING, fractionOf, near, printed, product, sum } from "./fractions.mjs";
+
+/** @typedef {import("./answers.mjs").Groups} Groups */
+
+const FEW = ["#e69f00", "#56b4e9", "#009e73", "#f0e442", "#0072b2", "#d55e00", "#cc79a7", "#999999"];
+const WIDTH = 760;
+const MOST_CELLS = 6000;
+
+/** @param {string} text */
+const size = (text) => near(fractionOf(text) || NOTHING);
+
+/** Whether dark letters can be read on a colour. @param {string} colour as #rrggbb or rgb(r, g, b) */
+function isLight(colour) {
+    const parts = colour.startsWith("#") ? [1, 3, 5].map((at) => parseInt(colour.slice(at, at + 2), 16)) : (colour.match(/\d+/g) || []).map(Number);
+    return 0.299 * parts[0] + 0.587 * parts[1] + 0.114 * parts[2] > 140;
+}
+
+/** @param {number} height @param {string} label */
+function canvas(height, label) {
+    const svg = document.createElementNS("http://www.w3.org/2000/svg", "svg");
+    svg.setAttribute("viewBox", `0 0 ${WIDTH} ${height}`);
+    svg.setAttribute("role", "img");
+    svg.setAttribute("aria-label", label);
+    svg.setAttribute("class", "picture");
+    return { svg, drawing: select(svg) };
+}
+
+/**
+ * @param {any} drawing
+ * @param {{ x: number, y: number, width: number, height: number, fill: string, label: string, title: string, name?: string }[]} boxes
+ */
+function boxes(drawing, boxes) {
+    const all = drawing.append("g").selectAll("g").data(boxes).enter().append("g");
+    all.append("rect").attr("x", (/** @type {any} */ it) => it.x).attr("y", (/** @type {any} */ it) => it.y)
+        .attr("width", (/** @type {any} */ it) => Math.max(it.width, 0.5)).attr("height", (/** @type {any} */ it) => Math.max(it.height, 0.5))
+        .attr("fill", (/** @type {any} */ it) => it.fill).attr("class", "box");
+    all.append("title").text((/** @type {any} */ it) => it.title);
+    all.filter((/** @type {any} */ it) => it.height >= 15 && it.width >= 9 * it.label.length).append("text")
+        .attr("x", (/** @type {any} */ it) => it.x + it.width / 2).attr("y", (/** @type {any} */ it) => it.y + it.height / 2)
+        .attr("class", "box-label").attr("fill", (/** @type {any} */ it) => (isLight(it.fill) ? "#000000" : "#ffffff")).text((/** @type {any} */ it) => it.label);
+}
+
+/** @param {any} drawing @param {{ x: number, y: number, text: string, anchor?: string, isStrong?: boolean }[]} labels */
+function labels(drawing, labels) {
+    drawing.append("g").selectAll("text").data(labels).enter().append("text").attr("x", (/** @type {any} */ it) => it.x)
+        .attr("y", (/** @type {any} */ it) => it.y).attr("class", (/** @type {any} */ it) => (it.isStrong ? "label strong" : "label"))
+        .attr("text-anchor", (/** @type {any} */ it) => it.anchor || "middle").text((/** @type {any} */ it) => it.text);
+}
+
+/** The prior that a hyper averages to, its values in their order. @param {Groups} hyper */
+export function priorOf(hyper) {
+    /** @type {Map<string, import("./fractions.mjs").Fraction>} */
+    const found = new Map();
+    for (const group of hyper.groups) {
+        const outer = fractionOf(group.weight) || NOTHING;
+        for (const { value, share } of group.shares) {
+            const joint = product(outer, fractionOf(share) || NOTHING);
+            found.set(value, sum(found.get(value) || NOTHING, joint));
+        }
+    }
+    const values = [...found.keys()];
+    const isNumbers = values.every((value) => /^-?\d+$/.test(value));
+    values.sort((a, b) => (isNumbers ? Number(a) - Number(b) : a.localeCompare(b, "en", { numeric: true })));
+    return values.map((value) => ({ value, share: printed(found.get(value) || NOTHING) }));
+}
+
+/** A colour for each value. @param {string[]} values */
+function coloursOf(values) {
+    const colour = (/** @type {number} */ index) => (values.length <= FEW.length ? FEW[index] : interpolateCividis(index / (values.length - 1)));
+    return new Map(values.map((value, index) => [value, colour(index)]));
+}
+
+/**
+ * The hyper as columns: one for the prior, and one for each inner, as wide as it is likely. In a column each value is as high as it is likely,
+ * so that its area is its joint probability. null where it is too large for a picture.
+ * @param {Groups} hyper
+ */
+export function hyperPicture(hyper) {
+    const prior = priorOf(hyper);
+    const cells = hyper.groups.reduce((count, group) => count + group.shares.length, 0);
+    if (!hyper.isWhole || cells > MOST_CELLS) {
+        return null;
+    }
+    const colours = coloursOf(prior.map(({ value }) => value));
+    const height = 330;
+    const top = 26;
+    const y = scaleLinear([0, 1], [top, height - 44]);
+    const gap = Math.min(6, 120 / hyper.groups.length);
+    const x = scaleLinear([0, 1], [150, WIDTH - 10 - gap * hyper.groups.length]);
+    /** @type {any[]} */
+    const drawn = [];
+    /** @type {any[]} */
+    const texts = [{ x: 60, y: 16, text: "prior", isStrong: true }, { x: 150, y: 16, text: "posteriors (inners)", anchor: "start", isStrong: true }];
+    const column = (/** @type {number} */ left, /** @type {number} */ width, /** @type {import("./answers.mjs").Share[]} */ shares, /** @type {string} */ name) => {
+        let from = 0;
+        for (const { value, share } of shares) {
+            const to = from + size(share);
+            drawn.push({ x: left, y: y(from), width, height: y(to) - y(from) - 1, fill: colours.get(value), label: value, title: `${name}: ${value} with probability ${share}` });
+            from = to;
+        }
+    };
+    column(10, 100, prior, "prior");
+    let from = 0;
+    hyper.groups.forEach((group, index) => {
+        const to = from + size(group.weight);
+        const left = x(from) + gap * index;
+        const width = x(to) - x(from);
+        column(left, width, group.shares, `inner ${group.name}, outer ${group.weight}`);
+        if (width >= 9 * group.weight.length) {
+            texts.push({ x: left + width / 2, y: height - 28, text: group.weight, isStrong: true });
+        }
+        if (width >= 60) {
+            texts.push({ x: left + width / 2, y: height - 10, text: `inner ${group.name}` });
+        }
+        from = to;
+    });
+    texts.push({ x: 130, y: height - 28, text: "outer", anchor: "end" });
+    const said = hyper.groups.slice(0, 8).map((group) => `inner ${group.name} with outer probability ${group.weight}`).join(", ");
+    const { svg, drawing } = canvas(height, `Picture of the hyper: ${hyper.count} inners, ${said}. The table has all numbers.`);
+    boxes(drawing, drawn);
+    labels(drawing, texts);
+    return svg;
+}
+
+/**
+ * A matrix as a heat map: the likelier, the darker. null where it is too large.
+ * @param {string[][]} cells @param {string[]} rows their heads @param {string[]} columns their heads @param {string} label
+ */
+export function heatMap(cells, rows, columns, label) {
+    if (cells.length * columns.length > MOST_CELLS || rows.length === 0 || columns.length === 0) {
+        return null;
+    }
+    const left = 16 + 8 * Math.min(Math.max(...rows.map((it) => it.length)), 22);
+    const width = Math.min((WIDTH - left - 10) / columns.length, 130);
+    const height = Math.max(Math.min(44, 560 / rows.length), 3);
+    const colour = (/** @type {number} */ share) => interpolateCividis(1 - share);
+    const drawn = cells.flatMap((row, i) => row.map((cell, j) => ({
+        x: left + j * width, y: 28 + i * height, width: width - 1, height: height - 1, fill: colour(size(cell)), label: cell, title: `${rows[i]}, ${columns[j]}: ${cell}`,
+    })));
+    const shorter = (/** @type {string} */ text, /** @type {number} */ most) => (text.length > most ? `${text.slice(0, most - 1)}…` : text);
+    const heads = columns.map((text, j) => ({ x: left + (j + 0.5) * width, y: 18, text: shorter(text, Math.floor(width / 8)) })).filter(() => width >= 20);
+    const sides = rows.map((text, i) => ({ x: left - 8, y: 28 + (i + 0.5) * height + 5, text: shorter(text, 22), anchor: "end" })).filter(() => height >= 12);
+    const { svg, drawing } = canvas(36 + rows.length * height, label);
+    boxes(drawing, drawn);
+    labels(drawing, [...heads, ...sides]);
+    return svg;
+}
+
+/**
+ * How a matrix makes the inners of one hyper of those of another: bands as wide as what goes from one to the other.
+ * @param {string[]} from the outers of A @param {string[]} to those of B @param {string[][]} matrix
+ */
+export function flowPicture(from, to, matrix) {
+    if (from.length * to.length > 1000 || from.length > 60 || to.length > 60) {
+        return null;
+    }
+    const height = 300;
+    const tops = (/** @type {string[]} */ outers) => {
+        const gap = Math.min(12, 90 / outers.length);
+        const scale = scaleLinear([0, 1], [0, height - 40 - gap * (outers.length - 1)]);
+        let at = 0;
+        return outers.map((outer, index) => {
+            const top = 30 + scale(at) + gap * index;
+            at += size(outer);
+            return { top, height: scale(size(outer)) };
+        });
+    };
+    const left = tops(from);
+    const right = tops(to);
+    const used = { left: from.map(() => 0), right: to.map(() => 0) };
+    /** @type {any[]} */
+    const bands = [];
+    const link = linkHorizontal();
+    matrix.forEach((row, i) => row.forEach((cell, j) => {
+        const share = size(cell);
+        if (share > 0 && to[j] !== undefined) {
+            const leaving = left[i].height * share;
+            const arriving = right[j].height * Math.min((size(from[i]) * share) / size(to[j]), 1);
+            const path = link({ source: [130, left[i].top + used.left[i] + leaving / 2], target: [WIDTH - 130, right[j].top + used.right[j] + arriving / 2] });
+            bands.push({ path, width: Math.max((leaving + arriving) / 2, 1), title: `inner ${i} of A goes to inner ${j} of B with probability ${cell}`, fill: FEW[i % FEW.length] });
+            used.left[i] += leaving;
+            used.right[j] += arriving;
+        }
+    }));
+    const { svg, drawing } = canvas(height, `Picture of the matrix: how the ${from.length} inners of A become the ${to.length} inners of B. The table has its numbers.`);
+    const drawnBands = drawing.append("g").selectAll("path").data(bands).enter().append("path").attr("d", (/** @type {any} */ it) => it.path)
+        .attr("stroke-width", (/** @type {any} */ it) => it.width).attr("stroke", (/** @type {any} */ it) => it.fill).attr("class", "band");
+    drawnBands.append("title").text((/** @type {any} */ it) => it.title);
+    const bars = (/** @type {string[]} */ outers, /** @type {any[]} */ places, /** @type {number} */ x, /** @type {string} */ name, /** @type {boolean} */ isColoured) => outers.map((outer, i) => ({
+        x, y: places[i].top, width: 14, height: places[i].height, fill: isColoured ? FEW[i % FEW.length] : "#777777", label: "", title: `inner ${i} of ${name}, outer ${outer}`,
+    }));
+    boxes(drawing, [...bars(from, left, 116, "A", true), ...bars(to, right, WIDTH - 130, "B", false)]);
+    const sides = (/** @type {string[]} */ outers, /** @type {any[]} */ places, /** @type {number} */ x, /** @type {string} */ anchor) => outers.map((outer, i) => ({
+        x, y: places[i].top + places[i].height / 2 + 5, text: `${i}: ${outer}`, anchor,
+    }));
+    labels(drawing, [{ x: 110, y: 18, text: "inners of A", anchor: "end", isStrong: true }, { x: WIDTH - 110, y: 18, text: "inners of B", anchor: "start", isStrong: true },
+        ...sides(from, left, 108, "end"), ...sides(to, right, WIDTH - 108, "start")]);
+    return svg;
+}

@@ -13,7 +13,10 @@
 export const MOST = 200;
 const MOST_SHARES = 4000;
 
-/** The lines of a text, one at a time. @param {string} text */
+/**
+ * The lines of a text, one at a time.
+ * @param {string} text
+ */
 function lines(text) {
     let at = 0;
     return {
@@ -27,7 +30,10 @@ function lines(text) {
             at = end < 0 ? text.length : end + 1;
             return line;
         },
-        /** What the next line has behind this word. @param {string} word */
+        /**
+         * What the next line has behind this word.
+         * @param {string} word
+         */
         behind(word) {
             const line = this.next();
             if (line === null || !line.startsWith(`${word} `)) {
@@ -38,7 +44,10 @@ function lines(text) {
     };
 }
 
-/** A text and the fraction that stands last in its line. @param {string} line */
+/**
+ * A text and the fraction that stands last in its line.
+ * @param {string} line
+ */
 function apart(line) {
     const cut = line.lastIndexOf(" ");
     return { value: line.slice(2, cut), share: line.slice(cut + 1) };
@@ -46,7 +55,9 @@ function apart(line) {
 
 /**
  * A hyper or traces: what stands between the two words of a group's line is its name, what follows the second its weight.
- * @param {string} text @param {string} word @param {string} weight
+ * @param {string} text
+ * @param {string} word
+ * @param {string} weight
  * @returns {Groups}
  */
 function groups(text, word, weight) {
@@ -79,7 +90,10 @@ export const hyperOf = (text) => groups(text, "inner", "outer");
 /** @param {string} text */
 export const tracesOf = (text) => groups(text, "trace", "weight");
 
-/** @param {string} text @returns {Channel} */
+/**
+ * @param {string} text
+ * @returns {Channel}
+ */
 export function channelOf(text) {
     const from = lines(text);
     const target = from.behind("target");
@@ -107,14 +121,20 @@ export function channelOf(text) {
     return { target, count, columns, rows, rowCount };
 }
 
-/** @param {string} text @returns {Report} */
+/**
+ * @param {string} text
+ * @returns {Report}
+ */
 export function reportOf(text) {
     const from = lines(text);
     const [gain, prior, posterior, quotient, difference] = ["gain", "prior", "posterior", "quotient", "difference"].map((word) => from.behind(word));
     return { gain, prior, posterior, quotient, difference };
 }
 
-/** @param {string} text @returns {Blame} */
+/**
+ * @param {string} text
+ * @returns {Blame}
+ */
 export function blameOf(text) {
     const rows = text.trimEnd().split("\n").map((line) => {
         const found = /^(?:all|without \d+) inners (\S+) bayes (\S+)$/.exec(line);
@@ -126,12 +146,18 @@ export function blameOf(text) {
     return { all: rows[0], without: rows.slice(1) };
 }
 
-/** How many posteriors there are, after each number of statements. @param {string} text */
+/**
+ * How many posteriors there are, after each number of statements.
+ * @param {string} text
+ */
 export function trailOf(text) {
     return text.trimEnd().split("\n").map((line) => line.split(" ")[3]);
 }
 
-/** @param {string} text @returns {Verdict} */
+/**
+ * @param {string} text
+ * @returns {Verdict}
+ */
 export function verdictOf(text) {
     const from = lines(text);
     if (from.behind("refines") === "yes") {
@@ -158,7 +184,8 @@ export function verdictOf(text) {
 
 /**
  * What a line on standard error says: whose text is refused, where, and by which word.
- * @param {string} err @param {string[]} names of the files that are asked about
+ * @param {string} err
+ * @param {string[]} names of the files that are asked about
  * @returns {Refusal}
  */
 export function refusalOf(err, names) {
@@ -169,7 +196,10 @@ export function refusalOf(err, names) {
     return placed === null ? { file, line: 0, column: 0, word: rest } : { file, line: Number(placed[1]), column: Number(placed[2]), word: placed[3] };
 }
 
-/** The items of a target, each with whether it is read before the statements. @param {string} target */
+/**
+ * The items of a target, each with whether it is read before the statements.
+ * @param {string} target
+ */
 export function itemsOf(target) {
     return target.split(", ").map((item) => ({ isOld: item.startsWith("old "), name: item.replace(/^old /, "") }));
 }

@@ -17,9 +17,7 @@ function address() {
     return factory ? factory.createPolicy("kuifje-worker", { createScriptURL: () => url }).createScriptURL("") : url;
 }
 
-/**
- * @param {(run: Run | null) => void} onRun is called where a run begins, and with null where there is none any more
- */
+/** @param {(run: Run | null) => void} onRun is called where a run begins, and with null where there is none any more */
 export function createAsker(onRun) {
     const url = address();
     /** @type {Worker | null} */
@@ -142,7 +140,10 @@ export function createAsker(onRun) {
         setMegabytes(bound) {
             megabytes = bound;
         },
-        /** Takes one of the two modules, whatever this engine would take. @param {number} wanted */
+        /**
+         * Takes one of the two modules, whatever this engine would take.
+         * @param {number | null} wanted null for what it would take
+         */
         setKind(wanted) {
             stop();
             module = null;

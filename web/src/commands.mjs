@@ -1,19 +1,31 @@
 // Commands as the pages show them: which files they name, and which view of the page shows their answer.
 
-/** Which view shows a command's answer. The others are shown as the terminal shows them. @type {Record<string, string>} */
+/**
+ * Which view shows a command's answer. The others are shown as the terminal shows them.
+ * @type {Record<string, string>}
+ */
 const VIEW_OF = { hyper: "hyper", channel: "channel", leak: "leak", traces: "traces", blame: "lines", trail: "lines", refine: "refine", covers: "refine" };
 const PLAIN = /^kuifje ([a-z]+(?: [^\s|<>;&$`'"\\]+)*)(?: \| head -n 1)?$/;
 
-/** The words of a line that asks the program and does nothing else, or null. @param {string} line without the prompt */
+/**
+ * The words of a line that asks the program and does nothing else, or null.
+ * @param {string} line without the prompt
+ */
 export function wordsOf(line) {
     const found = PLAIN.exec(line.trim());
     return found === null ? null : found[1].split(" ");
 }
 
-/** What is typed between one space and the next. @param {string} line */
+/**
+ * What is typed between one space and the next.
+ * @param {string} line
+ */
 export const typedWords = (line) => line.trim().replace(/^kuifje\s+/, "").split(/\s+/).filter((word) => word !== "");
 
-/** The names among a command's words that are those of files. @param {string[]} words */
+/**
+ * The names among a command's words that are those of files.
+ * @param {string[]} words
+ */
 export function namesIn(words) {
     const names = words.slice(1).filter((word) => /\.(kf|json)$/.test(word)).map((word) => word.replace(/^table:/, ""));
     return { programs: names.filter((name) => name.endsWith(".kf")), tables: names.filter((name) => name.endsWith(".json")) };

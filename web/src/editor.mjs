@@ -70,7 +70,10 @@ export function createEditor(parent, label, onChange) {
         clear,
         /**
          * Marks the place of a refusal, and says below its line what it is.
-         * @param {number} line from 1 @param {number} column in bytes, from 1 @param {string} word @param {string} text
+         * @param {number} line from 1
+         * @param {number} column in bytes, from 1
+         * @param {string} word
+         * @param {string} text
          */
         refuse(line, column, word, text) {
             clear();
@@ -87,7 +90,8 @@ export function createEditor(parent, label, onChange) {
             marks.push({ clear: () => editor.removeLineClass(number, "background", "refused-line") });
         },
         /**
-         * Writes a word in the margin of lines. @param {{ line: number, text: string, title: string, isStrong: boolean }[]} words
+         * Writes a word in the margin of lines.
+         * @param {{ line: number, text: string, title: string, isStrong: boolean }[]} words
          */
         blame(words) {
             editor.clearGutter(MARGIN);
@@ -95,7 +99,10 @@ export function createEditor(parent, label, onChange) {
                 editor.setGutterMarker(line, MARGIN, element("div", { class: isStrong ? "blamed" : "unblamed", title }, text));
             });
         },
-        /** @param {number} line @param {number} column */
+        /**
+         * @param {number} line
+         * @param {number} column
+         */
         goTo(line, column) {
             const number = Math.min(line - 1, editor.lastLine());
             editor.focus();

@@ -22,7 +22,10 @@ export function element(name, attributes, ...children) {
     return made;
 }
 
-/** @param {string} id @returns {any} the page's element of this name */
+/**
+ * @param {string} id
+ * @returns {any} the page's element of this name
+ */
 export function byId(id) {
     const found = document.getElementById(id);
     if (found === null) {
@@ -31,7 +34,10 @@ export function byId(id) {
     return found;
 }
 
-/** @param {Element} parent @param {...Child} children */
+/**
+ * @param {Element} parent
+ * @param {...Child} children
+ */
 export function fill(parent, ...children) {
     parent.replaceChildren(.../** @type {(Node | string)[]} */ (children.filter((child) => child !== null && child !== false)));
 }
@@ -49,7 +55,11 @@ export function table(caption, heads, rows) {
     return element("div", { class: "scroll", tabindex: "0", role: "region", "aria-label": caption }, made);
 }
 
-/** @param {string} text @param {() => void} action @param {Record<string, any>} [more] */
+/**
+ * @param {string} text
+ * @param {() => void} action
+ * @param {Record<string, any>} [more]
+ */
 export function button(text, action, more) {
     return element("button", { type: "button", click: action, ...more }, text);
 }

@@ -30,7 +30,10 @@ export function kindOfEngine() {
     return WebAssembly.validate(WIDE) ? 64 : 32;
 }
 
-/** @param {number} memory @returns {Answer} */
+/**
+ * @param {number} memory
+ * @returns {Answer}
+ */
 function withoutMemory(memory) {
     return { status: WANT_OF_MEMORY, out: new Uint8Array(0), err: new Uint8Array(0), memory };
 }
@@ -72,6 +75,7 @@ function instance(module) {
  */
 function pool(pieces) {
     let length = 0;
+    /** @type {bigint[]} */
     const spans = [];
     for (const piece of pieces) {
         spans.push(BigInt(length), BigInt(length + piece.length));

@@ -9,58 +9,76 @@ import { blocksOf } from "./reader.mjs";
 /** @typedef {import("./reader.mjs").Place} Place */
 /** @typedef {{ label: string, right: string[], isOrdered: boolean }} Field what is asked for, and the words that are right */
 
-/** @param {string} text @param {string} word */
+/**
+ * @param {string} text
+ * @param {string} word
+ */
 const lineOf = (text, word) => (new RegExp(`^${word} (.*)$`, "m").exec(text) || ["", ""])[1];
 
-/** Which fields a command's answer has. @param {string[]} words @param {string} out @returns {Field[]} */
-function fieldsOf(words, out) {
-    const one = (/** @type {string} */ label, /** @type {string} */ right) => ({ label, right: [right], isOrdered: true });
-    const many = (/** @type {string} */ label, /** @type {string[]} */ right, /** @type {boolean} */ isOrdered) => ({ label, right, isOrdered });
-    switch (words[0]) {
-        case "leak": {
-            const { prior, posterior, quotient, difference } = reportOf(out);
-            return [one("prior", prior), one("posterior", posterior), one("quotient", quotient), one("difference", difference)];
-        }
-        case "hyper":
-        case "quiet":
-            return [many("outer probabilities, in any order", hyperOf(out).groups.map((it) => it.weight), false)];
-        case "traces":
-            return [many("joint probabilities, in any order", tracesOf(out).groups.flatMap((it) => it.shares.map(({ share }) => share)), false)];
-        case "channel":
-            return [many("cells, row by row", out.split("\n").filter((line) => line.startsWith("  ")).map((line) => line.trim()), true)];
-        case "capacity":
-            return [one("capacity", lineOf(out, "capacity"))];
-        case "cascade":
-        case "parallel":
-        case "choice":
-            return ["first", "second", "both"].map((word) => one(`capacity, ${word}`, lineOf(out, word)));
-        case "reach":
-            return [one("tries", lineOf(out, "tries")), one("posterior", lineOf(out, "posterior"))];
-        case "attack":
-            return [many("values of the inners, in any order", (out.match(/ value \S+$/gm) || []).map((it) => it.slice(" value ".length)), false)];
-        case "blame": {
-            const { all, without } = blameOf(out);
-            return [many("one guess: of all, then without each statement", [all, ...without].map(({ bayes }) => bayes), true)];
-        }
-        case "trail":
-            return [many("posteriors after each statement, from the declarations on", trailOf(out), true)];
-        case "refine":
-        case "covers":
-            return [one("yes or no", lineOf(out, "refines"))];
-        case "check":
-            return [one("accepted, or rejected and a rule", out.trim())];
-        default:
-            return [];
-    }
-}
+/**
+ * @param {string} label
+ * @param {string} right
+ * @returns {Field}
+ */
+const one = (label, right) => ({ label, right: [right], isOrdered: true });
 
-/** @param {string} a @param {string} b */
+/**
+ * @param {string} label
+ * @param {string[]} right
+ * @param {boolean} isOrdered
+ * @returns {Field}
+ */
+const many = (label, right, isOrdered) => ({ label, right, isOrdered });
+
+/** @param {string} out */
+const outersOf = (out) => [many("outer probabilities, in any order", hyperOf(out).groups.map((it) => it.weight), false)];
+
+/** @param {string} out */
+const capacitiesOf = (out) => ["first", "second", "both"].map((word) => one(`capacity, ${word}`, lineOf(out, word)));
+
+/** @param {string} out */
+const verdictsOf = (out) => [one("yes or no", lineOf(out, "refines"))];
+
+/**
+ * Which fields the answer of each command has.
+ * @type {Record<string, (out: string) => Field[]>}
+ */
+const FIELDS = {
+    leak: (out) => Object.entries(reportOf(out)).filter(([name]) => name !== "gain").map(([name, right]) => one(name, right)),
+    hyper: outersOf,
+    quiet: outersOf,
+    traces: (out) => [many("joint probabilities, in any order", tracesOf(out).groups.flatMap((it) => it.shares.map(({ share }) => share)), false)],
+    channel: (out) => [many("cells, row by row", out.split("\n").filter((line) => line.startsWith("  ")).map((line) => line.trim()), true)],
+    capacity: (out) => [one("capacity", lineOf(out, "capacity"))],
+    cascade: capacitiesOf,
+    parallel: capacitiesOf,
+    choice: capacitiesOf,
+    reach: (out) => [one("tries", lineOf(out, "tries")), one("posterior", lineOf(out, "posterior"))],
+    attack: (out) => [many("values of the inners, in any order", (out.match(/ value \S+$/gm) || []).map((it) => it.slice(" value ".length)), false)],
+    blame: (out) => {
+        const { all, without } = blameOf(out);
+        return [many("one guess: of all, then without each statement", [all, ...without].map(({ bayes }) => bayes), true)];
+    },
+    trail: (out) => [many("posteriors after each statement, from the declarations on", trailOf(out), true)],
+    refine: verdictsOf,
+    covers: verdictsOf,
+    check: (out) => [one("accepted, or rejected and a rule", out.trim())],
+};
+
+/**
+ * @param {string} a
+ * @param {string} b
+ */
 function isEqual(a, b) {
     const [f, g] = [fractionOf(a), fractionOf(b)];
     return f !== null && g !== null ? isSame(f, g) : a.trim().toLowerCase() === b.trim().toLowerCase();
 }
 
-/** Whether what was typed is right. @param {Field} field @param {string} typed */
+/**
+ * Whether what was typed is right.
+ * @param {Field} field
+ * @param {string} typed
+ */
 function isRight(field, typed) {
     const words = field.right.length === 1 ? [typed] : typed.split(/[\s,;]+/).filter((word) => word !== "");
     if (words.length !== field.right.length) {
@@ -76,18 +94,26 @@ function isRight(field, typed) {
     });
 }
 
-/** The commands of a solution that ask the program and nothing else. @param {any[]} blocks */
+/**
+ * The commands of a solution that ask the program and nothing else.
+ * @param {any[]} blocks
+ */
 function commandsOf(blocks) {
     const lines = blocks.filter((block) => block.t === "code" && block.kind === "console").flatMap((block) => block.text.split("\n"));
     const found = lines.filter((line) => line.startsWith("$ ")).map((line) => wordsOf(line.slice(2)));
     return /** @type {string[][]} */ (found.filter((words) => words !== null));
 }
 
-/** A command with the solution's own programs by a name that says nothing of them. @param {string[]} words */
+/**
+ * A command with the solution's own programs by a name that says nothing of them.
+ * @param {string[]} words
+ */
 const disguised = (words) => words.map((word) => word.replace(/course\/solutions\/\S+\.(kf|json)/, (_, kind) => (kind === "kf" ? "your program" : "your table"))).join(" ");
 
 /**
- * @param {Place} place @param {string[]} words @param {Record<string, string>} files
+ * @param {Place} place
+ * @param {string[]} words
+ * @param {Record<string, string>} files
  */
 function checkOf(place, words, files) {
     const result = element("div", { role: "status", class: "check" });
@@ -99,8 +125,8 @@ function checkOf(place, words, files) {
             fill(result, "The program has no answer here.");
             return;
         }
-        const wanted = fieldsOf(words, outcome.out);
-        const inputs = wanted.map((field) => element("input", { type: "text", autocomplete: "off", spellcheck: "false" }));
+        const wanted = FIELDS[words[0]](outcome.out);
+        const inputs = wanted.map(() => element("input", { type: "text", autocomplete: "off", spellcheck: "false" }));
         const check = () => {
             const right = wanted.map((field, index) => isRight(field, inputs[index].value));
             inputs.forEach((input, index) => input.setAttribute("aria-invalid", String(!right[index])));
@@ -111,7 +137,8 @@ function checkOf(place, words, files) {
             event.preventDefault();
             check();
         };
-        fill(fields, element("form", { submit }, ...wanted.map((field, index) => element("label", {}, `${field.label} `, inputs[index])), element("button", { type: "submit" }, "Check")));
+        const labels = wanted.map((field, index) => element("label", {}, `${field.label} `, inputs[index]));
+        fill(fields, element("form", { submit }, ...labels, element("button", { type: "submit" }, "Check")));
         if (inputs.length > 0) {
             inputs[0].focus();
         }
@@ -133,7 +160,11 @@ function checkOf(place, words, files) {
         own.length === 1 && button("Check my program", compare, { title: "asks this of the text in the first editor" }), fields, result);
 }
 
-/** @param {Place} place @param {import("./library.mjs").Exercise} exercise @param {number} number */
+/**
+ * @param {Place} place
+ * @param {import("./library.mjs").Exercise} exercise
+ * @param {number} number
+ */
 export function exerciseOf(place, exercise, number) {
     const files = { ...place.files };
     exercise.solved.forEach((block) => {
@@ -149,7 +180,8 @@ export function exerciseOf(place, exercise, number) {
     } }, element("summary", {}, "Solution"), inside);
     const seen = new Set();
     const commands = commandsOf(exercise.solved).filter((words) => {
-        const isNew = !seen.has(words.join(" ")) && words.every((word) => !/\.(kf|json)$/.test(word) || word.replace(/^table:/, "") in files);
+        const isThere = words.every((word) => !/\.(kf|json)$/.test(word) || word.replace(/^table:/, "") in files);
+        const isNew = words[0] in FIELDS && isThere && !seen.has(words.join(" "));
         seen.add(words.join(" "));
         return isNew;
     });

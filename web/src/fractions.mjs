@@ -9,18 +9,29 @@ const ONE = BigInt(1);
 const TEN = BigInt(10);
 const DIGITS = 4;
 
-/** @param {bigint} a @param {bigint} b @returns {bigint} */
+/**
+ * @param {bigint} a
+ * @param {bigint} b
+ * @returns {bigint}
+ */
 function divisor(a, b) {
     return b === ZERO ? (a < ZERO ? -a : a) : divisor(b, a % b);
 }
 
-/** @param {bigint} n @param {bigint} d @returns {Fraction} */
+/**
+ * @param {bigint} n
+ * @param {bigint} d
+ * @returns {Fraction}
+ */
 function lowest(n, d) {
     const common = divisor(n, d);
     return common === ZERO ? { n, d } : { n: n / common, d: d / common };
 }
 
-/** @param {string} text @returns {Fraction | null} null where it is none */
+/**
+ * @param {string} text
+ * @returns {Fraction | null} null where it is none
+ */
 export function fractionOf(text) {
     const found = SHAPE.exec(text.trim());
     if (found === null) {
@@ -30,13 +41,25 @@ export function fractionOf(text) {
     return d === ZERO ? null : lowest(BigInt(found[1]), d);
 }
 
-/** @param {Fraction} a @param {Fraction} b */
+/**
+ * @param {Fraction} a
+ * @param {Fraction} b
+ */
 export const sum = (a, b) => lowest(a.n * b.d + b.n * a.d, a.d * b.d);
-/** @param {Fraction} a @param {Fraction} b */
+/**
+ * @param {Fraction} a
+ * @param {Fraction} b
+ */
 export const difference = (a, b) => lowest(a.n * b.d - b.n * a.d, a.d * b.d);
-/** @param {Fraction} a @param {Fraction} b */
+/**
+ * @param {Fraction} a
+ * @param {Fraction} b
+ */
 export const product = (a, b) => lowest(a.n * b.n, a.d * b.d);
-/** @param {Fraction} a @param {Fraction} b */
+/**
+ * @param {Fraction} a
+ * @param {Fraction} b
+ */
 export const isSame = (a, b) => a.n * b.d === b.n * a.d;
 /** @param {Fraction} f */
 export const isNone = (f) => f.n === ZERO;
@@ -44,7 +67,10 @@ export const isNone = (f) => f.n === ZERO;
 export const printed = (f) => (f.d === ONE ? String(f.n) : `${f.n}/${f.d}`);
 export const NOTHING = { n: ZERO, d: ONE };
 
-/** A number near it, for pictures. @param {Fraction} f */
+/**
+ * A number near it, for pictures.
+ * @param {Fraction} f
+ */
 export function near(f) {
     const scale = BigInt(1e15);
     const whole = f.n / f.d;
@@ -73,11 +99,14 @@ export function decimal(f) {
     const up = rest * BigInt(2) >= f.d ? ONE : ZERO;
     const all = whole * TEN ** BigInt(places) + digits + up;
     const text = String(all).padStart(places + 1, "0");
-    const shown = places === 0 ? text : `${text.slice(0, -places)}.${text.slice(-places)}`;
-    return { text: (f.n < ZERO ? "-" : "") + shown, isAll };
+    const pointed = places === 0 ? text : `${text.slice(0, -places)}.${text.slice(-places)}`;
+    return { text: (f.n < ZERO ? "-" : "") + pointed, isAll };
 }
 
-/** A fraction with its decimals, as an element. @param {string} text as the program prints it */
+/**
+ * A fraction with its decimals, as an element.
+ * @param {string} text as the program prints it
+ */
 export function shown(text) {
     const f = fractionOf(text);
     if (f === null || f.d === ONE) {

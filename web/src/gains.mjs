@@ -6,7 +6,11 @@ import { button, element, fill } from "./elements.mjs";
 const MOST_VALUES = 24;
 const FORMAT = "kuifje-gain-1";
 
-/** The table that gains 1 for a right guess. @param {string[]} values @returns {Gains} */
+/**
+ * The table that gains 1 for a right guess.
+ * @param {string[]} values
+ * @returns {Gains}
+ */
 export function guessOf(values) {
     return { over: 1, rest: 0, actions: values.slice(0, MOST_VALUES).map((value, index) => ({ name: `guess_${index}`, gains: new Map([[value, 1]]) })) };
 }
@@ -17,13 +21,18 @@ export function jsonOf({ over, rest, actions }) {
     return JSON.stringify({ actions: listed, format: FORMAT, over, rest });
 }
 
-/** A table as JSON, or null where the page can't show it as rows and columns. @param {string} json @returns {Gains | null} */
+/**
+ * A table as JSON, or null where the page can't show it as rows and columns.
+ * @param {string} json
+ * @returns {Gains | null}
+ */
 export function gainsOf(json) {
     try {
         const { actions, over, rest, format } = JSON.parse(json);
-        const isTable = format === FORMAT && Number.isInteger(over) && Number.isInteger(rest) && Array.isArray(actions);
-        const read = isTable && actions.map((/** @type {any} */ it) => ({ name: String(it.name), gains: new Map(it.gains) }));
-        return isTable ? { over, rest, actions: read } : null;
+        if (format !== FORMAT || !Number.isInteger(over) || !Number.isInteger(rest) || !Array.isArray(actions)) {
+            return null;
+        }
+        return { over, rest, actions: actions.map((/** @type {any} */ it) => ({ name: String(it.name), gains: new Map(it.gains) })) };
     } catch (error) {
         return null;
     }
@@ -31,7 +40,9 @@ export function gainsOf(json) {
 
 /**
  * The table as fields. Each change calls `onChange` with the new table as JSON.
- * @param {string} json @param {string[]} values @param {(json: string) => void} onChange
+ * @param {string} json
+ * @param {string[]} values
+ * @param {(json: string) => void} onChange
  */
 export function gainEditor(json, values, onChange) {
     const whole = element("div", { class: "gain-editor" });

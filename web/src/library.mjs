@@ -28,7 +28,9 @@ export function library() {
 
 /**
  * What REFUSALS.md says of a refusal: of its status and of the word that its line ends with.
- * @param {Library} of @param {number} status @param {string} word
+ * @param {Library} of
+ * @param {number} status
+ * @param {string} word
  */
 export function explanationOf(of, status, word) {
     const same = of.refusals.filter((it) => it.status === status);
@@ -37,7 +39,9 @@ export function explanationOf(of, status, word) {
 
 /**
  * Where a link of a page leads within this page: to a lesson, a study, another page or a program; null where the page has no such thing.
- * @param {Library} of @param {string} from the path of the page that it stands on @param {string} href
+ * @param {Library} of
+ * @param {string} from the path of the page that it stands on
+ * @param {string} href
  * @returns {{ page: string, heading: string } | { file: string } | null}
  */
 export function leadsTo(of, from, href) {

@@ -13,7 +13,10 @@ const PAGE = /^#((?:lesson|study|page)\/[A-Za-z0-9_-]+)$/;
 /** The most bytes of a state: two programs and a table, each as long as a file may be. */
 const MOST = 4 << 20;
 
-/** @param {ReadableStream<Uint8Array>} stream @returns {Promise<Uint8Array>} */
+/**
+ * @param {ReadableStream<Uint8Array>} stream
+ * @returns {Promise<Uint8Array>}
+ */
 async function bytesOf(stream) {
     const reader = stream.getReader();
     /** @type {Uint8Array[]} */
@@ -36,7 +39,10 @@ async function bytesOf(stream) {
     return whole;
 }
 
-/** @param {Uint8Array} bytes @param {any} through */
+/**
+ * @param {Uint8Array} bytes
+ * @param {any} through
+ */
 const sent = (bytes, through) => bytesOf(/** @type {any} */ (new Blob([bytes]).stream()).pipeThrough(through));
 
 /** @param {Uint8Array} bytes */
@@ -48,27 +54,37 @@ function base64(bytes) {
     return btoa(text).replace(/\+/g, "-").replace(/\//g, "_").replace(/=+$/, "");
 }
 
-/** @param {State} state @returns {Promise<string>} with its # */
+/**
+ * @param {State} state
+ * @returns {Promise<string>} with its #
+ */
 export async function linkOf(state) {
     const whole = new TextEncoder().encode(JSON.stringify(state));
     const Stream = /** @type {any} */ (window).CompressionStream;
     return `#kf1.${base64(await sent(whole, new Stream("deflate-raw")))}`;
 }
 
-/** @param {any} it @param {string} name @param {boolean} mayMiss */
-function text(it, name, mayMiss) {
+/**
+ * @param {any} it
+ * @param {string} name
+ * @param {boolean} mayMiss
+ */
+function wantText(it, name, mayMiss) {
     if (!(typeof it[name] === "string" || (mayMiss && it[name] === null))) {
         throw new Error(`it has no ${name}`);
     }
 }
 
-/** @param {any} it @returns {State} */
+/**
+ * @param {any} it
+ * @returns {State}
+ */
 function checked(it) {
     if (typeof it !== "object" || it === null || Object.keys(it).sort().join() !== "a,b,gain,of,page,view,words") {
         throw new Error("it has other parts than a link has");
     }
-    ["a", "view", "of"].forEach((name) => text(it, name, false));
-    ["b", "gain", "words", "page"].forEach((name) => text(it, name, true));
+    ["a", "view", "of"].forEach((name) => wantText(it, name, false));
+    ["b", "gain", "words", "page"].forEach((name) => wantText(it, name, true));
     if (!VIEWS.includes(it.view) || !["a", "b"].includes(it.of) || (it.of === "b" && it.b === null)) {
         throw new Error("it asks what the page doesn't know");
     }
@@ -78,7 +94,10 @@ function checked(it) {
     return it;
 }
 
-/** @param {string} hash @returns {Promise<Link>} */
+/**
+ * @param {string} hash
+ * @returns {Promise<Link>}
+ */
 export async function linkFrom(hash) {
     if (hash === "" || hash === "#") {
         return { kind: "nothing" };

@@ -5,10 +5,11 @@ import { button, byId, element, fill } from "./elements.mjs";
 import { refusalOf } from "./answers.mjs";
 import { explanationOf, library } from "./library.mjs";
 import { linkFrom, linkOf } from "./links.mjs";
-import { statementLines, targetOf } from "./programs.mjs";
+import { targetOf } from "./programs.mjs";
 import { namesIn, viewOf } from "./commands.mjs";
 import { show } from "./reader.mjs";
-import { blameRows, channelView, commandView, hyperView, leakView, linesView, refineView, tracesView } from "./views.mjs";
+import { blameRows, channelView, commandView, hyperView, leakView, linesView, tracesView } from "./views.mjs";
+import { refineView } from "./refinement.mjs";
 import { about, contents } from "./panels.mjs";
 
 /** @typedef {import("./links.mjs").State} State */
@@ -31,7 +32,10 @@ const WAIT = 150;
 
 /** @type {State} */
 const state = { a: FIRST, b: null, view: "hyper", of: "a", gain: null, words: null, page: null };
-/** The files of the page that is read, and those that a view made. @type {Record<string, string>} */
+/**
+ * The files of the page that is read, and those that a view made.
+ * @type {Record<string, string>}
+ */
 let readFiles = {};
 /** @type {Record<string, string>} */
 const made = {};
@@ -51,15 +55,15 @@ const editors = {
 /** @type {any} */
 let clock = null;
 
-/** @param {import("./asker.mjs").Run | null} run */
-function showRun(run) {
+/** @param {import("./asker.mjs").Run | null} now */
+function showRun(now) {
     clearInterval(clock);
-    byId("stop").hidden = run === null;
-    byId("run").classList.toggle("running", run !== null);
-    if (run !== null) {
+    byId("stop").hidden = now === null;
+    byId("run").classList.toggle("running", now !== null);
+    if (now !== null) {
         const tick = () => {
-            const seconds = (performance.now() - run.since) / 1000;
-            byId("status").textContent = `Running ${run.words[0]}: ${seconds.toFixed(seconds < 10 ? 1 : 0)} s`;
+            const seconds = (performance.now() - now.since) / 1000;
+            byId("status").textContent = `Running ${now.words[0]}: ${seconds.toFixed(seconds < 10 ? 1 : 0)} s`;
         };
         // A run of less than half a second is over before it is read.
         clock = setInterval(tick, 500);
@@ -83,7 +87,11 @@ async function filesNow() {
 /** @param {string[]} words */
 const withTurns = (words) => (byId("turns").value === "1024" || words.includes("--turns") ? words : [...words, "--turns", byId("turns").value]);
 
-/** Asks with the files that the words name, so that no more is copied. @param {string[]} words @param {Record<string, string> | null} files */
+/**
+ * Asks with the files that the words name, so that no more is copied.
+ * @param {string[]} words
+ * @param {Record<string, string> | null} files
+ */
 async function ask(words, files) {
     const own = { "a.kf": state.a, "b.kf": state.b === null ? "" : state.b };
     const { programs, tables } = namesIn(words);
@@ -102,7 +110,10 @@ class NoAnswer extends Error {
     }
 }
 
-/** @param {number} mine @returns {any} what a view may do while it is the newest */
+/**
+ * @param {number} mine
+ * @returns {any} what a view may do while it is the newest
+ */
 function contextOf(mine) {
     const now = (/** @type {Outcome} */ outcome) => {
         if (mine !== epoch) {
@@ -122,12 +133,11 @@ function contextOf(mine) {
         },
         file: `${state.of}.kf`, text: state.of === "a" ? state.a : state.b, hasSecond: state.b !== null, gain: state.gain, words: state.words, keep, failure,
         setGain(/** @type {string} */ json) {
-            if (state.view === "leak") {
-                state.gain = json;
-                refresh();
-            } else {
-                made["separation.json"] = json;
-            }
+            state.gain = json;
+            refresh();
+        },
+        setSeparation(/** @type {string} */ json) {
+            made["separation.json"] = json;
         },
         setWords(/** @type {string} */ words) {
             state.words = words;
@@ -140,7 +150,11 @@ function contextOf(mine) {
     };
 }
 
-/** Hands a file to whoever reads the page. @param {string} name @param {string} text */
+/**
+ * Hands a file to whoever reads the page.
+ * @param {string} name
+ * @param {string} text
+ */
 function keep(name, text) {
     made[name] = text;
     const address = URL.createObjectURL(new Blob([text], { type: "text/plain" }));
@@ -152,18 +166,26 @@ function keep(name, text) {
 
 // What a question comes to.
 
-/** @param {any} outcome @returns {HTMLElement} */
+/**
+ * @param {any} outcome
+ * @returns {HTMLElement}
+ */
 function failure(outcome) {
+    const said = (/** @type {string} */ head, /** @type {string} */ text) => element("div", { class: "failure" }, element("h3", {}, head), element("p", {}, text));
     if (outcome.kind === "memory") {
-        return element("div", { class: "failure" }, element("h3", {}, "Want of memory"), element("p", {}, `The question wants more memory than ${outcome.bound} MB, or than the browser gives. That is no answer: it may have one with more memory (Settings), or on a machine of its own.`));
+        return said("Want of memory", `The question wants more memory than the ${outcome.bound} MB that Settings allow, or than the browser gives. `
+            + "That is no answer: with more memory, or on a machine of its own, there may be one.");
     }
     if (outcome.kind === "trap") {
-        return element("div", { class: "failure" }, element("h3", {}, "A trap"), element("p", {}, `The engine of the browser ended the run: ${outcome.why}. That is no answer, and nothing of it is used again.`));
+        return said("A trap", `The engine of the browser ended the run: ${outcome.why}. That is no answer, and nothing of the run is used again.`);
     }
-    return element("div", { class: "failure" }, element("h3", {}, "Stopped"), element("p", {}, "The run was stopped before it had an answer."));
+    return said("Stopped", "The run was stopped before it had an answer.");
 }
 
-/** Shows a refusal at its place and beside it. @param {any} outcome */
+/**
+ * Shows a refusal at its place and beside it.
+ * @param {any} outcome
+ */
 async function refusal(outcome) {
     const { file, line, column, word } = refusalOf(outcome.err, ["a.kf", "b.kf", "gain.json"]);
     const explanation = explanationOf(await library(), outcome.status, word);
@@ -173,22 +195,39 @@ async function refusal(outcome) {
         editor.refuse(line, column, word, text);
     }
     const which = file === "b.kf" ? "Program B" : file === "a.kf" ? "Program A" : file === "gain.json" ? "The gain table" : "The question";
-    return element("div", { class: "refusal" }, element("h3", {}, `${which} is refused: ${word}`), element("pre", { class: "terminal" }, outcome.err), element("p", {}, text),
+    return element("div", { class: "refusal" },
+        element("h3", {}, `${which} is refused: ${word}`), element("pre", { class: "terminal" }, outcome.err), element("p", {}, text),
         line > 0 && button(`Go to line ${line}`, () => editor.goTo(line, column)), " ",
         explanation !== null && button("What causes it, and how it is mended", () => read("page/REFUSALS", explanation.section)));
 }
 
+/** @param {string[]} names */
+const listed = (names) => (names.length < 2 ? names.join() : `${names.slice(0, -1).join(", ")} and ${names[names.length - 1]}`);
+
 function showTarget() {
-    const isForEvery = state.view === "covers";
-    const items = targetOf(state.of === "a" || state.b === null ? state.a : state.b);
-    const names = (/** @type {boolean} */ isOld) => items.filter((it) => it.isOld === isOld).map((it) => it.name).join(", ");
+    if (state.view === "covers") {
+        fill(byId("target"), "The question is about what all variables were and what they become, together.");
+        return;
+    }
+    const text = state.of === "b" && state.b !== null ? state.b : state.a;
+    const items = targetOf(text);
+    const names = (/** @type {boolean} */ isOld) => items.filter((it) => it.isOld === isOld).map((it) => it.name);
     const [was, is] = [names(true), names(false)];
-    const parts = [was === "" ? "" : `what ${was} was before the statements (old)`, is === "" ? "" : `what ${is} is after the last line`].filter((it) => it !== "");
-    const warning = was === "" && !isForEvery && element("span", { class: "warning" }, "⚠ No item is old: this asks what is left at the end, and not what a secret was. For a secret write ", element("code", {}, `about old ${items.length > 0 ? items[0].name : "x"};`));
-    fill(byId("target"), isForEvery ? "The question is about what all variables were and what they become, together." : `The question is about ${parts.join(", and ")}.`, " ", warning);
+    const parts = [
+        was.length > 0 && `what ${listed(was)} ${was.length > 1 ? "were" : "was"} before the statements (old)`,
+        is.length > 0 && `what ${listed(is)} ${is.length > 1 ? "are" : "is"} after the last line`,
+    ];
+    const warning = was.length === 0 && element("span", { class: "warning" },
+        "⚠ No item is old: this asks what is left at the end, and not what a secret was. For a secret write ",
+        element("code", {}, `about old ${is.length > 0 ? is[0] : "x"};`));
+    fill(byId("target"), `The question is about ${listed(/** @type {string[]} */ (parts.filter((it) => it !== false)))}. `, warning);
 }
 
-/** Writes in the margin what each statement of a text leaks. @param {number} mine @param {"a" | "b"} name */
+/**
+ * Writes in the margin what each statement of a text leaks.
+ * @param {number} mine
+ * @param {"a" | "b"} name
+ */
 async function blame(mine, name) {
     const text = state[name];
     if (text === null || !byId("margin").checked || mine !== epoch) {
@@ -205,6 +244,16 @@ async function blame(mine, name) {
     })));
 }
 
+/**
+ * Says in the page itself that there is an answer, or none: tests wait for it, and read when the first one was there.
+ * @param {string} word
+ */
+function settle(word) {
+    const { dataset } = document.body;
+    dataset.settled = word;
+    dataset.first = dataset.first || String(Math.round(performance.now()));
+}
+
 async function refresh() {
     epoch += 1;
     const mine = epoch;
@@ -213,11 +262,15 @@ async function refresh() {
     const from = performance.now();
     const answer = byId("answer");
     answer.setAttribute("aria-busy", "true");
+    delete document.body.dataset.settled;
     Object.values(editors).forEach((editor) => editor.clear());
     try {
         const nodes = await SHOW[state.view](contextOf(mine));
         if (mine === epoch) {
-            showTarget();
+            fill(byId("target"));
+            if (state.view !== "command") {
+                showTarget();
+            }
             fill(answer, ...nodes);
             say(`Answered in ${Math.round(performance.now() - from)} ms.`);
         }
@@ -228,7 +281,7 @@ async function refresh() {
     }
     if (mine === epoch) {
         answer.setAttribute("aria-busy", "false");
-        document.body.dataset.settled = String(mine);
+        settle(String(mine));
         await blame(mine, "a");
         await blame(mine, "b");
     }
@@ -277,7 +330,10 @@ function changed() {
     timer = setTimeout(refresh, WAIT);
 }
 
-/** Takes a state over, editors and all. @param {Partial<State>} parts */
+/**
+ * Takes a state over, editors and all.
+ * @param {Partial<State>} parts
+ */
 function take(parts) {
     Object.assign(state, parts);
     isSetting = true;
@@ -290,7 +346,11 @@ function take(parts) {
     return refresh();
 }
 
-/** Opens a program in the first editor, or a gain table. @param {string} name @param {string} text */
+/**
+ * Opens a program in the first editor, or a gain table.
+ * @param {string} name
+ * @param {string} text
+ */
 function open(name, text) {
     if (name.endsWith(".json")) {
         take({ gain: text, view: "leak" });
@@ -300,7 +360,10 @@ function open(name, text) {
     editors.a.focus();
 }
 
-/** Asks a command of a page: in the view that shows it, or as it is typed. @param {string[]} words */
+/**
+ * Asks a command of a page: in the view that shows it, or as it is typed.
+ * @param {string[]} words
+ */
 function run(words) {
     const { view, programs, tables } = viewOf(words);
     library().then(({ files }) => {
@@ -314,7 +377,11 @@ function run(words) {
     });
 }
 
-/** Shows a lesson, a study or a page. @param {string} page @param {string} heading */
+/**
+ * Shows a lesson, a study or a page.
+ * @param {string} page
+ * @param {string} heading
+ */
 async function read(page, heading) {
     const reader = byId("reader");
     const files = show(byId("reader-text"), await library(), { show: read, open, run, ask, program: () => state.a }, page, heading);
@@ -331,7 +398,10 @@ async function read(page, heading) {
     editors.a.refresh();
 }
 
-/** Says that a link can't be read, and shows nothing else. @param {string} why */
+/**
+ * Says that a link can't be read, and shows nothing else.
+ * @param {string} why
+ */
 function refuseLink(why) {
     epoch += 1;
     asker.stop();
@@ -341,7 +411,7 @@ function refuseLink(why) {
     const message = byId("message");
     message.hidden = false;
     fill(message, element("p", {}, `This link can't be read: ${why}. Nothing of it is shown.`), element("p", {}, element("a", { href: "." , click: anew }, "Begin anew")));
-    document.body.dataset.settled = "refused";
+    settle("refused");
 }
 
 /** @param {Event} event */
@@ -378,7 +448,11 @@ function closePanels() {
     ["gallery", "course", "pages", "settings", "about"].forEach((name) => byId(`${name}-button`).setAttribute("aria-expanded", "false"));
 }
 
-/** @param {string} name @param {string} panel @param {() => Promise<any[]> | any[]} children */
+/**
+ * @param {string} name
+ * @param {string} panel
+ * @param {() => Promise<any[]> | any[]} children
+ */
 function onPanel(name, panel, children) {
     byId(`${name}-button`).addEventListener("click", async () => {
         const wasOpen = byId(`${name}-button`).getAttribute("aria-expanded") === "true";
@@ -418,7 +492,10 @@ async function showLink() {
 
 function buttons() {
     byId("stop").addEventListener("click", () => asker.stop());
-    byId("compare").addEventListener("click", () => (state.b === null ? take({ b: state.a, view: "refine" }) : take({ b: null, of: "a", view: state.view === "covers" || state.view === "refine" ? "hyper" : state.view })));
+    byId("compare").addEventListener("click", () => {
+        const isAboutTwo = state.view === "covers" || state.view === "refine";
+        return state.b === null ? take({ b: state.a, view: "refine" }) : take({ b: null, of: "a", view: isAboutTwo ? "hyper" : state.view });
+    });
     byId("swap").addEventListener("click", () => take({ a: state.b === null ? "" : state.b, b: state.a }));
     byId("of-a").addEventListener("click", () => take({ of: "a" }));
     byId("of-b").addEventListener("click", () => take({ of: "b" }));
@@ -483,7 +560,7 @@ async function main() {
     });
     window.addEventListener("hashchange", follow);
     // For the console, and for tests: the same question as the page's own.
-    /** @type {any} */ (window).kuifje = { ask: (/** @type {string[]} */ words, /** @type {Record<string, string>} */ files) => asker.ask(words, files), kind: asker.kind, statementLines };
+    /** @type {any} */ (window).kuifje = { ask: asker.ask, kind: asker.kind };
     await follow();
     const names = Object.keys((await library()).files).filter((name) => name.endsWith(".kf"));
     byId("open").append(...names.map((name) => element("option", { value: name }, name)));

@@ -1,8 +1,8 @@
 // Pictures of answers, drawn with D3. Each has a text for screen readers, and beside it stands the table that it shows. Colours are safe for
-// colour-blind people: those of Okabe and Ito for a few values, cividis for many and for probabilities.
+// colour-blind people: those of Okabe and Ito for a few values, cividis for many, and one blue, the darker the likelier, for probabilities.
 import { select } from "d3-selection";
 import { scaleLinear } from "d3-scale";
-import { interpolateCividis } from "d3-scale-chromatic";
+import { interpolateBlues, interpolateCividis } from "d3-scale-chromatic";
 import { linkHorizontal } from "d3-shape";
 import { NOTHING, fractionOf, near, printed, product, sum } from "./fractions.mjs";
 
@@ -15,13 +15,19 @@ const MOST_CELLS = 6000;
 /** @param {string} text */
 const size = (text) => near(fractionOf(text) || NOTHING);
 
-/** Whether dark letters can be read on a colour. @param {string} colour as #rrggbb or rgb(r, g, b) */
+/**
+ * Whether dark letters can be read on a colour.
+ * @param {string} colour as #rrggbb or rgb(r, g, b)
+ */
 function isLight(colour) {
     const parts = colour.startsWith("#") ? [1, 3, 5].map((at) => parseInt(colour.slice(at, at + 2), 16)) : (colour.match(/\d+/g) || []).map(Number);
     return 0.299 * parts[0] + 0.587 * parts[1] + 0.114 * parts[2] > 140;
 }
 
-/** @param {number} height @param {string} label */
+/**
+ * @param {number} height
+ * @param {string} label
+ */
 function canvas(height, label) {
     const svg = document.createElementNS("http://www.w3.org/2000/svg", "svg");
     svg.setAttribute("viewBox", `0 0 ${WIDTH} ${height}`);
@@ -35,7 +41,7 @@ function canvas(height, label) {
  * @param {any} drawing
  * @param {{ x: number, y: number, width: number, height: number, fill: string, label: string, title: string, name?: string }[]} boxes
  */
-function boxes(drawing, boxes) {
+function addBoxes(drawing, boxes) {
     const all = drawing.append("g").selectAll("g").data(boxes).enter().append("g");
     all.append("rect").attr("x", (/** @type {any} */ it) => it.x).attr("y", (/** @type {any} */ it) => it.y)
         .attr("width", (/** @type {any} */ it) => Math.max(it.width, 0.5)).attr("height", (/** @type {any} */ it) => Math.max(it.height, 0.5))
@@ -46,14 +52,20 @@ function boxes(drawing, boxes) {
         .attr("class", "box-label").attr("fill", (/** @type {any} */ it) => (isLight(it.fill) ? "#000000" : "#ffffff")).text((/** @type {any} */ it) => it.label);
 }
 
-/** @param {any} drawing @param {{ x: number, y: number, text: string, anchor?: string, isStrong?: boolean }[]} labels */
-function labels(drawing, labels) {
+/**
+ * @param {any} drawing
+ * @param {{ x: number, y: number, text: string, anchor?: string, isStrong?: boolean }[]} labels
+ */
+function addLabels(drawing, labels) {
     drawing.append("g").selectAll("text").data(labels).enter().append("text").attr("x", (/** @type {any} */ it) => it.x)
         .attr("y", (/** @type {any} */ it) => it.y).attr("class", (/** @type {any} */ it) => (it.isStrong ? "label strong" : "label"))
         .attr("text-anchor", (/** @type {any} */ it) => it.anchor || "middle").text((/** @type {any} */ it) => it.text);
 }
 
-/** The prior that a hyper averages to, its values in their order. @param {Groups} hyper */
+/**
+ * The prior that a hyper averages to, its values in their order.
+ * @param {Groups} hyper
+ */
 export function priorOf(hyper) {
     /** @type {Map<string, import("./fractions.mjs").Fraction>} */
     const found = new Map();
@@ -70,7 +82,10 @@ export function priorOf(hyper) {
     return values.map((value) => ({ value, share: printed(found.get(value) || NOTHING) }));
 }
 
-/** A colour for each value. @param {string[]} values */
+/**
+ * A colour for each value.
+ * @param {string[]} values
+ */
 function coloursOf(values) {
     const colour = (/** @type {number} */ index) => (values.length <= FEW.length ? FEW[index] : interpolateCividis(index / (values.length - 1)));
     return new Map(values.map((value, index) => [value, colour(index)]));
@@ -98,11 +113,12 @@ export function hyperPicture(hyper) {
     /** @type {any[]} */
     const texts = [{ x: 60, y: 16, text: "prior", isStrong: true }, { x: 150, y: 16, text: "posteriors (inners)", anchor: "start", isStrong: true }];
     const column = (/** @type {number} */ left, /** @type {number} */ width, /** @type {import("./answers.mjs").Share[]} */ shares, /** @type {string} */ name) => {
-        let from = 0;
+        let bottom = 0;
         for (const { value, share } of shares) {
-            const to = from + size(share);
-            drawn.push({ x: left, y: y(from), width, height: y(to) - y(from) - 1, fill: colours.get(value), label: value, title: `${name}: ${value} with probability ${share}` });
-            from = to;
+            const next = bottom + size(share);
+            const title = `${name}: ${value} with probability ${share}`;
+            drawn.push({ x: left, y: y(bottom), width, height: y(next) - y(bottom) - 1, fill: colours.get(value), label: value, title });
+            bottom = next;
         }
     };
     column(10, 100, prior, "prior");
@@ -123,14 +139,17 @@ export function hyperPicture(hyper) {
     texts.push({ x: 130, y: height - 28, text: "outer", anchor: "end" });
     const said = hyper.groups.slice(0, 8).map((group) => `inner ${group.name} with outer probability ${group.weight}`).join(", ");
     const { svg, drawing } = canvas(height, `Picture of the hyper: ${hyper.count} inners, ${said}. The table has all numbers.`);
-    boxes(drawing, drawn);
-    labels(drawing, texts);
+    addBoxes(drawing, drawn);
+    addLabels(drawing, texts);
     return svg;
 }
 
 /**
  * A matrix as a heat map: the likelier, the darker. null where it is too large.
- * @param {string[][]} cells @param {string[]} rows their heads @param {string[]} columns their heads @param {string} label
+ * @param {string[][]} cells
+ * @param {string[]} rows their heads
+ * @param {string[]} columns their heads
+ * @param {string} label
  */
 export function heatMap(cells, rows, columns, label) {
     if (cells.length * columns.length > MOST_CELLS || rows.length === 0 || columns.length === 0) {
@@ -139,67 +158,85 @@ export function heatMap(cells, rows, columns, label) {
     const left = 16 + 8 * Math.min(Math.max(...rows.map((it) => it.length)), 22);
     const width = Math.min((WIDTH - left - 10) / columns.length, 130);
     const height = Math.max(Math.min(44, 560 / rows.length), 3);
-    const colour = (/** @type {number} */ share) => interpolateCividis(1 - share);
     const drawn = cells.flatMap((row, i) => row.map((cell, j) => ({
-        x: left + j * width, y: 28 + i * height, width: width - 1, height: height - 1, fill: colour(size(cell)), label: cell, title: `${rows[i]}, ${columns[j]}: ${cell}`,
+        x: left + j * width, y: 28 + i * height, width: width - 1, height: height - 1,
+        fill: interpolateBlues(size(cell)), label: cell, title: `${rows[i]}, ${columns[j]}: ${cell}`,
     })));
     const shorter = (/** @type {string} */ text, /** @type {number} */ most) => (text.length > most ? `${text.slice(0, most - 1)}…` : text);
     const heads = columns.map((text, j) => ({ x: left + (j + 0.5) * width, y: 18, text: shorter(text, Math.floor(width / 8)) })).filter(() => width >= 20);
     const sides = rows.map((text, i) => ({ x: left - 8, y: 28 + (i + 0.5) * height + 5, text: shorter(text, 22), anchor: "end" })).filter(() => height >= 12);
     const { svg, drawing } = canvas(36 + rows.length * height, label);
-    boxes(drawing, drawn);
-    labels(drawing, [...heads, ...sides]);
+    addBoxes(drawing, drawn);
+    addLabels(drawing, [...heads, ...sides]);
     return svg;
 }
 
+const FLOW = { height: 300, top: 30, side: 130, bar: 14, most: 60 };
+
 /**
- * How a matrix makes the inners of one hyper of those of another: bands as wide as what goes from one to the other.
- * @param {string[]} from the outers of A @param {string[]} to those of B @param {string[][]} matrix
+ * Where each of some bars stands, as high as it is likely.
+ * @param {string[]} outers
  */
-export function flowPicture(from, to, matrix) {
-    if (from.length * to.length > 1000 || from.length > 60 || to.length > 60) {
+function barsOf(outers) {
+    const gap = Math.min(12, 90 / outers.length);
+    const scale = scaleLinear([0, 1], [0, FLOW.height - FLOW.top - 10 - gap * (outers.length - 1)]);
+    let at = 0;
+    return outers.map((outer, index) => {
+        const top = FLOW.top + scale(at) + gap * index;
+        at += size(outer);
+        return { outer, top, height: scale(size(outer)), used: 0 };
+    });
+}
+
+/**
+ * A band for each entry of the matrix that isn't 0, from the inner that it leaves to that in which it arrives.
+ * @param {ReturnType<typeof barsOf>} left
+ * @param {ReturnType<typeof barsOf>} right
+ * @param {string[]} letters
+ * @param {string[][]} matrix
+ */
+function bandsOf(left, right, letters, matrix) {
+    const link = linkHorizontal();
+    return matrix.flatMap((row, i) => row.map((cell, j) => {
+        const [from, to] = [left[i], right[j]];
+        const leaving = from.height * size(cell);
+        const arriving = to.height * Math.min((size(from.outer) * size(cell)) / size(to.outer), 1);
+        const source = [FLOW.side, from.top + from.used + leaving / 2];
+        const target = [WIDTH - FLOW.side, to.top + to.used + arriving / 2];
+        from.used += leaving;
+        to.used += arriving;
+        const title = `inner ${i} of ${letters[0]} goes to inner ${j} of ${letters[1]} with probability ${cell}`;
+        return { path: link({ source, target }), width: (leaving + arriving) / 2, title, fill: FEW[i % FEW.length] };
+    })).filter(({ width }) => width > 0);
+}
+
+/**
+ * How a matrix makes the inners of one hyper of those of another: bands as wide as what goes from one to the other. null where there are too many.
+ * @param {string[][]} outers of the one and of the other
+ * @param {string[]} letters what the two texts are called
+ * @param {string[][]} matrix
+ */
+export function flowPicture(outers, letters, matrix) {
+    if (outers.some((it) => it.length > FLOW.most)) {
         return null;
     }
-    const height = 300;
-    const tops = (/** @type {string[]} */ outers) => {
-        const gap = Math.min(12, 90 / outers.length);
-        const scale = scaleLinear([0, 1], [0, height - 40 - gap * (outers.length - 1)]);
-        let at = 0;
-        return outers.map((outer, index) => {
-            const top = 30 + scale(at) + gap * index;
-            at += size(outer);
-            return { top, height: scale(size(outer)) };
-        });
-    };
-    const left = tops(from);
-    const right = tops(to);
-    const used = { left: from.map(() => 0), right: to.map(() => 0) };
-    /** @type {any[]} */
-    const bands = [];
-    const link = linkHorizontal();
-    matrix.forEach((row, i) => row.forEach((cell, j) => {
-        const share = size(cell);
-        if (share > 0 && to[j] !== undefined) {
-            const leaving = left[i].height * share;
-            const arriving = right[j].height * Math.min((size(from[i]) * share) / size(to[j]), 1);
-            const path = link({ source: [130, left[i].top + used.left[i] + leaving / 2], target: [WIDTH - 130, right[j].top + used.right[j] + arriving / 2] });
-            bands.push({ path, width: Math.max((leaving + arriving) / 2, 1), title: `inner ${i} of A goes to inner ${j} of B with probability ${cell}`, fill: FEW[i % FEW.length] });
-            used.left[i] += leaving;
-            used.right[j] += arriving;
-        }
-    }));
-    const { svg, drawing } = canvas(height, `Picture of the matrix: how the ${from.length} inners of A become the ${to.length} inners of B. The table has its numbers.`);
-    const drawnBands = drawing.append("g").selectAll("path").data(bands).enter().append("path").attr("d", (/** @type {any} */ it) => it.path)
-        .attr("stroke-width", (/** @type {any} */ it) => it.width).attr("stroke", (/** @type {any} */ it) => it.fill).attr("class", "band");
-    drawnBands.append("title").text((/** @type {any} */ it) => it.title);
-    const bars = (/** @type {string[]} */ outers, /** @type {any[]} */ places, /** @type {number} */ x, /** @type {string} */ name, /** @type {boolean} */ isColoured) => outers.map((outer, i) => ({
-        x, y: places[i].top, width: 14, height: places[i].height, fill: isColoured ? FEW[i % FEW.length] : "#777777", label: "", title: `inner ${i} of ${name}, outer ${outer}`,
-    }));
-    boxes(drawing, [...bars(from, left, 116, "A", true), ...bars(to, right, WIDTH - 130, "B", false)]);
-    const sides = (/** @type {string[]} */ outers, /** @type {any[]} */ places, /** @type {number} */ x, /** @type {string} */ anchor) => outers.map((outer, i) => ({
-        x, y: places[i].top + places[i].height / 2 + 5, text: `${i}: ${outer}`, anchor,
-    }));
-    labels(drawing, [{ x: 110, y: 18, text: "inners of A", anchor: "end", isStrong: true }, { x: WIDTH - 110, y: 18, text: "inners of B", anchor: "start", isStrong: true },
-        ...sides(from, left, 108, "end"), ...sides(to, right, WIDTH - 108, "start")]);
+    const [left, right] = outers.map(barsOf);
+    const label = `Picture of the matrix: how the ${left.length} inners of ${letters[0]} become the ${right.length} inners of ${letters[1]}. The table has its numbers.`;
+    const { svg, drawing } = canvas(FLOW.height, label);
+    const bands = drawing.append("g").selectAll("path").data(bandsOf(left, right, letters, matrix)).enter().append("path").attr("class", "band")
+        .attr("d", (/** @type {any} */ it) => it.path).attr("stroke", (/** @type {any} */ it) => it.fill)
+        .attr("stroke-width", (/** @type {any} */ it) => Math.max(it.width, 1));
+    bands.append("title").text((/** @type {any} */ it) => it.title);
+    const sides = [
+        { bars: left, letter: letters[0], x: FLOW.side - FLOW.bar, beside: FLOW.side - FLOW.bar - 8, anchor: "end" },
+        { bars: right, letter: letters[1], x: WIDTH - FLOW.side, beside: WIDTH - FLOW.side + FLOW.bar + 8, anchor: "start" },
+    ];
+    sides.forEach(({ bars, letter, x, beside, anchor }, side) => {
+        addBoxes(drawing, bars.map(({ top, height, outer }, i) => ({
+            x, y: top, width: FLOW.bar, height, fill: side === 0 ? FEW[i % FEW.length] : "#777777", label: "", title: `inner ${i} of ${letter}, outer ${outer}`,
+        })));
+        const names = bars.map(({ top, height, outer }, i) => ({ x: beside, y: top + height / 2 + 5, text: `${i}: ${outer}`, anchor }));
+        addLabels(drawing, [{ x: beside, y: 18, text: `inners of ${letter}`, anchor, isStrong: true }, ...names.filter(() => bars.length <= 25)]);
+    });
     return svg;
 }

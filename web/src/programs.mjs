@@ -15,7 +15,11 @@ const NO_NAMES = new Set(Object.values(WORDS).reduce((all, some) => all.concat(s
 
 /** @typedef {{ text: string, line: number }} Token */
 
-/** The tokens of a text, without comments. @param {string} text @returns {Token[]} */
+/**
+ * The tokens of a text, without comments.
+ * @param {string} text
+ * @returns {Token[]}
+ */
 function tokensOf(text) {
     return text.split("\n").flatMap((line, number) => (line.match(TOKEN) || []).filter((it) => !it.startsWith("#")).map((it) => ({ text: it, line: number })));
 }
@@ -25,7 +29,11 @@ function beginsStatement(token) {
     return token === undefined || BEGINS.has(token.text) || (/^[A-Za-z_]/.test(token.text) && !NO_NAMES.has(token.text));
 }
 
-/** The place after the brackets that open at a place. @param {Token[]} tokens @param {number} from */
+/**
+ * The place after the brackets that open at a place.
+ * @param {Token[]} tokens
+ * @param {number} from
+ */
 function afterBrackets(tokens, from) {
     let depth = 0;
     for (let at = from; at < tokens.length; at += 1) {
@@ -40,7 +48,8 @@ function afterBrackets(tokens, from) {
 /**
  * The place after the statement that begins at a place. A guard may have brackets, too: a loop's block is the first one that the next
  * statement or the end follows, and a conditional's second block is the one after `else`.
- * @param {Token[]} tokens @param {number} from
+ * @param {Token[]} tokens
+ * @param {number} from
  */
 function afterStatement(tokens, from) {
     const first = tokens[from].text;
@@ -82,7 +91,11 @@ export function statementLines(text) {
     return found;
 }
 
-/** The place in a line, counted in characters, of a column that counts bytes from 1. @param {string} line @param {number} column */
+/**
+ * The place in a line, counted in characters, of a column that counts bytes from 1.
+ * @param {string} line
+ * @param {number} column
+ */
 export function characterAt(line, column) {
     const bytes = new TextEncoder().encode(line);
     return new TextDecoder().decode(bytes.slice(0, column - 1)).length;

@@ -16,7 +16,11 @@ import { exerciseOf } from "./exercises.mjs";
  */
 /** @typedef {{ library: Library, host: Host, path: string, files: Record<string, string> }} Place a page, with the files that it shows */
 
-/** @param {Place} place @param {any[]} inline @returns {(Node | string)[]} */
+/**
+ * @param {Place} place
+ * @param {any[]} inline
+ * @returns {(Node | string)[]}
+ */
 export function inlineOf(place, inline) {
     return inline.map((it) => {
         if (typeof it === "string") {
@@ -30,7 +34,11 @@ export function inlineOf(place, inline) {
     });
 }
 
-/** @param {Place} place @param {string} href @param {(Node | string)[]} children */
+/**
+ * @param {Place} place
+ * @param {string} href
+ * @param {(Node | string)[]} children
+ */
 function linkOf(place, href, children) {
     const target = leadsTo(place.library, place.path, href);
     if (target === null) {
@@ -48,7 +56,10 @@ function linkOf(place, href, children) {
     return element("a", { href: isFile ? "#" : `#${/** @type {any} */ (target).page}`, click: action }, ...children);
 }
 
-/** @param {Place} place @param {any} block */
+/**
+ * @param {Place} place
+ * @param {any} block
+ */
 function codeOf(place, block) {
     if (block.kind === "console") {
         return consoleOf(place, block.text);
@@ -61,7 +72,10 @@ function codeOf(place, block) {
         button("Open", () => place.host.open(block.name, block.text), { "aria-label": `Open ${block.name}` })), shown);
 }
 
-/** @param {Place} place @param {string} text */
+/**
+ * @param {Place} place
+ * @param {string} text
+ */
 function consoleOf(place, text) {
     const pieces = text.split(/^(?=\$ )/m).map((piece) => {
         const [command, ...answer] = piece.replace(/^\$ /, "").replace(/\n$/, "").split("\n");
@@ -74,7 +88,11 @@ function consoleOf(place, text) {
     return element("div", { class: "console" }, ...pieces);
 }
 
-/** @param {Place} place @param {any} block @returns {HTMLElement} */
+/**
+ * @param {Place} place
+ * @param {any} block
+ * @returns {HTMLElement}
+ */
 export function blockOf(place, block) {
     switch (block.t) {
         case "h":
@@ -93,16 +111,26 @@ export function blockOf(place, block) {
     }
 }
 
-/** @param {Place} place @param {any[]} blocks */
+/**
+ * @param {Place} place
+ * @param {any[]} blocks
+ */
 export const blocksOf = (place, blocks) => blocks.map((block) => blockOf(place, block));
 
-/** The files that blocks show, with those of the library. @param {Library} of @param {any[]} blocks */
+/**
+ * The files that blocks show, with those of the library.
+ * @param {Library} of
+ * @param {any[]} blocks
+ */
 function filesOf(of, blocks) {
     const own = blocks.filter((block) => block.name !== undefined).map((block) => [block.name, block.text]);
     return { ...of.files, ...Object.fromEntries(own) };
 }
 
-/** @param {Place} place @param {number} number */
+/**
+ * @param {Place} place
+ * @param {number} number
+ */
 function lessonOf(place, number) {
     const lesson = place.library.lessons[number - 1];
     const step = (/** @type {number} */ to, /** @type {string} */ text) => to >= 1 && to <= place.library.lessons.length && button(text, () => place.host.show(`lesson/${to}`, ""));
@@ -114,7 +142,11 @@ function lessonOf(place, number) {
 
 /**
  * Shows a page, and gives the files that its commands may name.
- * @param {HTMLElement} into @param {Library} of @param {Host} host @param {string} page @param {string} heading
+ * @param {HTMLElement} into
+ * @param {Library} of
+ * @param {Host} host
+ * @param {string} page
+ * @param {string} heading
  * @returns {Record<string, string> | null} null where there is no such page
  */
 export function show(into, of, host, page, heading) {

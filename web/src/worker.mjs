@@ -9,7 +9,10 @@ import { ask, kindOfEngine } from "./engine.mjs";
 let module = null;
 const scope = /** @type {any} */ (self);
 
-/** @param {string} address @returns {Promise<WebAssembly.Module>} */
+/**
+ * @param {string} address
+ * @returns {Promise<WebAssembly.Module>}
+ */
 async function compiled(address) {
     const response = await fetch(address);
     if (!response.ok) {

@@ -1,0 +1,6 @@
+// The libraries that are bundled have no types here.
+declare module "codemirror";
+declare module "d3-selection";
+declare module "d3-scale";
+declare module "d3-scale-chromatic";
+declare module "d3-shape";

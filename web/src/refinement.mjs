@@ -1,0 +1,125 @@
+// Two texts: whether one leaks no more than the other, both ways, with the matrix or the gain table that proves it.
+import { button, element, fill, table } from "./elements.mjs";
+import { MOST, hyperOf, reportOf, verdictOf } from "./answers.mjs";
+import { shown } from "./fractions.mjs";
+import { flowPicture, heatMap } from "./pictures.mjs";
+import { tooMany } from "./views.mjs";
+
+/** @typedef {import("./views.mjs").Context} Context */
+/** @typedef {import("./answers.mjs").Verdict} Verdict */
+/** @typedef {import("./answers.mjs").Groups} Groups */
+/**
+ * One direction: whether the second text leaks no more than the first. Without hypers the question is about every prior.
+ * @typedef {{ verdict: Verdict, names: string[], letters: string[], hypers: Groups[] | null }} Direction
+ */
+
+/**
+ * @param {Verdict} there
+ * @param {Verdict} back
+ * @param {boolean} isForEvery
+ */
+function meaningOf(there, back, isForEvery) {
+    const prior = isForEvery ? ", whatever the prior" : "";
+    if (there.isYes && back.isYes) {
+        return `A and B leak the same: no adversary, whatever it gains, does better against one of them${prior}.`;
+    }
+    if (there.isYes) {
+        return `B refines A: B leaks no more than A to any adversary, whatever it gains${prior}. To some adversary A leaks more.`;
+    }
+    if (back.isYes) {
+        return `A refines B: A leaks no more than B to any adversary, whatever it gains${prior}. To some adversary B leaks more.`;
+    }
+    return "Neither is safer for everybody: to some adversary B leaks more than A, and to another one A leaks more than B.";
+}
+
+/** @param {Extract<Verdict, { isYes: false }>} verdict */
+function gainTable({ actions, over, rest }) {
+    const listed = actions.map(({ name, gains }) => ({ gains: gains.map(({ value, gain }) => [value, Number(gain)]), name }));
+    return JSON.stringify({ actions: listed, format: "kuifje-gain-1", over: Number(over), rest: Number(rest) });
+}
+
+/**
+ * @param {string[][]} matrix
+ * @param {Direction} direction
+ */
+function matrixOf(matrix, { letters: [first, second], hypers }) {
+    const rows = matrix.map((_, index) => `${first} ${index}`);
+    const columns = matrix[0].map((_, index) => `${second} ${index}`);
+    const isSmall = rows.length <= MOST && columns.length <= MOST;
+    const isWhole = hypers !== null && hypers.every((it) => it.isWhole);
+    const flow = isWhole && flowPicture(hypers.map((it) => it.groups.map(({ weight }) => weight)), [first, second], matrix);
+    const map = isSmall && heatMap(matrix, rows, columns, `Heat map of the matrix, ${rows.length} by ${columns.length}`);
+    const cells = matrix.slice(0, MOST).map((row, index) => [rows[index], ...row.slice(0, MOST).map(shown)]);
+    return [
+        element("p", {}, `The matrix makes the hyper of ${second} of that of ${first}: a row for each inner of ${first}, a column for each inner of ${second}.`),
+        flow || map || tooMany(Math.max(rows.length, columns.length), "rows or columns"),
+        table(`Matrix from ${first} to ${second}`, ["inner", ...columns.slice(0, MOST)], cells),
+    ];
+}
+
+/**
+ * @param {Context} context
+ * @param {Extract<Verdict, { isYes: false }>} verdict
+ * @param {Direction} direction
+ */
+async function separationOf(context, verdict, { names, letters: [first, second], hypers }) {
+    const values = [...new Set(verdict.actions.flatMap(({ gains }) => gains.map(({ value }) => value)))].slice(0, MOST);
+    const gainAt = (/** @type {import("./answers.mjs").Action} */ action, /** @type {string} */ value) => {
+        const named = action.gains.find((it) => it.value === value);
+        return named === undefined ? verdict.rest : named.gain;
+    };
+    const cells = verdict.actions.slice(0, MOST).map((action) => [action.name, ...values.map((value) => gainAt(action, value))]);
+    const sentence = element("p", {}, `An adversary with the gains of this table does better against ${second}.`);
+    if (hypers !== null) {
+        context.setSeparation(gainTable(verdict));
+        const outcomes = [];
+        for (const name of names) {
+            outcomes.push(await context.tryTo(["leak", name, "--gain", "table:separation.json"]));
+        }
+        const expected = outcomes.map((it) => (it.kind === "answer" && it.status === 0 ? reportOf(it.out).posterior : null));
+        if (expected[0] !== null && expected[1] !== null) {
+            fill(sentence, `An adversary with the gains of this table does better against ${second}: after ${first} it expects `, shown(expected[0]),
+                `, after ${second} `, shown(expected[1]), ".");
+        }
+    }
+    return [sentence, table(`A gain table that separates them; at any other value an action gains ${verdict.rest}`, ["action", ...values], cells)];
+}
+
+/**
+ * @param {Context} context
+ * @param {Direction} direction
+ */
+async function sectionOf(context, direction) {
+    const { verdict, names, letters: [first, second], hypers } = direction;
+    const answer = element("strong", { class: verdict.isYes ? "yes" : "no" }, verdict.isYes ? "Yes" : "No");
+    const proof = verdict.isYes ? matrixOf(verdict.matrix, direction) : await separationOf(context, verdict, direction);
+    const keep = hypers !== null && button("Keep the certificate", async () => {
+        const outcome = await context.tryTo(["refine", ...names, "--json"]);
+        if (outcome.kind === "answer") {
+            context.keep(`certificate-${first}-${second}.json`, outcome.out);
+        }
+    });
+    return element("section", {}, element("h3", {}, `${second} leaks no more than ${first}? `, answer), ...proof, keep);
+}
+
+/**
+ * @param {Context} context
+ * @param {"refine" | "covers"} command
+ */
+export async function refineView(context, command) {
+    const isForEvery = command === "covers";
+    const choice = element("p", { role: "group", "aria-label": "For which priors" },
+        button("For the declared prior", () => context.setView("refine"), { "aria-pressed": String(!isForEvery) }), " ",
+        button("For every prior", () => context.setView("covers"), { "aria-pressed": String(isForEvery) }));
+    if (!context.hasSecond) {
+        return [choice, element("p", {}, "A second text is wanted: press “Compare with a second text” below the first editor.")];
+    }
+    const hypers = isForEvery ? null : [hyperOf(await context.ask(["hyper", "a.kf"])), hyperOf(await context.ask(["hyper", "b.kf"]))];
+    const there = verdictOf(await context.ask([command, "a.kf", "b.kf"]));
+    const back = verdictOf(await context.ask([command, "b.kf", "a.kf"]));
+    return [
+        choice, element("p", { class: "meaning" }, meaningOf(there, back, isForEvery)),
+        await sectionOf(context, { verdict: there, names: ["a.kf", "b.kf"], letters: ["A", "B"], hypers }),
+        await sectionOf(context, { verdict: back, names: ["b.kf", "a.kf"], letters: ["B", "A"], hypers: hypers && [hypers[1], hypers[0]] }),
+    ];
+}

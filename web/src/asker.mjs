@@ -7,7 +7,7 @@
 
 const MEGABYTE = 1 << 20;
 const WANT_OF_MEMORY = 12;
-const decoder = new TextDecoder();
+const decoder = new TextDecoder("utf-8", { ignoreBOM: true });
 const encoder = new TextEncoder();
 
 /** The address of the worker, for browsers that take none from a plain text. */
@@ -124,12 +124,12 @@ export function createAsker(onRun) {
     return {
         /**
          * @param {string[]} words
-         * @param {Record<string, string>} files
+         * @param {Record<string, string | Uint8Array>} files
          * @returns {Promise<Outcome>}
          */
         ask(words, files) {
             return new Promise((done) => {
-                const bytes = Object.fromEntries(Object.entries(files).map(([name, text]) => [name, encoder.encode(text)]));
+                const bytes = Object.fromEntries(Object.entries(files).map(([name, held]) => [name, typeof held === "string" ? encoder.encode(held) : held]));
                 count += 1;
                 queue.push({ number: count, words, files: bytes, bound: megabytes * MEGABYTE, done });
                 next();

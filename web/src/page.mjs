@@ -224,13 +224,14 @@ function showTarget() {
 }
 
 /**
- * Writes in the margin what each statement of a text leaks.
+ * Writes in the margin what each statement of a text leaks, where its question was answered.
  * @param {number} mine
  * @param {"a" | "b"} name
+ * @param {boolean} isAnswered
  */
-async function blame(mine, name) {
+async function blame(mine, name, isAnswered) {
     const text = state[name];
-    if (text === null || !byId("margin").checked || mine !== epoch) {
+    if (text === null || !isAnswered || !byId("margin").checked || mine !== epoch) {
         editors[name].blame([]);
         return;
     }
@@ -264,6 +265,7 @@ async function refresh() {
     answer.setAttribute("aria-busy", "true");
     delete document.body.dataset.settled;
     Object.values(editors).forEach((editor) => editor.clear());
+    let isAnswered = false;
     try {
         const nodes = await SHOW[state.view](contextOf(mine));
         if (mine === epoch) {
@@ -273,6 +275,7 @@ async function refresh() {
             }
             fill(answer, ...nodes);
             say(`Answered in ${Math.round(performance.now() - from)} ms.`);
+            isAnswered = true;
         }
     } catch (error) {
         if (mine === epoch) {
@@ -282,8 +285,8 @@ async function refresh() {
     if (mine === epoch) {
         answer.setAttribute("aria-busy", "false");
         settle(String(mine));
-        await blame(mine, "a");
-        await blame(mine, "b");
+        await blame(mine, "a", isAnswered);
+        await blame(mine, "b", isAnswered);
     }
 }
 

@@ -1,6 +1,6 @@
 # `make` shows the first example's answer, proves and builds the program, and leaves it as bin/kuifje. README.md says what each
 # command does and how long it takes.
-.PHONY: first try lib install dist test audit hostile bench confirm
+.PHONY: first try lib page install dist test audit hostile bench confirm
 
 PREFIX ?= /usr/local
 LIBDIR ?= $(PREFIX)/lib
@@ -19,6 +19,13 @@ SOURCES := crates.txt VERSION $(shell find crates -name out -prune -o -type f \(
 
 # The library for C, in lib/: docs/LIBRARY.md.
 lib: lib/libkuifje.so.0
+
+# The page, in dist/page: the proved library as WebAssembly, with editors and pictures. web/README.md says what it wants and how it is tried.
+page: web/out/kuifje64.wasm
+	@web/build
+
+web/out/kuifje64.wasm: lib/libkuifje.so.0 $(wildcard web/module/*)
+	@web/module/build
 
 # The program and the library, the manual page, and what shells and editors know of the program: share/README.md says where each file goes.
 # Built is what isn't there or is older than its sources.

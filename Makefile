@@ -20,7 +20,7 @@ SOURCES := crates.txt VERSION $(shell find crates -name out -prune -o -type f \(
 # The library for C, in lib/: docs/LIBRARY.md.
 lib: lib/libkuifje.so.0
 
-# The page, in dist/page: the proved library as WebAssembly, with editors and pictures. web/README.md says what it wants and how it is tried.
+# The page, in dist/page: the proved library as WebAssembly, with editors and pictures. docs/PAGE.md.
 page: web/out/kuifje64.wasm
 	@web/build
 

@@ -175,7 +175,7 @@ export function exerciseOf(place, exercise, number) {
     const inside = element("div", {});
     const solution = element("details", { class: "solution", toggle: () => {
         if (solution.open && inside.childNodes.length === 0) {
-            fill(inside, ...blocksOf({ ...place, files }, exercise.solved));
+            fill(inside, ...blocksOf({ ...place, files, path: place.path.replace("exercises", "solutions") }, exercise.solved));
         }
     } }, element("summary", {}, "Solution"), inside);
     const seen = new Set();

@@ -9,28 +9,38 @@ import { NOTHING, fractionOf, near, printed, product, sum } from "./fractions.mj
 /** @typedef {import("./answers.mjs").Groups} Groups */
 
 const FEW = ["#e69f00", "#56b4e9", "#009e73", "#f0e442", "#0072b2", "#d55e00", "#cc79a7", "#999999"];
-const WIDTH = 760;
+/** A picture is drawn for the width that it has on the page, so that its letters have the size of others. */
+const WIDEST = 760;
+const NARROWEST = 340;
 const MOST_CELLS = 6000;
 
 /** @param {string} text */
 const size = (text) => near(fractionOf(text) || NOTHING);
 
 /**
- * Whether dark letters can be read on a colour.
+ * Whether black letters are read better on a colour than white ones.
  * @param {string} colour as #rrggbb or rgb(r, g, b)
  */
 function isLight(colour) {
     const parts = colour.startsWith("#") ? [1, 3, 5].map((at) => parseInt(colour.slice(at, at + 2), 16)) : (colour.match(/\d+/g) || []).map(Number);
-    return 0.299 * parts[0] + 0.587 * parts[1] + 0.114 * parts[2] > 140;
+    const [red, green, blue] = parts.map((part) => ((part / 255 + 0.055) / 1.055) ** 2.4);
+    return 0.2126 * red + 0.7152 * green + 0.0722 * blue > 0.179;
+}
+
+/** The width that a picture has now. */
+function room() {
+    const column = document.getElementById("answers");
+    return Math.min(Math.max(column === null ? WIDEST : column.clientWidth, NARROWEST), WIDEST);
 }
 
 /**
+ * @param {number} width
  * @param {number} height
  * @param {string} label
  */
-function canvas(height, label) {
+function canvas(width, height, label) {
     const svg = document.createElementNS("http://www.w3.org/2000/svg", "svg");
-    svg.setAttribute("viewBox", `0 0 ${WIDTH} ${height}`);
+    svg.setAttribute("viewBox", `0 0 ${width} ${height}`);
     svg.setAttribute("role", "img");
     svg.setAttribute("aria-label", label);
     svg.setAttribute("class", "picture");
@@ -103,42 +113,45 @@ export function hyperPicture(hyper) {
         return null;
     }
     const colours = coloursOf(prior.map(({ value }) => value));
+    const whole = room();
+    const side = whole / 7;
     const height = 330;
     const top = 26;
     const y = scaleLinear([0, 1], [top, height - 44]);
     const gap = Math.min(6, 120 / hyper.groups.length);
-    const x = scaleLinear([0, 1], [150, WIDTH - 10 - gap * hyper.groups.length]);
+    const left = side + 40;
+    const x = scaleLinear([0, 1], [left, whole - 10 - gap * hyper.groups.length]);
     /** @type {any[]} */
     const drawn = [];
     /** @type {any[]} */
-    const texts = [{ x: 60, y: 16, text: "prior", isStrong: true }, { x: 150, y: 16, text: "posteriors (inners)", anchor: "start", isStrong: true }];
-    const column = (/** @type {number} */ left, /** @type {number} */ width, /** @type {import("./answers.mjs").Share[]} */ shares, /** @type {string} */ name) => {
+    const texts = [{ x: 10 + side / 2, y: 16, text: "prior", isStrong: true }, { x: left, y: 16, text: "posteriors (inners)", anchor: "start", isStrong: true }];
+    const column = (/** @type {number} */ from, /** @type {number} */ width, /** @type {import("./answers.mjs").Share[]} */ shares, /** @type {string} */ name) => {
         let bottom = 0;
         for (const { value, share } of shares) {
             const next = bottom + size(share);
             const title = `${name}: ${value} with probability ${share}`;
-            drawn.push({ x: left, y: y(bottom), width, height: y(next) - y(bottom) - 1, fill: colours.get(value), label: value, title });
+            drawn.push({ x: from, y: y(bottom), width, height: y(next) - y(bottom) - 1, fill: colours.get(value), label: value, title });
             bottom = next;
         }
     };
-    column(10, 100, prior, "prior");
-    let from = 0;
+    column(10, side, prior, "prior");
+    let seen = 0;
     hyper.groups.forEach((group, index) => {
-        const to = from + size(group.weight);
-        const left = x(from) + gap * index;
-        const width = x(to) - x(from);
-        column(left, width, group.shares, `inner ${group.name}, outer ${group.weight}`);
+        const next = seen + size(group.weight);
+        const place = x(seen) + gap * index;
+        const width = x(next) - x(seen);
+        column(place, width, group.shares, `inner ${group.name}, outer ${group.weight}`);
         if (width >= 9 * group.weight.length) {
-            texts.push({ x: left + width / 2, y: height - 28, text: group.weight, isStrong: true });
+            texts.push({ x: place + width / 2, y: height - 28, text: group.weight, isStrong: true });
         }
         if (width >= 60) {
-            texts.push({ x: left + width / 2, y: height - 10, text: `inner ${group.name}` });
+            texts.push({ x: place + width / 2, y: height - 10, text: `inner ${group.name}` });
         }
-        from = to;
+        seen = next;
     });
-    texts.push({ x: 130, y: height - 28, text: "outer", anchor: "end" });
+    texts.push({ x: left - 8, y: height - 28, text: "outer", anchor: "end" });
     const said = hyper.groups.slice(0, 8).map((group) => `inner ${group.name} with outer probability ${group.weight}`).join(", ");
-    const { svg, drawing } = canvas(height, `Picture of the hyper: ${hyper.count} inners, ${said}. The table has all numbers.`);
+    const { svg, drawing } = canvas(whole, height, `Picture of the hyper: ${hyper.count} inners, ${said}. The table has all numbers.`);
     addBoxes(drawing, drawn);
     addLabels(drawing, texts);
     return svg;
@@ -155,23 +168,25 @@ export function heatMap(cells, rows, columns, label) {
     if (cells.length * columns.length > MOST_CELLS || rows.length === 0 || columns.length === 0) {
         return null;
     }
-    const left = 16 + 8 * Math.min(Math.max(...rows.map((it) => it.length)), 22);
-    const width = Math.min((WIDTH - left - 10) / columns.length, 130);
+    const whole = room();
+    const most = whole < WIDEST / 2 ? 10 : 22;
+    const left = 16 + 8 * Math.min(Math.max(...rows.map((it) => it.length)), most);
+    const width = Math.min((whole - left - 10) / columns.length, 130);
     const height = Math.max(Math.min(44, 560 / rows.length), 3);
     const drawn = cells.flatMap((row, i) => row.map((cell, j) => ({
         x: left + j * width, y: 28 + i * height, width: width - 1, height: height - 1,
         fill: interpolateBlues(size(cell)), label: cell, title: `${rows[i]}, ${columns[j]}: ${cell}`,
     })));
-    const shorter = (/** @type {string} */ text, /** @type {number} */ most) => (text.length > most ? `${text.slice(0, most - 1)}…` : text);
+    const shorter = (/** @type {string} */ text, /** @type {number} */ length) => (text.length > length ? `${text.slice(0, length - 1)}…` : text);
     const heads = columns.map((text, j) => ({ x: left + (j + 0.5) * width, y: 18, text: shorter(text, Math.floor(width / 8)) })).filter(() => width >= 20);
-    const sides = rows.map((text, i) => ({ x: left - 8, y: 28 + (i + 0.5) * height + 5, text: shorter(text, 22), anchor: "end" })).filter(() => height >= 12);
-    const { svg, drawing } = canvas(36 + rows.length * height, label);
+    const sides = rows.map((text, i) => ({ x: left - 8, y: 28 + (i + 0.5) * height + 5, text: shorter(text, most), anchor: "end" })).filter(() => height >= 12);
+    const { svg, drawing } = canvas(whole, 36 + rows.length * height, label);
     addBoxes(drawing, drawn);
     addLabels(drawing, [...heads, ...sides]);
     return svg;
 }
 
-const FLOW = { height: 300, top: 30, side: 130, bar: 14, most: 60 };
+const FLOW = { height: 300, top: 30, side: 120, bar: 14, most: 60 };
 
 /**
  * Where each of some bars stands, as high as it is likely.
@@ -197,12 +212,13 @@ function barsOf(outers) {
  */
 function bandsOf(left, right, letters, matrix) {
     const link = linkHorizontal();
+    const end = room() - FLOW.side;
     return matrix.flatMap((row, i) => row.map((cell, j) => {
         const [from, to] = [left[i], right[j]];
         const leaving = from.height * size(cell);
         const arriving = to.height * Math.min((size(from.outer) * size(cell)) / size(to.outer), 1);
         const source = [FLOW.side, from.top + from.used + leaving / 2];
-        const target = [WIDTH - FLOW.side, to.top + to.used + arriving / 2];
+        const target = [end, to.top + to.used + arriving / 2];
         from.used += leaving;
         to.used += arriving;
         const title = `inner ${i} of ${letters[0]} goes to inner ${j} of ${letters[1]} with probability ${cell}`;
@@ -222,14 +238,14 @@ export function flowPicture(outers, letters, matrix) {
     }
     const [left, right] = outers.map(barsOf);
     const label = `Picture of the matrix: how the ${left.length} inners of ${letters[0]} become the ${right.length} inners of ${letters[1]}. The table has its numbers.`;
-    const { svg, drawing } = canvas(FLOW.height, label);
+    const { svg, drawing } = canvas(room(), FLOW.height, label);
     const bands = drawing.append("g").selectAll("path").data(bandsOf(left, right, letters, matrix)).enter().append("path").attr("class", "band")
         .attr("d", (/** @type {any} */ it) => it.path).attr("stroke", (/** @type {any} */ it) => it.fill)
         .attr("stroke-width", (/** @type {any} */ it) => Math.max(it.width, 1));
     bands.append("title").text((/** @type {any} */ it) => it.title);
     const sides = [
         { bars: left, letter: letters[0], x: FLOW.side - FLOW.bar, beside: FLOW.side - FLOW.bar - 8, anchor: "end" },
-        { bars: right, letter: letters[1], x: WIDTH - FLOW.side, beside: WIDTH - FLOW.side + FLOW.bar + 8, anchor: "start" },
+        { bars: right, letter: letters[1], x: room() - FLOW.side, beside: room() - FLOW.side + FLOW.bar + 8, anchor: "start" },
     ];
     sides.forEach(({ bars, letter, x, beside, anchor }, side) => {
         addBoxes(drawing, bars.map(({ top, height, outer }, i) => ({

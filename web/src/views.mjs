@@ -168,15 +168,12 @@ export async function commandView(context) {
     const form = element("form", { class: "words", submit }, element("label", { for: "words" }, "kuifje "), input, element("button", { type: "submit" }, "Ask"));
     const note = element("p", { class: "note" },
         "a.kf and b.kf are the texts in the editors, gain.json is the gain table, and the files of the gallery and the course have their names.");
-    if (context.words === null) {
-        return [form, note];
-    }
-    const outcome = await context.tryTo(typedWords(context.words));
+    const outcome = await context.tryTo(typedWords(input.value));
     if (outcome.kind !== "answer") {
         return [form, note, context.failure(outcome)];
     }
     const cut = outcome.out.length > MOST_SHOWN ? `${outcome.out.slice(0, MOST_SHOWN)}\n…` : outcome.out;
-    const text = `$ kuifje ${context.words}\n${cut}${outcome.err}`;
+    const text = `$ kuifje ${input.value}\n${cut}${outcome.err}`;
     return [
         form, element("pre", { class: "terminal", tabindex: "0", "aria-label": "What the program prints" }, text),
         element("p", {}, `Status ${outcome.status}. `, button("Keep the answer", () => context.keep("answer.txt", outcome.out))), note,

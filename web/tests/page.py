@@ -11,6 +11,7 @@ import argparse
 import base64
 import gzip
 import json
+import re
 import subprocess
 import sys
 import tempfile
@@ -22,6 +23,7 @@ from selenium.webdriver.common.action_chains import ActionChains
 from selenium.webdriver.common.keys import Keys
 
 import commands
+import lecture
 from browser import Page, Server, chromium
 from commands import Command
 
@@ -409,6 +411,18 @@ return poor;
 """
 
 
+def holds_the_lecture(page: Page) -> None:
+    print(f"    {len(lecture.hold(page))} steps")
+
+
+def knows_the_words(page: Page) -> None:
+    """The editor colours the words that the other editors of share/ colour."""
+    grammar = json.loads(example("share/textmate/kuifje.tmLanguage.json"))
+    listed = {word for it in grammar["patterns"] for group in re.findall(r"\(([a-z|]+)\)", it["match"]) for word in group.split("|")}
+    own = set(re.findall(r'"([a-z]+)"', example("web/src/programs.mjs").split("export const WORDS")[1].split("};")[0]))
+    expect(listed == own, f"the editors differ in {listed ^ own}")
+
+
 # The program's bytes.
 
 
@@ -450,7 +464,7 @@ def every_program(page: Page) -> None:
 
 TESTS = [is_small, answers_at_once, shows_views, says_what_is_asked, shows_a_refusal_at_its_place, compares_two_texts, edits_gains, is_stopped, wants_memory, tells_a_trap,
          takes_both_modules, keeps_a_link, refuses_links, takes_no_markup, fetches_nothing_else, opens_the_gallery, teaches, goes_by_keyboard, fits_a_telephone, can_be_read,
-         page_commands, gallery_hypers]
+         holds_the_lecture, knows_the_words,         page_commands, gallery_hypers]
 LONG_TESTS = [every_program]
 
 parser = argparse.ArgumentParser()

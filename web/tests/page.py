@@ -1,5 +1,6 @@
 #!/usr/bin/env python3
-"""Tries the page in a real browser. With --quick what takes seconds is left out: the commands of most pages, and every program under every command.
+"""Tries the page in a real browser. With --quick it takes less of some trials and leaves out every program under every command, and after
+100 seconds it begins no further trial, and names what it left out.
 
     web/tests/page.py [--quick] [--program PROGRAM] [--page FOLDER]
 
@@ -17,6 +18,7 @@ import sys
 import tempfile
 import time
 import traceback
+from collections.abc import Callable
 from pathlib import Path
 
 from selenium.webdriver.common.action_chains import ActionChains
@@ -29,6 +31,8 @@ from commands import Command
 
 TOP = Path(__file__).resolve().parent.parent.parent
 LARGEST = 1_500_000
+# How long the quick trials may take before no further one is begun.
+SECONDS = 100
 LONG = """var i : 0..1000 := 0;
 var j : 0..1000 := 0;
 var k : 0..1000 := 0;
@@ -256,7 +260,7 @@ def refuses_links(page: Page) -> None:
                          {**good, "a": "x" * (5 << 20)}]
     links = ["#kf1.", "#kf1.AAAA", "#kf1.%3Cscript%3E", "#kf2.abc", "#x", "#<img src=x onerror=window.hacked=1>", "#lesson/99", "#study/nothing", "#page/__proto__", "#study/constructor",
              *(state_link(page, it) for it in odd)]
-    for link in links:
+    for link in links[::3] if QUICK else links:
         page.open(link)
         expect(page.find("#message").is_displayed(), f"{link[:60]} is read")
         has(page.find("#message").text, "This link can't be read", "Nothing of it is shown")
@@ -272,7 +276,7 @@ def takes_no_markup(page: Page) -> None:
     page.open()
     table = json.dumps({"actions": [{"gains": [[MARKUP, 1]], "name": MARKUP}], "format": "kuifje-gain-1", "over": 1, "rest": 0})
     state = {"a": f"# {MARKUP}\nvar x : 0..1 := uniform 0..1;\nobserve x {MARKUP};\n", "b": MARKUP, "view": "leak", "of": "a", "gain": table, "words": f"hyper {MARKUP}", "page": None}
-    for view in ("hyper", "leak", "refine", "command", "lines"):
+    for view in ("leak", "command") if QUICK else ("hyper", "leak", "refine", "command", "lines"):
         page.open(state_link(page, {**state, "view": view}))
         time.sleep(0.2)
         check_clean(page)
@@ -373,7 +377,7 @@ def goes_by_keyboard(page: Page) -> None:
 
 
 def fits_a_telephone(page: Page) -> None:
-    for width in (360, 768, 1500):
+    for width in (360,) if QUICK else (360, 768, 1500):
         page.driver.execute_cdp_cmd("Emulation.setDeviceMetricsOverride", {"width": width, "height": 780, "deviceScaleFactor": 1, "mobile": width < 700})
         page.open()
         for view in ("hyper", "channel", "leak", "lines", "command"):
@@ -462,10 +466,10 @@ def every_program(page: Page) -> None:
         compare(page, wanted, kind)
 
 
-TESTS = [is_small, answers_at_once, shows_views, says_what_is_asked, shows_a_refusal_at_its_place, compares_two_texts, edits_gains, is_stopped, wants_memory, tells_a_trap,
+TESTS: list[Callable[[Page], None]] = [is_small, answers_at_once, shows_views, says_what_is_asked, shows_a_refusal_at_its_place, compares_two_texts, edits_gains, is_stopped, wants_memory, tells_a_trap,
          takes_both_modules, keeps_a_link, refuses_links, takes_no_markup, fetches_nothing_else, opens_the_gallery, teaches, goes_by_keyboard, fits_a_telephone, can_be_read,
          holds_the_lecture, knows_the_words,         page_commands, gallery_hypers]
-LONG_TESTS = [every_program]
+LONG_TESTS: list[Callable[[Page], None]] = [every_program]
 
 parser = argparse.ArgumentParser()
 parser.add_argument("--quick", action="store_true")
@@ -482,8 +486,12 @@ def main() -> None:
     failed = []
     tests = [it for it in [*TESTS, *([] if QUICK else LONG_TESTS)] if given.only in it.__name__]
     began = time.monotonic()
+    left_out = []
     for test in tests:
         start = time.monotonic()
+        if QUICK and start - began > SECONDS:
+            left_out.append(test.__name__)
+            continue
         try:
             test(page)
             complaints = [it for it in page.log() if "favicon" not in it]
@@ -495,7 +503,10 @@ def main() -> None:
             page.log()
     driver.quit()
     server.close()
-    print(f"page: {len(tests) - len(failed)} of {len(tests)} trials passed in {time.monotonic() - began:.0f} s")
+    if left_out:
+        print(f"page: {SECONDS} seconds are over, so these are left out: {', '.join(left_out)}")
+    ran = len(tests) - len(left_out)
+    print(f"page: {ran - len(failed)} of {ran} trials passed in {time.monotonic() - began:.0f} s")
     sys.exit(1 if failed else 0)
 
 

@@ -215,7 +215,7 @@ def files() -> dict[str, str]:
 
 
 def main() -> None:
-    content = {
+    content: Block = {
         "version": (TOP / "VERSION").read_text().strip(),
         "files": files(),
         "gallery": gallery(),

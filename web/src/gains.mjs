@@ -55,6 +55,7 @@ export function gainEditor(json, values, onChange) {
         fill(whole, element("p", {}, "This table is edited as JSON."), asText);
         return whole;
     }
+    const columns = [...new Set([...values, ...gains.actions.flatMap((action) => [...action.gains.keys()])])];
     const changed = () => onChange(jsonOf(gains));
     const number = (/** @type {number} */ value, /** @type {string} */ label, /** @type {(value: number) => void} */ set) => {
         const input = element("input", { type: "number", step: "1", value: String(value), "aria-label": label, change: () => {
@@ -70,7 +71,7 @@ export function gainEditor(json, values, onChange) {
             action.name = name.value;
             changed();
         } });
-        const cells = values.map((value) => {
+        const cells = columns.map((value) => {
             const held = action.gains.get(value);
             return element("td", {}, number(held === undefined ? gains.rest : held, `gain of ${action.name} at ${value}`, (gain) => {
                 if (gain === gains.rest) {
@@ -86,7 +87,7 @@ export function gainEditor(json, values, onChange) {
         }, { "aria-label": `Remove ${action.name}`, disabled: gains.actions.length === 1 });
         return element("tr", {}, element("th", { scope: "row" }, name), ...cells, element("td", {}, remove));
     };
-    const heads = ["action", ...values, ""].map((it) => element("th", { scope: "col" }, it));
+    const heads = ["action", ...columns, ""].map((it) => element("th", { scope: "col" }, it));
     const shown = element("table", {}, element("caption", {}, "What each action gains at each value"), element("thead", {}, element("tr", {}, ...heads)),
         element("tbody", {}, ...gains.actions.map(row)));
     const add = button("Add an action", () => {
@@ -97,8 +98,9 @@ export function gainEditor(json, values, onChange) {
         gains.actions.push({ name: `action_${count}`, gains: new Map() });
         changed();
     });
+    const again = button("Begin anew", () => onChange(jsonOf(guessOf(values))));
     fill(whole, element("div", { class: "scroll", tabindex: "0", role: "region", "aria-label": "Gain table" }, shown),
-        element("p", {}, add, " ", element("label", {}, "all gains divided by ", number(gains.over, "divisor", (over) => {
+        element("p", {}, add, " ", again, " ", element("label", {}, "all gains divided by ", number(gains.over, "divisor", (over) => {
             gains.over = over;
         }))), asText);
     return whole;

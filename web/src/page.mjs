@@ -317,6 +317,7 @@ function shape() {
     });
     byId("answer").setAttribute("aria-labelledby", `tab-${tab}`);
     byId("second").hidden = state.b === null;
+    document.body.classList.toggle("comparing", state.b !== null);
     byId("swap").hidden = state.b === null;
     byId("compare").textContent = state.b === null ? "Compare with a second text" : "Close the second text";
     byId("which").hidden = state.b === null || ["refine", "command"].includes(tab);
@@ -381,11 +382,22 @@ function run(words) {
 }
 
 /**
- * Shows a lesson, a study or a page.
+ * Shows a lesson, a study or a page, and gives it an address, to which the browser goes back.
  * @param {string} page
  * @param {string} heading
  */
-async function read(page, heading) {
+function read(page, heading) {
+    if (location.hash !== `#${page}`) {
+        history.pushState(null, "", `#${page}`);
+    }
+    return showPage(page, heading);
+}
+
+/**
+ * @param {string} page
+ * @param {string} heading
+ */
+async function showPage(page, heading) {
     const reader = byId("reader");
     const files = show(byId("reader-text"), await library(), { show: read, open, run, ask, program: () => state.a }, page, heading);
     if (files === null) {
@@ -431,12 +443,12 @@ async function follow() {
         return;
     }
     if (link.kind === "page") {
-        await Promise.all([read(link.page, ""), document.body.dataset.settled === undefined ? take({}) : null]);
+        await Promise.all([showPage(link.page, ""), document.body.dataset.settled === undefined ? take({}) : null]);
         return;
     }
     await take(link.kind === "state" ? link.state : {});
     if (link.kind === "state" && link.state.page !== null) {
-        await read(link.state.page, "");
+        await showPage(link.state.page, "");
     }
 }
 

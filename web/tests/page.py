@@ -244,6 +244,10 @@ def keeps_a_link(page: Page) -> None:
     has(page.find("#reader-text").text, "2. Hyper-distributions", "witness")
 
 
+def changed(state: dict[str, object], **parts: object) -> dict[str, object]:
+    return {**state, **parts}
+
+
 def state_link(page: Page, state: object) -> str:
     """A link with any state, made as the page makes it."""
     return str(page.driver.execute_async_script(
@@ -255,9 +259,9 @@ def state_link(page: Page, state: object) -> str:
 def refuses_links(page: Page) -> None:
     """A link that can't be read says so, and shows nothing else."""
     page.open()
-    good = {"a": "var x : 0..1 := 0;", "b": None, "view": "hyper", "of": "a", "gain": None, "words": None, "page": None}
-    odd: list[object] = [{}, [], None, "x", {**good, "view": MARKUP}, {**good, "view": "__proto__"}, {**good, "a": 5}, {**good, "of": "b"}, {**good, "more": 1}, {**good, "page": "../x"},
-                         {**good, "a": "x" * (5 << 20)}]
+    good: dict[str, object] = {"a": "var x : 0..1 := 0;", "b": None, "view": "hyper", "of": "a", "gain": None, "words": None, "page": None}
+    odd: list[object] = [{}, [], None, "x", *(changed(good, **parts) for parts in (
+        {"view": MARKUP}, {"view": "__proto__"}, {"a": 5}, {"of": "b"}, {"more": 1}, {"page": "../x"}, {"a": "x" * (5 << 20)}))]
     links = ["#kf1.", "#kf1.AAAA", "#kf1.%3Cscript%3E", "#kf2.abc", "#x", "#<img src=x onerror=window.hacked=1>", "#lesson/99", "#study/nothing", "#page/__proto__", "#study/constructor",
              *(state_link(page, it) for it in odd)]
     for link in links[::3] if QUICK else links:
@@ -275,12 +279,12 @@ def takes_no_markup(page: Page) -> None:
     """Markup in a program, a table, a command and a link is a text like any other."""
     page.open()
     table = json.dumps({"actions": [{"gains": [[MARKUP, 1]], "name": MARKUP}], "format": "kuifje-gain-1", "over": 1, "rest": 0})
-    state = {"a": f"# {MARKUP}\nvar x : 0..1 := uniform 0..1;\nobserve x {MARKUP};\n", "b": MARKUP, "view": "leak", "of": "a", "gain": table, "words": f"hyper {MARKUP}", "page": None}
+    state: dict[str, object] = {"a": f"# {MARKUP}\nvar x : 0..1 := uniform 0..1;\nobserve x {MARKUP};\n", "b": MARKUP, "view": "leak", "of": "a", "gain": table, "words": f"hyper {MARKUP}", "page": None}
     for view in ("leak", "command") if QUICK else ("hyper", "leak", "refine", "command", "lines"):
-        page.open(state_link(page, {**state, "view": view}))
+        page.open(state_link(page, changed(state, view=view)))
         time.sleep(0.2)
         check_clean(page)
-    page.open(state_link(page, {**state, "a": example("course/witness.kf"), "b": example("course/witness.kf"), "view": "leak"}))
+    page.open(state_link(page, changed(state, a=example("course/witness.kf"), b=example("course/witness.kf"), view="leak")))
     check_clean(page)
     page.view("command")
     has(page.answer(), MARKUP)

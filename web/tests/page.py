@@ -260,8 +260,8 @@ def refuses_links(page: Page) -> None:
     """A link that can't be read says so, and shows nothing else."""
     page.open()
     good: dict[str, object] = {"a": "var x : 0..1 := 0;", "b": None, "view": "hyper", "of": "a", "gain": None, "words": None, "page": None}
-    odd: list[object] = [{}, [], None, "x", *(changed(good, **parts) for parts in (
-        {"view": MARKUP}, {"view": "__proto__"}, {"a": 5}, {"of": "b"}, {"more": 1}, {"page": "../x"}, {"a": "x" * (5 << 20)}))]
+    parts: list[tuple[str, object]] = [("view", MARKUP), ("view", "__proto__"), ("a", 5), ("of", "b"), ("more", 1), ("page", "../x"), ("a", "x" * (5 << 20))]
+    odd: list[object] = [{}, [], None, "x", *(changed(good, **{name: part}) for name, part in parts)]
     links = ["#kf1.", "#kf1.AAAA", "#kf1.%3Cscript%3E", "#kf2.abc", "#x", "#<img src=x onerror=window.hacked=1>", "#lesson/99", "#study/nothing", "#page/__proto__", "#study/constructor",
              *(state_link(page, it) for it in odd)]
     for link in links[::3] if QUICK else links:

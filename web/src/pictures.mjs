@@ -59,7 +59,7 @@ function addBoxes(drawing, boxes) {
     all.append("title").text((/** @type {any} */ it) => it.title);
     all.filter((/** @type {any} */ it) => it.height >= 15 && it.width >= 9 * it.label.length).append("text")
         .attr("x", (/** @type {any} */ it) => it.x + it.width / 2).attr("y", (/** @type {any} */ it) => it.y + it.height / 2)
-        .attr("class", "box-label").attr("fill", (/** @type {any} */ it) => (isLight(it.fill) ? "#000000" : "#ffffff")).text((/** @type {any} */ it) => it.label);
+        .attr("class", "box-label").style("fill", (/** @type {any} */ it) => (isLight(it.fill) ? "#000000" : "#ffffff")).text((/** @type {any} */ it) => it.label);
 }
 
 /**

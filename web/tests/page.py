@@ -168,6 +168,20 @@ def edits_gains(page: Page) -> None:
     page.wait(lambda: "the table below\t2/3" in page.answer(), "what the changed bet is worth")
 
 
+def cuts_what_is_large(page: Page) -> None:
+    """More than 200 inners or columns make no picture: a table shows the first ones."""
+    page.open()
+    page.write("var x : 0..299 := uniform 0..299;\nabout old x;\nobserve x;\n")
+    has(page.answer(), "There are 300 inners, too many for a picture")
+    rows = "return document.querySelectorAll('#answer tbody tr').length"
+    expect(page.script(rows) == 200, f"the table of inners has {page.script(rows)} rows")
+    page.view("channel")
+    has(page.answer(), "There are 300 columns, too many for a picture", "Bayes capacity 300")
+    expect(not page.driver.find_elements("css selector", "#answer svg"), "a channel of 300 columns has a picture")
+    page.view("traces")
+    has(page.answer(), "An observer sees one of 300 traces", "There are 300 traces, too many for a picture")
+
+
 # Runs that don't come to an answer.
 
 
@@ -470,9 +484,12 @@ def every_program(page: Page) -> None:
         compare(page, wanted, kind)
 
 
-TESTS: list[Callable[[Page], None]] = [is_small, answers_at_once, shows_views, says_what_is_asked, shows_a_refusal_at_its_place, compares_two_texts, edits_gains, is_stopped, wants_memory, tells_a_trap,
-         takes_both_modules, keeps_a_link, refuses_links, takes_no_markup, fetches_nothing_else, opens_the_gallery, teaches, goes_by_keyboard, fits_a_telephone, can_be_read,
-         holds_the_lecture, knows_the_words,         page_commands, gallery_hypers]
+TESTS: list[Callable[[Page], None]] = [
+    is_small, answers_at_once, page_commands, shows_views, says_what_is_asked, shows_a_refusal_at_its_place, compares_two_texts, edits_gains,
+    cuts_what_is_large, is_stopped, wants_memory, tells_a_trap, takes_both_modules, keeps_a_link, refuses_links, takes_no_markup,
+    fetches_nothing_else, opens_the_gallery, teaches, holds_the_lecture, goes_by_keyboard, fits_a_telephone, can_be_read, knows_the_words,
+    gallery_hypers,
+]
 LONG_TESTS: list[Callable[[Page], None]] = [every_program]
 
 parser = argparse.ArgumentParser()

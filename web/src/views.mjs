@@ -79,7 +79,7 @@ export async function channelView({ ask, tryTo, file }) {
     const rows = read.rows.slice(0, Math.max(Math.floor(MOST_CELLS / read.columns.length), 1));
     return [
         element("p", {}, "A row says how likely each trace is where the secret has that value, with the declarations as they are written."),
-        picture || tooMany(Math.max(read.count, read.rowCount), read.count > read.rowCount ? "columns" : "rows"),
+        picture || tooMany(Math.max(read.count, read.rowCount), read.count >= read.rowCount ? "columns" : "rows"),
         bound !== null && element("p", {}, "Bayes capacity ", shown(bound),
             ": whatever the prior on these values, and whatever the gains, if none is below 0, to observe a run multiplies the vulnerability by this at most."),
         table("The channel matrix", ["value", ...read.columns], rows.map((row) => [row.value, ...row.cells.map(shown)])),

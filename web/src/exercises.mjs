@@ -110,6 +110,14 @@ function commandsOf(blocks) {
  */
 const disguised = (words) => words.map((word) => word.replace(/course\/solutions\/\S+\.(kf|json)/, (_, kind) => (kind === "kf" ? "your program" : "your table"))).join(" ");
 
+/** @param {import("./asker.mjs").Outcome} outcome */
+function withoutAnswer(outcome) {
+    if (outcome.kind === "answer") {
+        return `The question is refused: ${outcome.err.trim()}`;
+    }
+    return { memory: "Want of memory.", trap: "A trap.", stopped: "It was stopped: press again." }[outcome.kind];
+}
+
 /**
  * @param {Place} place
  * @param {string[]} words
@@ -122,7 +130,7 @@ function checkOf(place, words, files) {
     const begin = async () => {
         const outcome = await place.host.ask(words, files);
         if (outcome.kind !== "answer" || outcome.status > 1) {
-            fill(result, "The program has no answer here.");
+            fill(result, withoutAnswer(outcome));
             return;
         }
         const wanted = FIELDS[words[0]](outcome.out);
@@ -147,7 +155,7 @@ function checkOf(place, words, files) {
         const right = await place.host.ask(words, files);
         const tried = await place.host.ask(words, { ...files, [own[0]]: place.host.program() });
         if (right.kind !== "answer" || tried.kind !== "answer") {
-            fill(result, "The program has no answer here.");
+            fill(result, withoutAnswer(right.kind !== "answer" ? right : tried));
         } else if (tried.status > 1) {
             fill(result, `✗ Your program is refused: ${tried.err.trim()}`);
         } else {

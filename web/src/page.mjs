@@ -115,13 +115,14 @@ class NoAnswer extends Error {
  * @returns {any} what a view may do while it is the newest
  */
 function contextOf(mine) {
-    const now = (/** @type {Outcome} */ outcome) => {
-        if (mine !== epoch) {
+    // A view whose run is stopped, or that another one has replaced, asks nothing more.
+    const tryTo = async (/** @type {string[]} */ words) => {
+        const outcome = mine === epoch ? await ask(words, null) : { kind: /** @type {"stopped"} */ ("stopped"), took: 0 };
+        if (mine !== epoch || outcome.kind === "stopped") {
             throw new NoAnswer({ kind: "stopped", took: 0 });
         }
         return outcome;
     };
-    const tryTo = async (/** @type {string[]} */ words) => now(await ask(words, null));
     return {
         tryTo,
         ask: async (/** @type {string[]} */ words) => {
@@ -161,7 +162,7 @@ function keep(name, text) {
     const link = element("a", { href: address, download: name });
     link.click();
     setTimeout(() => URL.revokeObjectURL(address), 10000);
-    say(`Kept ${name}. A command may name it, too.`);
+    say(`Kept ${name}.${name.endsWith(".json") ? " A command may name it, too." : ""}`);
 }
 
 // What a question comes to.
@@ -240,9 +241,14 @@ async function blame(mine, name, isAnswered) {
         return;
     }
     const rows = outcome.kind === "answer" && outcome.status === 0 ? blameRows(outcome.out, text) : [];
-    editors[name].blame(rows.filter((row) => row.line >= 0).map(({ line, fall, isBlamed, bayes }) => ({
-        line, text: isBlamed ? `−${fall}` : "0", isStrong: isBlamed, title: `Without this statement one guess is right with probability ${bayes}: ${fall} less`,
-    })));
+    const lines = [...new Set(rows.map((row) => row.line))].filter((line) => line >= 0);
+    editors[name].blame(lines.map((line) => {
+        const own = rows.filter((row) => row.line === line);
+        return {
+            line, text: own.map(({ fall, isBlamed }) => (isBlamed ? `−${fall}` : "0")).join(" "), isStrong: own.some(({ isBlamed }) => isBlamed),
+            title: own.map(({ bayes, fall }) => `Without this statement one guess is right with probability ${bayes}: ${fall} less`).join("; "),
+        };
+    }));
 }
 
 /**

@@ -11,7 +11,7 @@ import { typedWords } from "./commands.mjs";
  * What a view may do: ask, and change what the page asks.
  * @typedef {object} Context
  * @property {(words: string[]) => Promise<string>} ask gives the answer; throws where there is none
- * @property {(words: string[]) => Promise<import("./asker.mjs").Outcome>} tryTo gives whatever comes of it
+ * @property {(words: string[]) => Promise<import("./asker.mjs").Outcome>} tryTo gives whatever comes of it; throws where it is stopped
  * @property {string} file the program that is asked about
  * @property {string} text its text
  * @property {boolean} hasSecond
@@ -96,7 +96,7 @@ const USUAL = [["bayes", "one guess"], ["tries:2", "two tries"], ["tries:3", "th
 async function reportRow({ tryTo, file }, gain, name) {
     const outcome = await tryTo(["leak", file, "--gain", gain]);
     if (outcome.kind !== "answer" || outcome.status !== 0) {
-        return [name, outcome.kind === "answer" ? outcome.err.trim() : "no answer", "", "", ""];
+        return [name, outcome.kind === "answer" ? outcome.err.trim() : outcome.kind === "memory" ? "want of memory" : "a trap", "", "", ""];
     }
     const { prior, posterior, quotient, difference: more } = reportOf(outcome.out);
     return [name, shown(prior), shown(posterior), shown(quotient), shown(more)];

@@ -504,6 +504,10 @@ function tabs() {
 }
 
 async function showLink() {
+    if (!("CompressionStream" in window)) {
+        say("This browser is too old to make a link.");
+        return;
+    }
     const link = await linkOf({ ...state });
     history.replaceState(null, "", link);
     byId("link-field").value = location.href;

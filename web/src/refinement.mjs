@@ -9,17 +9,24 @@ import { tooMany } from "./views.mjs";
 /** @typedef {import("./answers.mjs").Verdict} Verdict */
 /** @typedef {import("./answers.mjs").Groups} Groups */
 /**
- * One direction: whether the second text leaks no more than the first. Without hypers the question is about every prior.
- * @typedef {{ verdict: Verdict, names: string[], letters: string[], hypers: Groups[] | null }} Direction
+ * One direction: whether the second text leaks no more than the first, or why there is no verdict. Without hypers it is about every prior.
+ * @typedef {{ verdict: Verdict | null, refusal: string, names: string[], letters: string[], hypers: Groups[] | null }} Direction
  */
 
 /**
- * @param {Verdict} there
- * @param {Verdict} back
+ * @param {Verdict | null} there
+ * @param {Verdict | null} back
  * @param {boolean} isForEvery
  */
 function meaningOf(there, back, isForEvery) {
     const prior = isForEvery ? ", whatever the prior" : "";
+    if (there === null || back === null) {
+        const known = there || back;
+        const [first, second] = known === there ? ["A", "B"] : ["B", "A"];
+        const yes = `${second} leaks no more than ${first} to any adversary, whatever it gains${prior}.`;
+        const no = `To some adversary ${second} leaks more than ${first}.`;
+        return `${known !== null && known.isYes ? yes : no} The other way round there is no verdict.`;
+    }
     if (there.isYes && back.isYes) {
         return `A and B leak the same: no adversary, whatever it gains, does better against one of them${prior}.`;
     }
@@ -91,6 +98,10 @@ async function separationOf(context, verdict, { names, letters: [first, second],
  */
 async function sectionOf(context, direction) {
     const { verdict, names, letters: [first, second], hypers } = direction;
+    const question = `${second} leaks no more than ${first}? `;
+    if (verdict === null) {
+        return element("section", {}, element("h3", {}, question, element("strong", {}, "No verdict")), element("pre", { class: "terminal" }, direction.refusal));
+    }
     const answer = element("strong", { class: verdict.isYes ? "yes" : "no" }, verdict.isYes ? "Yes" : "No");
     const proof = verdict.isYes ? matrixOf(verdict.matrix, direction) : await separationOf(context, verdict, direction);
     const keep = hypers !== null && button("Keep the certificate", async () => {
@@ -99,7 +110,25 @@ async function sectionOf(context, direction) {
             context.keep(`certificate-${first}-${second}.json`, outcome.out);
         }
     });
-    return element("section", {}, element("h3", {}, `${second} leaks no more than ${first}? `, answer), ...proof, keep);
+    return element("section", {}, element("h3", {}, question, answer), ...proof, keep);
+}
+
+/**
+ * Asks about one direction. Where there is no verdict the other one may have one, so that is no failure of the view.
+ * @param {Context} context
+ * @param {"refine" | "covers"} command
+ * @param {string[]} names
+ * @param {string[]} letters
+ * @param {Groups[] | null} hypers
+ * @returns {Promise<Direction>}
+ */
+async function directionOf(context, command, names, letters, hypers) {
+    const outcome = await context.tryTo([command, ...names]);
+    if (outcome.kind !== "answer" || outcome.status > 1) {
+        const refusal = outcome.kind === "answer" ? outcome.err : outcome.kind === "memory" ? "want of memory" : "a trap";
+        return { verdict: null, refusal, names, letters, hypers };
+    }
+    return { verdict: verdictOf(outcome.out), refusal: "", names, letters, hypers };
 }
 
 /**
@@ -115,11 +144,14 @@ export async function refineView(context, command) {
         return [choice, element("p", {}, "A second text is wanted: press “Compare with a second text” below the first editor.")];
     }
     const hypers = isForEvery ? null : [hyperOf(await context.ask(["hyper", "a.kf"])), hyperOf(await context.ask(["hyper", "b.kf"]))];
-    const there = verdictOf(await context.ask([command, "a.kf", "b.kf"]));
-    const back = verdictOf(await context.ask([command, "b.kf", "a.kf"]));
+    const there = await directionOf(context, command, ["a.kf", "b.kf"], ["A", "B"], hypers);
+    const back = await directionOf(context, command, ["b.kf", "a.kf"], ["B", "A"], hypers && [hypers[1], hypers[0]]);
+    if (there.verdict === null && back.verdict === null) {
+        // Neither has one: the refusal is shown as any other.
+        await context.ask([command, "a.kf", "b.kf"]);
+    }
     return [
-        choice, element("p", { class: "meaning" }, meaningOf(there, back, isForEvery)),
-        await sectionOf(context, { verdict: there, names: ["a.kf", "b.kf"], letters: ["A", "B"], hypers }),
-        await sectionOf(context, { verdict: back, names: ["b.kf", "a.kf"], letters: ["B", "A"], hypers: hypers && [hypers[1], hypers[0]] }),
+        choice, element("p", { class: "meaning" }, meaningOf(there.verdict, back.verdict, isForEvery)),
+        await sectionOf(context, there), await sectionOf(context, back),
     ];
 }

@@ -349,6 +349,26 @@ def opens_the_gallery(page: Page) -> None:
     page.wait(lambda: "the table below\t1/3 ≈ 0.3333\t2/3" in page.answer(), "its table")
 
 
+def asks_every_command(page: Page) -> None:
+    """Each button of a lesson's or a study's command leads to an answer, or to a refusal where the page shows one."""
+    page.open()
+    names = [f"lesson/{number}" for number in range(1, 12)] + [f"study/{it.parent.name}" for it in sorted((TOP / "examples").glob("*/README.md"))]
+    count = 0
+    for name in names:
+        page.open(f"#{name}")
+        page.wait(lambda: page.driver.find_elements("css selector", "#reader-text h2"), name)
+        for number in range(int(page.script("return document.querySelectorAll('.command button').length"))):
+            wanted = page.script("""const button = document.querySelectorAll('.command button')[arguments[0]];
+                delete document.body.dataset.settled; button.click(); const shown = button.parentElement.nextElementSibling;
+                return [button.getAttribute('aria-label'), shown === null ? '' : shown.textContent]""", number)
+            page.wait(lambda: page.script("return document.body.dataset.settled && document.getElementById('answer').getAttribute('aria-busy') === 'false'"), wanted[0])
+            told = page.answer()
+            expect("The page failed" not in told and "A trap" not in told, f"{name}, {wanted[0]}: {told[:200]}")
+            expect(("refused" in told) == wanted[1].startswith("kuifje: ") or "$ kuifje" in told, f"{name}, {wanted[0]}: {told[:200]}")
+            count += 1
+    print(f"    {count} commands of {len(names)} pages")
+
+
 def teaches(page: Page) -> None:
     """Exercise 1 of lesson 5: before 7/2, after 13/6. A solution is hidden until it is asked for."""
     page.open("#lesson/5")
@@ -494,7 +514,7 @@ TESTS: list[Callable[[Page], None]] = [
     fetches_nothing_else, opens_the_gallery, teaches, holds_the_lecture, goes_by_keyboard, fits_a_telephone, can_be_read, knows_the_words,
     gallery_hypers,
 ]
-LONG_TESTS: list[Callable[[Page], None]] = [every_program]
+LONG_TESTS: list[Callable[[Page], None]] = [asks_every_command, every_program]
 
 parser = argparse.ArgumentParser()
 parser.add_argument("--quick", action="store_true")

@@ -1,5 +1,5 @@
 -- What the next turn of a run does can be decided.
-use Rattle.std.proofs.Common.{◌≡◌, ◌≢◌, ℕ, zero, suc, ◌+◌, ◌-◌, ◌^◌, ◌<◌, ◌≤◌, subst, arith, ◌⊎◌, ⊎_elim, inl, inr, Option, None, Some, List, unsigned_abs}
+use Rattle.std.proofs.Common.{◌≡◌, ◌≢◌, ℕ, zero, suc, ◌+◌, ◌-◌, ◌^◌, ◌<◌, ◌≤◌, subst, arith, ◌⊎◌, ⊎_elim, inl, inr, Option, None, Some, unsigned_abs}
 use Rattle.std.proofs.Math.IntN.{ℤ, pos}
 use Rattle.std.proofs.lemmas.Int.{ints, by_lt_z}
 use Rattle.std.proofs.lemmas.Bool.{cases_eq, cases_lt}
@@ -9,8 +9,7 @@ use lib.Signed.{◌<ℤ◌, ◌≤ℤ◌}
 use Rattle.kf_simplex.specs.Systems.{LinearSystem, right_column}
 use Rattle.kf_simplex.specs.Tableaus.{Tableau}
 use Rattle.kf_simplex.specs.Runs.{IsNarrow, NoneEnters, Cause, wide, solution, multipliers, budget, Ends, GoesOn}
-use Rattle.kf_simplex.specs.Cells.{row_at, IsFirstDifference, key_at, IsLeaving, IsEntering}
-use Rattle.kf_simplex.specs.Base.{at}
+use Rattle.kf_simplex.specs.Cells.{IsFirstDifference, key_at, IsLeaving, IsEntering}
 use Rattle.kf_simplex.proofs.RowOrder.{leaving_skip, leaving_first, leaving_less, leaving_not_less}
 
 -- ---- narrow tableaus
@@ -50,16 +49,16 @@ narrow s t =
 
 -- ---- the column that enters
 
-entering_more : (cells : List ℤ) (start n : ℕ) (found : Option ℕ) → IsEntering cells start n found → (next : Option ℕ) × IsEntering cells start (suc n) next
-entering_more cells start n (Some c) h = (Some c, ((let l = h.0 in omega arith), h.1, h.2))
-entering_more cells start n None h =
-    by_lt_z (pos 0) (at cells (start + n))
-    (λ (p : pos 0 <ℤ at cells (start + n)). (Some n, (omega arith, p, h)))
-    (λ (p : at cells (start + n) ≤ℤ pos 0). (None, λ j l. ⊎_elim (λ (m : j < n). h j m) (λ (m : n ≤ j). let e : n ≡ j = omega arith in subst (λ (k : ℕ). at cells (start + k) ≤ℤ pos 0) e p) (cases_lt j n)))
+entering_more : (row : ℕ → ℤ) (n : ℕ) (found : Option ℕ) → IsEntering row n found → (next : Option ℕ) × IsEntering row (suc n) next
+entering_more row n (Some c) h = (Some c, ((let l = h.0 in omega arith), h.1, h.2))
+entering_more row n None h =
+    by_lt_z (pos 0) (row n)
+    (λ (p : pos 0 <ℤ row n). (Some n, (omega arith, p, h)))
+    (λ (p : row n ≤ℤ pos 0). (None, λ j l. ⊎_elim (λ (m : j < n). h j m) (λ (m : n ≤ j). let e : n ≡ j = omega arith in subst (λ (k : ℕ). row k ≤ℤ pos 0) e p) (cases_lt j n)))
 
-pub entering_found : (cells : List ℤ) (start n : ℕ) → (found : Option ℕ) × IsEntering cells start n found
-entering_found cells start zero = (None, λ j l. absurd (omega arith))
-entering_found cells start (suc n) = let before = entering_found cells start n in entering_more cells start n before.0 before.1
+pub entering_found : (row : ℕ → ℤ) (n : ℕ) → (found : Option ℕ) × IsEntering row n found
+entering_found row zero = (None, λ j l. absurd (omega arith))
+entering_found row (suc n) = let before = entering_found row n in entering_more row n before.0 before.1
 
 -- ---- the row that leaves
 
@@ -80,28 +79,28 @@ first_difference : (f g : ℕ → ℤ) (n : ℕ) → (o : Ordering) × IsFirstDi
 first_difference f g zero = (Equal, λ k l. absurd (omega arith))
 first_difference f g (suc n) = let before = first_difference f g n in difference_more f g n before.0 before.1
 
-leaving_better : (cells : List ℤ) (w unknowns c i r : ℕ) (o : Ordering) → pos 0 <ℤ row_at cells w i c
+leaving_better : (cells : ℕ → ℕ → ℤ) (w unknowns c i r : ℕ) (o : Ordering) → pos 0 <ℤ cells i c
     → IsFirstDifference (key_at cells w unknowns c i r) (key_at cells w unknowns c r i) (w - unknowns) o
     → IsLeaving cells w unknowns c i (Some r) → (next : Option ℕ) × IsLeaving cells w unknowns c (i + 1) next
 leaving_better cells w unknowns c i r Less p d h = (Some i, leaving_less cells w unknowns c i r p d h)
 leaving_better cells w unknowns c i r Equal p d h = (Some r, leaving_not_less cells w unknowns c i r Equal p d (λ e. absurd (cc)) h)
 leaving_better cells w unknowns c i r Greater p d h = (Some r, leaving_not_less cells w unknowns c i r Greater p d (λ e. absurd (cc)) h)
 
-leaving_more : (cells : List ℤ) (w unknowns c i : ℕ) (best : Option ℕ) → pos 0 <ℤ row_at cells w i c → IsLeaving cells w unknowns c i best
+leaving_more : (cells : ℕ → ℕ → ℤ) (w unknowns c i : ℕ) (best : Option ℕ) → pos 0 <ℤ cells i c → IsLeaving cells w unknowns c i best
     → (next : Option ℕ) × IsLeaving cells w unknowns c (i + 1) next
 leaving_more cells w unknowns c i None p h = (Some i, leaving_first cells w unknowns c i p h)
 leaving_more cells w unknowns c i (Some r) p h =
     let d = first_difference (key_at cells w unknowns c i r) (key_at cells w unknowns c r i) (w - unknowns) in
     leaving_better cells w unknowns c i r d.0 p d.1 h
 
-pub leaving_found : (cells : List ℤ) (w unknowns c i : ℕ) → (best : Option ℕ) × IsLeaving cells w unknowns c i best
+pub leaving_found : (cells : ℕ → ℕ → ℤ) (w unknowns c i : ℕ) → (best : Option ℕ) × IsLeaving cells w unknowns c i best
 leaving_found cells w unknowns c zero = (None, λ k l. absurd (omega arith))
 leaving_found cells w unknowns c (suc i) =
     let before : (best : Option ℕ) × IsLeaving cells w unknowns c i best = leaving_found cells w unknowns c i in
     let more : (best : Option ℕ) × IsLeaving cells w unknowns c (i + 1) best =
-    by_lt_z (pos 0) (row_at cells w i c)
-    (λ (p : pos 0 <ℤ row_at cells w i c). leaving_more cells w unknowns c i before.0 p before.1)
-    (λ (p : row_at cells w i c ≤ℤ pos 0). (before.0, leaving_skip cells w unknowns c i before.0 p before.1)) in
+    by_lt_z (pos 0) (cells i c)
+    (λ (p : pos 0 <ℤ cells i c). leaving_more cells w unknowns c i before.0 p before.1)
+    (λ (p : cells i c ≤ℤ pos 0). (before.0, leaving_skip cells w unknowns c i before.0 p before.1)) in
     let same : i + 1 ≡ suc i = omega arith in
     (more.0, subst (λ (k : ℕ). IsLeaving cells w unknowns c k more.0) same more.1)
 

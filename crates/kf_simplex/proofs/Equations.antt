@@ -30,6 +30,11 @@ pub entry-right : (v e : ℕ) (coefs : List ℤ) (rhs : ℤ) (k c : ℕ) → c �
 unfolding entry
 entry-right v e coefs rhs k c h = grind (arith, nat_tests)
 
+-- nothing stands past the right side
+pub entry-past : (v e : ℕ) (coefs : List ℤ) (rhs : ℤ) (k c : ℕ) → v + e < c → k < e → entry v e coefs rhs k c ≡ pos 0
+unfolding entry
+entry-past v e coefs rhs k c l m = grind (arith, nat_tests)
+
 -- ---- signs and sizes
 
 right_not_negative : (rows : List Equation) (k : ℕ) → pos 0 ≤ℤ right_side rows k

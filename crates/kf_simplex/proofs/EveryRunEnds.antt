@@ -1,127 +1,92 @@
 -- Every run ends: where no cause to end applies there is a next tableau, and pivots are spent.
-use Rattle.std.proofs.Common.{◌≡◌, ◌≢◌, ℕ, zero, suc, ◌+◌, ◌*◌, ◌/◌, ◌%◌, ◌<◌, ◌≤◌, refl, sym, ◌∙◌, arith, ◌⊎◌, ⊎_elim, inl, inr, List, [], Option, None, Some, length, set, length-set, get_or}
-use Rattle.std.proofs.Math.IntN.{ℤ, pos, ◌-ℤ◌, ◌*ℤ◌}
+use Rattle.std.proofs.Common.{◌≡◌, ◌≢◌, ℕ, zero, suc, ◌+◌, ◌<◌, ◌≤◌, refl, sym, ◌∙◌, arith, ◌⊎◌, ⊎_elim, inl, inr, List, [], Option, None, Some, length, set, length-set, get_or}
+use Rattle.std.proofs.Math.IntN.{ℤ, ◌-ℤ◌, ◌*ℤ◌}
 use Rattle.kf_simplex.specs.Systems.{LinearSystem, IsSystem, right_column}
 use Rattle.kf_simplex.specs.Base.{total, at}
 use Rattle.kf_simplex.specs.Tableaus.{Tableau}
 use Rattle.kf_simplex.specs.Runs.{Cause, Ends, GoesOn, EndsAt}
 use Rattle.kf_simplex.specs.Laws.{EveryRunEnds}
-use Rattle.kf_simplex.specs.Cells.{row_at, IsCrossed, CrossesRows, IsEntering, IsLeaving}
+use Rattle.kf_simplex.specs.Cells.{IsCrossed, IsEntering, IsLeaving}
 use Rattle.kf_simplex.specs.Flat.{width, tableau_of}
 use Rattle.kf_simplex.specs.Turns.{InRun}
 use Rattle.kf_simplex.proofs.Deciding.{entering_found, leaving_found, first_cause}
-use Rattle.kf_simplex.proofs.Filled.{filled, length-filled, get_or-filled, laid_out, at-laid_out, at_laid_past, reduced_row}
+use Rattle.kf_simplex.proofs.Filled.{filled, length-filled, get_or-filled, reduced_row}
 use Rattle.kf_simplex.proofs.FirstTableau.{first_tableau}
 use Rattle.kf_simplex.proofs.FlatRows.{reduced_along}
 use Rattle.kf_simplex.proofs.FlatTurns.{leaves_of, enters_of, in_run_more, never}
 use Rattle.kf_simplex.proofs.RunFacts.{run_facts}
 use Rattle.kf_simplex.proofs.Sums.{choose, choose-same, choose-other}
 
--- a flat table that stands in a run, after so many pivots
+-- a table that stands in a run, after so many pivots
 pub record Stands (s : LinearSystem) (limit made : ℕ) : Type 0 where
-  pub cells : List ℤ
+  pub cells : ℕ → ℕ → ℤ
   pub basis : List ℕ
   pub in_run : InRun s limit made cells basis
-  pub cells_len : length cells ≡ (s.equations + 1) * width s
   pub basis_len : length basis ≡ s.equations
 
 -- ---- the first tableau
 
-first_cells : LinearSystem → List ℤ
-first_cells s = laid_out (s.equations + 1) (width s) (λ i x. choose i s.equations (total s.equations (λ k. s.number k x)) (s.number i x))
+abbrev first_cells : LinearSystem → ℕ → ℕ → ℤ
+first_cells s i x = choose i s.equations (total s.equations (λ k. s.number k x)) (s.number i x)
 
 first_basis : LinearSystem → List ℕ
 first_basis s = filled (λ k. s.unknowns + k) s.equations
 
 first : (s : LinearSystem) (limit : ℕ) → IsSystem s → Stands s limit 0
-unfolding first_cells first_basis
+unfolding first_basis
 first s limit y =
-    let n : ℕ = s.equations in
-    let w : ℕ = width s in
-    let g : ℕ → ℕ → ℤ = λ i x. choose i s.equations (total s.equations (λ k. s.number k x)) (s.number i x) in
-    let rows : (i c : ℕ) → i < s.equations → c ≤ right_column s → at (first_cells s) (i * width s + c) ≡ s.number i c =
-    λ i c l m. at-laid_out (s.equations + 1) (width s) g i c (omega arith) (omega arith)
-    ∙ choose-other i s.equations (total s.equations (λ k. s.number k c)) (s.number i c) (omega arith) in
-    let objective : (c : ℕ) → c ≤ right_column s → at (first_cells s) (s.equations * width s + c) ≡ total s.equations (λ k. s.number k c) =
-    λ c m. at-laid_out (s.equations + 1) (width s) g s.equations c (omega arith) (omega arith)
-    ∙ choose-same s.equations (total s.equations (λ k. s.number k c)) (s.number s.equations c) in
+    let rows : (i c : ℕ) → i < s.equations → c ≤ right_column s → first_cells s i c ≡ s.number i c =
+    λ i c l m. choose-other i s.equations (total s.equations (λ k. s.number k c)) (s.number i c) (omega arith) in
+    let objective : (c : ℕ) → c ≤ right_column s → first_cells s s.equations c ≡ total s.equations (λ k. s.number k c) =
+    λ c m. choose-same s.equations (total s.equations (λ k. s.number k c)) (s.number s.equations c) in
     let basic : (k : ℕ) → k < s.equations → get_or (first_basis s) k 0 ≡ s.unknowns + k = λ k l. get_or-filled (λ k. s.unknowns + k) s.equations k 0 l in
     record {
       cells = first_cells s;
       basis = first_basis s;
       in_run = record { before = []; run = (first_tableau s (tableau_of s (first_cells s) (first_basis s)) y rows objective basic, basic); pivots = refl };
-      cells_len = length-filled (λ k. g (k / width s) (k % width s)) ((s.equations + 1) * width s);
       basis_len = length-filled (λ k. s.unknowns + k) s.equations;
     }
 
 -- ---- the next tableau
 
-crosses_rows : (old new chosen : List ℤ) (r c n w : ℕ) → length chosen ≡ w
-    → ((k : ℕ) → k < n → k ≢ r → IsCrossed (row_at old w k) (at chosen) c (row_at new w k) w)
-    → ((k x : ℕ) → n ≤ k → x < w → row_at new w k x ≡ row_at old w k x)
-    → ((x : ℕ) → x < w → row_at new w r x ≡ row_at old w r x) → CrossesRows old new chosen r c n
-crosses_rows old new chosen r c n w e crossed rest chosen_row = record { crossed = rw e crossed; rest = rw e rest; chosen_row = rw e chosen_row }
-
-module _ (old : List ℤ) (n w r c : ℕ) (len : length old ≡ n * w) (inside : r < n) where
-  abbrev taken : List ℤ
-  taken = filled (λ x. at old (r * w + x)) w
-
-  taken_at : (x : ℕ) → x < w → at taken x ≡ at old (r * w + x)
-  taken_at x l = get_or-filled (λ x. at old (r * w + x)) w x (pos 0) l
-
+module _ (old : ℕ → ℕ → ℤ) (w r c : ℕ) where
   abbrev product : ℕ → ℕ → ℤ
-  product i x = at taken c *ℤ row_at old w i x -ℤ row_at old w i c *ℤ at taken x
+  product i x = old r c *ℤ old i x -ℤ old i c *ℤ old r x
 
-  abbrev entry : ℕ → ℕ → ℤ
-  entry i x = choose i r (at old (r * w + x)) (at (reduced_row (product i) w).0 x)
+  abbrev next : ℕ → ℕ → ℤ
+  next i x = choose i r (old r x) (at (reduced_row (product i) w).0 x)
 
-  abbrev next : List ℤ
-  next = laid_out n w entry
-
-  next_len : length next ≡ n * w
-  next_len = length-filled (λ k. entry (k / w) (k % w)) (n * w)
-
-  next_crosses : CrossesRows old next taken r c n
-  next_crosses =
-      crosses_rows old next taken r c n w (length-filled (λ x. at old (r * w + x)) w)
-      (λ k l d. reduced_along (product k) (product k) (at (reduced_row (product k) w).0) (row_at next w k) w (λ x u. refl)
-      (λ (x : ℕ) (u : x < w). sym (at-laid_out n w entry k x l u ∙ choose-other k r (at old (r * w + x)) (at (reduced_row (product k) w).0 x) d)) (reduced_row (product k) w).1)
-      (λ k x l u. at_laid_past next n w k x next_len l ∙ sym (at_laid_past old n w k x len l))
-      (λ x u. at-laid_out n w entry r x inside u ∙ choose-same r (at old (r * w + x)) (at (reduced_row (product r) w).0 x))
+  next_crossed : (i : ℕ) → i ≢ r → IsCrossed (old i) (old r) c (next i) w
+  next_crossed i d =
+      reduced_along (product i) (product i) (at (reduced_row (product i) w).0) (next i) w (λ x u. refl)
+      (λ (x : ℕ) (u : x < w). sym (choose-other i r (old r x) (at (reduced_row (product i) w).0 x) d)) (reduced_row (product i) w).1
 
 module _ (s : LinearSystem) (limit made : ℕ) (y : IsSystem s) (h : Stands s limit made) (on : GoesOn s limit made (tableau_of s h.cells h.basis)) where
-  pivoted : (c r : ℕ) → IsEntering h.cells (s.equations * width s) s.unknowns (Some c) → IsLeaving h.cells (width s) s.unknowns c s.equations (Some r) → Stands s limit (made + 1)
+  pivoted : (c r : ℕ) → IsEntering (h.cells s.equations) s.unknowns (Some c) → IsLeaving h.cells (width s) s.unknowns c s.equations (Some r) → Stands s limit (made + 1)
   pivoted c r enters leaves =
-      let n : ℕ = s.equations + 1 in
-      let inside : r < s.equations + 1 = (let l = leaves.0 in omega arith) in
       let good = (run_facts s limit (tableau_of s h.cells h.basis) h.in_run.before y h.in_run.run).0 in
-      let chosen : List ℤ = taken h.cells (s.equations + 1) (width s) r c h.cells_len inside in
-      let news : List ℤ = next h.cells (s.equations + 1) (width s) r c h.cells_len inside in
       record {
-        cells = next h.cells (s.equations + 1) (width s) r c h.cells_len inside;
+        cells = next h.cells (width s) r c;
         basis = set h.basis r c;
-        in_run = in_run_more s limit made h.cells (next h.cells (s.equations + 1) (width s) r c h.cells_len inside) h.basis (set h.basis r c)
-            (taken h.cells (s.equations + 1) (width s) r c h.cells_len inside) c r y h.in_run
+        in_run = in_run_more s limit made h.cells (next h.cells (width s) r c) h.basis (set h.basis r c) c r y h.in_run
             (on, enters_of s h.cells h.basis c enters, leaves_of s h.cells h.basis c r good leaves) h.basis_len
-            (length-filled (λ x. at h.cells (r * width s + x)) (width s))
-            (λ x l. taken_at h.cells (s.equations + 1) (width s) r c h.cells_len inside x (omega arith))
-            (next_crosses h.cells (s.equations + 1) (width s) r c h.cells_len inside) refl;
-        cells_len = next_len h.cells (s.equations + 1) (width s) r c h.cells_len inside;
+            (λ x l. choose-same r (h.cells r x) (at (reduced_row (product h.cells (width s) r c r) (width s)).0 x))
+            (λ i l d. next_crossed h.cells (width s) r c i d) refl;
         basis_len = length-set h.basis r c ∙ h.basis_len;
       }
 
-  leaving : (c : ℕ) (best : Option ℕ) → IsEntering h.cells (s.equations * width s) s.unknowns (Some c) → IsLeaving h.cells (width s) s.unknowns c s.equations best → Stands s limit (made + 1)
+  leaving : (c : ℕ) (best : Option ℕ) → IsEntering (h.cells s.equations) s.unknowns (Some c) → IsLeaving h.cells (width s) s.unknowns c s.equations best → Stands s limit (made + 1)
   leaving c None enters leaves = absurd (never s limit made h.cells h.basis c y h.in_run enters leaves)
   leaving c (Some r) enters leaves = pivoted c r enters leaves
 
-  entering : (found : Option ℕ) → IsEntering h.cells (s.equations * width s) s.unknowns found → Stands s limit (made + 1)
+  entering : (found : Option ℕ) → IsEntering (h.cells s.equations) s.unknowns found → Stands s limit (made + 1)
   entering None none = absurd (on.2 none)
   entering (Some c) enters =
       let best = leaving_found h.cells (width s) s.unknowns c s.equations in
       leaving c best.0 enters best.1
 
   pub stands_next : Stands s limit (made + 1)
-  stands_next = let found = entering_found h.cells (s.equations * width s) s.unknowns in entering found.0 found.1
+  stands_next = let found = entering_found (h.cells s.equations) s.unknowns in entering found.0 found.1
 
 -- ---- pivot after pivot
 

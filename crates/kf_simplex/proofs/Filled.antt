@@ -1,11 +1,8 @@
 -- Lists that are filled from functions, and rows without common factor.
-use Rattle.std.proofs.Common.{◌≡◌, ℕ, zero, suc, ◌+◌, ◌*◌, ◌/◌, ◌%◌, ◌<◌, ◌≤◌, refl, ap, ◌∙◌, subst, arith, ⊎_elim, length, List, [], ◌∷◌, get_or, unsigned_abs}
+use Rattle.std.proofs.Common.{◌≡◌, ℕ, zero, suc, ◌+◌, ◌<◌, ◌≤◌, refl, ap, ◌∙◌, subst, arith, ⊎_elim, length, List, [], ◌∷◌, get_or, unsigned_abs}
 use Rattle.std.proofs.Math.IntN.{ℤ, pos, ◌*ℤ◌}
-use Rattle.std.proofs.Math.Nat.{mul-le-mul_right}
 use Rattle.std.proofs.lemmas.Int.{ints}
 use Rattle.std.proofs.lemmas.Bool.{cases_lt}
-use Rattle.std.proofs.lemmas.List.{get_or_past}
-use Rattle.std.proofs.lemmas.Nat.{div-mul-add, mod-mul-add}
 use lib.Signed.{quot_z}
 use Rattle.kf_frac.specs.Divisors.{gcd_of}
 use Rattle.kf_frac.proofs.CommonDivisors.{gcd_is}
@@ -27,20 +24,6 @@ pub get_or-filled : {X : Type 0} (f : ℕ → X) (n k : ℕ) (d : X) → k < n �
 get_or-filled f zero k d l = absurd (omega arith)
 get_or-filled f (suc n) zero d l = refl
 get_or-filled f (suc n) (suc k) d l = get_or-filled (λ k. f (suc k)) n k d (omega arith)
-
--- so many rows of w numbers, one after the other
-abbrev pub laid_out : ℕ → ℕ → (ℕ → ℕ → ℤ) → List ℤ
-laid_out rows w g = filled (λ k. g (k / w) (k % w)) (rows * w)
-
-pub at-laid_out : (rows w : ℕ) (g : ℕ → ℕ → ℤ) (i x : ℕ) → i < rows → x < w → at (laid_out rows w g) (i * w + x) ≡ g i x
-at-laid_out rows w g i x l m =
-    let room : (i + 1) * w ≤ rows * w = mul-le-mul_right w (omega arith) in
-    get_or-filled (λ k. g (k / w) (k % w)) (rows * w) (i * w + x) (pos 0) (omega arith) ∙ (λ j. g (div-mul-add i w x m j) (mod-mul-add i w x m j))
-
-pub at_laid_past : (xs : List ℤ) (rows w i x : ℕ) → length xs ≡ rows * w → rows ≤ i → at xs (i * w + x) ≡ pos 0
-at_laid_past xs rows w i x e l =
-    let past : rows * w ≤ i * w = mul-le-mul_right w l in
-    get_or_past xs (i * w + x) (pos 0) (omega arith)
 
 -- ---- a row without common factor
 

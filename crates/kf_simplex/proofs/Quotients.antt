@@ -14,7 +14,6 @@ use Rattle.kf_frac.proofs.LowestTerms.{reduced_num_times, reduced_den_times}
 use Rattle.kf_frac.proofs.Ring.{mul_assoc}
 use Rattle.kf_frac.proofs.Scaling.{reduced_fit}
 use Rattle.kf_simplex.specs.Answers.{num_at, den_at}
-use Rattle.kf_simplex.specs.Cells.{row_at}
 use Rattle.kf_simplex.specs.Base.{at}
 
 positive_abs : (z : ℤ) → pos 0 <ℤ z → pos (unsigned_abs z) ≡ z
@@ -85,16 +84,16 @@ all_zero_more (x ∷ xs) f e h (suc j) = all_zero_more xs f e (λ k. h (suc k)) 
 pub zero_quotient : (x : ℤ) (d : ℕ) → x *ℤ pos 1 ≡ pos 0 *ℤ pos d → x ≡ pos 0
 zero_quotient x d h = omega (arith, ints)
 
-pub record ReadOff (cells : List ℤ) (basis : List ℕ) (v e : ℕ) (xs : List Frac) (i : ℕ) : Type 0 where
+pub record ReadOff (cells : ℕ → ℕ → ℤ) (basis : List ℕ) (v e : ℕ) (xs : List Frac) (i : ℕ) : Type 0 where
   pub len : length xs ≡ v
   pub basic : (k : ℕ) → k < i → get_or basis k 0 < v
-      → num_at xs (get_or basis k 0) *ℤ row_at cells (v + e + 1) k (get_or basis k 0) ≡ row_at cells (v + e + 1) k (v + e) *ℤ pos (den_at xs (get_or basis k 0))
+      → num_at xs (get_or basis k 0) *ℤ cells k (get_or basis k 0) ≡ cells k (v + e) *ℤ pos (den_at xs (get_or basis k 0))
   pub not_basic : (j : ℕ) → j < v → ((k : ℕ) → k < i → get_or basis k 0 ≡ j → ⊥) → num_at xs j ≡ pos 0
 
-pub read_none : (cells : List ℤ) (basis : List ℕ) (v e : ℕ) (xs : List Frac) → length xs ≡ v → ((j : ℕ) → num_at xs j ≡ pos 0) → ReadOff cells basis v e xs 0
+pub read_none : (cells : ℕ → ℕ → ℤ) (basis : List ℕ) (v e : ℕ) (xs : List Frac) → length xs ≡ v → ((j : ℕ) → num_at xs j ≡ pos 0) → ReadOff cells basis v e xs 0
 read_none cells basis v e xs l z = record { len = l; basic = λ k u b. absurd (omega arith); not_basic = λ j u no. z j }
 
-pub read_skip : (cells : List ℤ) (basis : List ℕ) (v e : ℕ) (xs : List Frac) (i : ℕ) → v ≤ get_or basis i 0 → ReadOff cells basis v e xs i → ReadOff cells basis v e xs (i + 1)
+pub read_skip : (cells : ℕ → ℕ → ℤ) (basis : List ℕ) (v e : ℕ) (xs : List Frac) (i : ℕ) → v ≤ get_or basis i 0 → ReadOff cells basis v e xs i → ReadOff cells basis v e xs (i + 1)
 read_skip cells basis v e xs i out h = record {
   len = h.len;
   basic = λ k u b. ⊎_elim
@@ -104,9 +103,9 @@ read_skip cells basis v e xs i out h = record {
   not_basic = λ j u no. h.not_basic j u (λ k m. no k (omega arith));
 }
 
-pub read_more : (cells : List ℤ) (basis : List ℕ) (v e : ℕ) (xs : List Frac) (i : ℕ) (f : Frac) → get_or basis i 0 < v
+pub read_more : (cells : ℕ → ℕ → ℤ) (basis : List ℕ) (v e : ℕ) (xs : List Frac) (i : ℕ) (f : Frac) → get_or basis i 0 < v
     → ((k : ℕ) → k < i → get_or basis i 0 ≢ get_or basis k 0)
-    → num_of f *ℤ row_at cells (v + e + 1) i (get_or basis i 0) ≡ row_at cells (v + e + 1) i (v + e) *ℤ pos (den_of f)
+    → num_of f *ℤ cells i (get_or basis i 0) ≡ cells i (v + e) *ℤ pos (den_of f)
     → ReadOff cells basis v e xs i → ReadOff cells basis v e (set xs (get_or basis i 0) f) (i + 1)
 read_more cells basis v e xs i f inside apart q h =
     let c : ℕ = get_or basis i 0 in
@@ -115,36 +114,36 @@ read_more cells basis v e xs i f inside apart q h =
       len = length-set xs (get_or basis i 0) f ∙ h.len;
       basic = λ k u b. ⊎_elim
           (λ (m : k < i). let d : get_or basis k 0 ≢ get_or basis i 0 = λ z. apart k m (sym z) in
-          ap (λ (z : ℤ). z *ℤ row_at cells (v + e + 1) k (get_or basis k 0)) (num_at_set_other xs (get_or basis i 0) (get_or basis k 0) f d)
+          ap (λ (z : ℤ). z *ℤ cells k (get_or basis k 0)) (num_at_set_other xs (get_or basis i 0) (get_or basis k 0) f d)
           ∙ h.basic k m b
-          ∙ ap (λ (z : ℕ). row_at cells (v + e + 1) k (v + e) *ℤ pos z) (sym (den_at_set_other xs (get_or basis i 0) (get_or basis k 0) f d)))
+          ∙ ap (λ (z : ℕ). cells k (v + e) *ℤ pos z) (sym (den_at_set_other xs (get_or basis i 0) (get_or basis k 0) f d)))
           (λ (m : i ≤ k). let s : k ≡ i = omega arith in
           subst
-          (λ (z : ℕ). num_at (set xs (get_or basis i 0) f) (get_or basis z 0) *ℤ row_at cells (v + e + 1) z (get_or basis z 0) ≡ row_at cells (v + e + 1) z (v + e) *ℤ pos (den_at (set xs (get_or basis i 0) f) (get_or basis z 0)))
+          (λ (z : ℕ). num_at (set xs (get_or basis i 0) f) (get_or basis z 0) *ℤ cells z (get_or basis z 0) ≡ cells z (v + e) *ℤ pos (den_at (set xs (get_or basis i 0) f) (get_or basis z 0)))
           (sym s)
-          (ap (λ (z : ℤ). z *ℤ row_at cells (v + e + 1) i (get_or basis i 0)) (num_at_set_same xs (get_or basis i 0) f l)
+          (ap (λ (z : ℤ). z *ℤ cells i (get_or basis i 0)) (num_at_set_same xs (get_or basis i 0) f l)
           ∙ q
-          ∙ ap (λ (z : ℕ). row_at cells (v + e + 1) i (v + e) *ℤ pos z) (sym (den_at_set_same xs (get_or basis i 0) f l))))
+          ∙ ap (λ (z : ℕ). cells i (v + e) *ℤ pos z) (sym (den_at_set_same xs (get_or basis i 0) f l))))
           (cases_lt k i);
       not_basic = λ j u no.
           num_at_set_other xs (get_or basis i 0) j f (λ z. no i (omega arith) (sym z)) ∙ h.not_basic j u (λ k m. no k (omega arith));
     }
 
 -- the same, at a column that was read
-pub read_column : (cells : List ℤ) (basis : List ℕ) (v e : ℕ) (xs : List Frac) (i col : ℕ) (f : Frac) (entry right : ℤ) → col ≡ get_or basis i 0 → col < v
+pub read_column : (cells : ℕ → ℕ → ℤ) (basis : List ℕ) (v e : ℕ) (xs : List Frac) (i col : ℕ) (f : Frac) (entry right : ℤ) → col ≡ get_or basis i 0 → col < v
     → ((k : ℕ) → k < i → get_or basis i 0 ≢ get_or basis k 0)
-    → entry ≡ row_at cells (v + e + 1) i col → right ≡ row_at cells (v + e + 1) i (v + e) → num_of f *ℤ entry ≡ right *ℤ pos (den_of f)
+    → entry ≡ cells i col → right ≡ cells i (v + e) → num_of f *ℤ entry ≡ right *ℤ pos (den_of f)
     → ReadOff cells basis v e xs i → ReadOff cells basis v e (set xs col f) (i + 1)
 read_column cells basis v e xs i col f entry right ec l apart ee er q h =
     subst (λ (z : ℕ). ReadOff cells basis v e (set xs z f) (i + 1)) (sym ec)
     (read_more cells basis v e xs i f (subst (λ (z : ℕ). z < v) ec l) apart
-    (ap (λ (z : ℕ). num_of f *ℤ row_at cells (v + e + 1) i z) (sym ec)
+    (ap (λ (z : ℕ). num_of f *ℤ cells i z) (sym ec)
     ∙ ap (λ (z : ℤ). num_of f *ℤ z) (sym ee)
     ∙ q
     ∙ ap (λ (z : ℤ). z *ℤ pos (den_of f)) er)
     h)
 
-pub read_past : (cells : List ℤ) (basis : List ℕ) (v e : ℕ) (xs : List Frac) (i col : ℕ) → col ≡ get_or basis i 0 → v ≤ col → ReadOff cells basis v e xs i → ReadOff cells basis v e xs (i + 1)
+pub read_past : (cells : ℕ → ℕ → ℤ) (basis : List ℕ) (v e : ℕ) (xs : List Frac) (i col : ℕ) → col ≡ get_or basis i 0 → v ≤ col → ReadOff cells basis v e xs i → ReadOff cells basis v e xs (i + 1)
 read_past cells basis v e xs i col ec l h = read_skip cells basis v e xs i (subst (λ (z : ℕ). v ≤ z) ec l) h
 
 -- ---- a list that grows

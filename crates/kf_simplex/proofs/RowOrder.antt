@@ -1,41 +1,31 @@
 -- The order of rows, and the least of them.
-use Rattle.std.proofs.Common.{◌≡◌, ℕ, zero, suc, ◌+◌, ◌-◌, ◌*◌, ◌<◌, ◌≤◌, refl, sym, ap, ◌∙◌, subst, arith, ⊎_elim, inl, inr, length, List, Option, None, Some}
+use Rattle.std.proofs.Common.{◌≡◌, ℕ, ◌+◌, ◌-◌, ◌<◌, ◌≤◌, refl, sym, ap, ◌∙◌, subst, arith, ⊎_elim, inl, inr, Option, None, Some}
 use Rattle.std.proofs.Math.IntN.{ℤ, pos, ◌*ℤ◌}
 use Rattle.std.proofs.lemmas.Int.{ints}
 use Rattle.std.proofs.lemmas.Bool.{cases_lt}
 use Rattle.std.specs.declared.cmp.Ordering.{Ordering}
 use Rattle.std.specs.declared.cmp.Ordering.TheVariants.{Less, Equal, Greater}
 use lib.Signed.{◌<ℤ◌, ◌≤ℤ◌}
-use borrow.Rule.Slice.PartMut.{mid_of, mid_len}
-use Rattle.kf_simplex.proofs.FlatRows.{at-mid}
 use Rattle.kf_frac.proofs.Ring.{ring}
 use Rattle.kf_simplex.proofs.Signs.{cancel, cancel_lt, product_strict}
-use Rattle.kf_simplex.specs.Cells.{row_at, IsFirstDifference, scaled_key, key_at, IsAtMost, IsLeaving}
-use Rattle.kf_simplex.specs.Base.{at, deciding}
+use Rattle.kf_simplex.specs.Cells.{IsFirstDifference, key_at, IsAtMost, IsLeaving}
+use Rattle.kf_simplex.specs.Base.{deciding}
 
 first_along : (f f' g g' : ℕ → ℤ) (n : ℕ) (o : Ordering) → ((m : ℕ) → m < n → f m ≡ f' m) → ((m : ℕ) → m < n → g m ≡ g' m) → IsFirstDifference f g n o → IsFirstDifference f' g' n o
 first_along f f' g g' n Less a b h = (h.0, h.1, (λ (k : ℕ) (l : k < h.0). let q = h.1 in sym (a k (omega arith)) ∙ h.2 k l ∙ b k (omega arith)), rw (sym (a h.0 h.1), sym (b h.0 h.1)) h.3)
 first_along f f' g g' n Greater a b h = (h.0, h.1, (λ (k : ℕ) (l : k < h.0). let q = h.1 in sym (a k (omega arith)) ∙ h.2 k l ∙ b k (omega arith)), rw (sym (a h.0 h.1), sym (b h.0 h.1)) h.3)
 first_along f f' g g' n Equal a b h = λ k l. sym (a k l) ∙ h k l ∙ b k l
 
-deciding_below : (unknowns w m : ℕ) → m < w - unknowns → deciding unknowns (w - 1) m < w
-deciding_below unknowns w zero l = omega arith
-deciding_below unknowns w (suc m) l = omega arith
-
--- comparing two stretches of the cells compares two rows
-pub rows_order : (cells one two : List ℤ) (w unknowns c i r : ℕ) (o : Ordering) → one ≡ cells → two ≡ cells → c < w → i * w + w ≤ length cells
-    → IsFirstDifference (scaled_key (mid_of (i * w) (i * w + w - i * w) one) unknowns (length (mid_of (i * w) (i * w + w - i * w) one) - 1) (at (mid_of (r * w) (r * w + w - r * w) two) c))
-    (scaled_key (mid_of (r * w) (r * w + w - r * w) two) unknowns (length (mid_of (i * w) (i * w + w - i * w) one) - 1) (at (mid_of (i * w) (i * w + w - i * w) one) c)) (length (mid_of (i * w) (i * w + w - i * w) one) - unknowns) o
-    → IsFirstDifference (key_at cells w unknowns c i r) (key_at cells w unknowns c r i) (w - unknowns) o
-rows_order cells one two w unknowns c i r o e1 e2 lc li h =
-    let xs : List ℤ = mid_of (i * w) (i * w + w - i * w) one in let ys : List ℤ = mid_of (r * w) (r * w + w - r * w) two in
-    let left : (k : ℕ) → k < w → at (mid_of (i * w) (i * w + w - i * w) one) k ≡ row_at cells w i k = λ k l. rw e1 (at-mid (i * w) (i * w + w - i * w) cells k (omega arith)) in
-    let right : (k : ℕ) → k < w → at (mid_of (r * w) (r * w + w - r * w) two) k ≡ row_at cells w r k = λ k l. rw e2 (at-mid (r * w) (r * w + w - r * w) cells k (omega arith)) in
-    let len : length (mid_of (i * w) (i * w + w - i * w) one) ≡ w = rw e1 (mid_len (i * w) (i * w + w) cells li ∙ omega arith) in
-    first_along (scaled_key xs unknowns (w - 1) (at ys c)) (key_at cells w unknowns c i r) (scaled_key ys unknowns (w - 1) (at xs c)) (key_at cells w unknowns c r i) (w - unknowns) o
-    (λ (m : ℕ) (l : m < w - unknowns). let d = deciding_below unknowns w m l in let u = left (deciding unknowns (w - 1) m) d in let v = right c lc in cc)
-    (λ (m : ℕ) (l : m < w - unknowns). let d = deciding_below unknowns w m l in let u = right (deciding unknowns (w - 1) m) d in let v = left c lc in cc)
-    (rw len at h)
+-- comparing the rows at two places by their numbers
+pub rows_order : (cells : ℕ → ℕ → ℤ) (a b : ℕ → ℤ) (right unknowns c i r : ℕ) (o : Ordering) → ((k : ℕ) → a k ≡ cells i k) → ((k : ℕ) → b k ≡ cells r k)
+    → IsFirstDifference (λ m. a (deciding unknowns right m) *ℤ b c) (λ m. b (deciding unknowns right m) *ℤ a c) (right + 1 - unknowns) o
+    → IsFirstDifference (key_at cells (right + 1) unknowns c i r) (key_at cells (right + 1) unknowns c r i) (right + 1 - unknowns) o
+rows_order cells a b right unknowns c i r o ea eb h =
+    let last : right + 1 - 1 ≡ right = omega arith in
+    first_along (λ m. a (deciding unknowns right m) *ℤ b c) (key_at cells (right + 1) unknowns c i r) (λ m. b (deciding unknowns right m) *ℤ a c) (key_at cells (right + 1) unknowns c r i) (right + 1 - unknowns) o
+    (λ m l. rw last (let u = ea (deciding unknowns right m) in let v = eb c in cc))
+    (λ m l. rw last (let u = eb (deciding unknowns right m) in let v = ea c in cc))
+    h
 
 -- chains of comparisons of three fractions
 eq_eq : (f g h a b d : ℤ) → pos 0 <ℤ b → f *ℤ b ≡ g *ℤ a → g *ℤ d ≡ h *ℤ b → f *ℤ d ≡ h *ℤ a
@@ -65,25 +55,25 @@ at_most_trans f g h a b d n p q r (inr x) (inl y) = inl (y.0, y.1, (λ (k : ℕ)
 at_most_trans f g h a b d n p q r (inr x) (inr y) = inr (λ k l. eq_eq (f k) (g k) (h k) a b d q (x k l) (y k l))
 
 -- the next row
-pub leaving_skip : (cells : List ℤ) (w unknowns c i : ℕ) (best : Option ℕ) → row_at cells w i c ≤ℤ pos 0 → IsLeaving cells w unknowns c i best → IsLeaving cells w unknowns c (i + 1) best
+pub leaving_skip : (cells : ℕ → ℕ → ℤ) (w unknowns c i : ℕ) (best : Option ℕ) → cells i c ≤ℤ pos 0 → IsLeaving cells w unknowns c i best → IsLeaving cells w unknowns c (i + 1) best
 leaving_skip cells w unknowns c i None z h = λ k l. ⊎_elim (λ (m : k < i). h k m) (λ (m : i ≤ k). let e : k ≡ i = omega arith in rw e z) (cases_lt k i)
 leaving_skip cells w unknowns c i (Some r) z h = ((let l = h.0 in omega arith), h.1, λ k l p. ⊎_elim (λ (m : k < i). h.2 k m p) (λ (m : i ≤ k). let e : k ≡ i = omega arith in let p' = rw e at p in absurd (omega (arith, ints))) (cases_lt k i))
 
-pub leaving_first : (cells : List ℤ) (w unknowns c i : ℕ) → pos 0 <ℤ row_at cells w i c → IsLeaving cells w unknowns c i None → IsLeaving cells w unknowns c (i + 1) (Some i)
+pub leaving_first : (cells : ℕ → ℕ → ℤ) (w unknowns c i : ℕ) → pos 0 <ℤ cells i c → IsLeaving cells w unknowns c i None → IsLeaving cells w unknowns c (i + 1) (Some i)
 leaving_first cells w unknowns c i z h = (omega arith, z, λ k l p. ⊎_elim (λ (m : k < i). let q = h k m in absurd (omega (arith, ints))) (λ (m : i ≤ k). let e : k ≡ i = omega arith in rw e (inr (λ j u. refl))) (cases_lt k i))
 
-pub leaving_less : (cells : List ℤ) (w unknowns c i r : ℕ) → pos 0 <ℤ row_at cells w i c → IsFirstDifference (key_at cells w unknowns c i r) (key_at cells w unknowns c r i) (w - unknowns) Less
+pub leaving_less : (cells : ℕ → ℕ → ℤ) (w unknowns c i r : ℕ) → pos 0 <ℤ cells i c → IsFirstDifference (key_at cells w unknowns c i r) (key_at cells w unknowns c r i) (w - unknowns) Less
     → IsLeaving cells w unknowns c i (Some r) → IsLeaving cells w unknowns c (i + 1) (Some i)
 leaving_less cells w unknowns c i r z d h = (
   omega arith,
   z,
   λ k l p. ⊎_elim
-      (λ (m : k < i). at_most_trans (λ m. row_at cells w i (deciding unknowns (w - 1) m)) (λ m. row_at cells w r (deciding unknowns (w - 1) m)) (λ m. row_at cells w k (deciding unknowns (w - 1) m))
-      (row_at cells w i c) (row_at cells w r c) (row_at cells w k c) (w - unknowns) z h.1 p (inl d) (h.2 k m p))
+      (λ (m : k < i). at_most_trans (λ m. cells i (deciding unknowns (w - 1) m)) (λ m. cells r (deciding unknowns (w - 1) m)) (λ m. cells k (deciding unknowns (w - 1) m))
+      (cells i c) (cells r c) (cells k c) (w - unknowns) z h.1 p (inl d) (h.2 k m p))
       (λ (m : i ≤ k). let e : k ≡ i = omega arith in rw e (inr (λ j u. refl))) (cases_lt k i),
 )
 
-pub leaving_not_less : (cells : List ℤ) (w unknowns c i r : ℕ) (o : Ordering) → pos 0 <ℤ row_at cells w i c → IsFirstDifference (key_at cells w unknowns c i r) (key_at cells w unknowns c r i) (w - unknowns) o → (o ≡ Less → ⊥)
+pub leaving_not_less : (cells : ℕ → ℕ → ℤ) (w unknowns c i r : ℕ) (o : Ordering) → pos 0 <ℤ cells i c → IsFirstDifference (key_at cells w unknowns c i r) (key_at cells w unknowns c r i) (w - unknowns) o → (o ≡ Less → ⊥)
     → IsLeaving cells w unknowns c i (Some r) → IsLeaving cells w unknowns c (i + 1) (Some r)
 leaving_not_less cells w unknowns c i r Less z d n h = absurd (n refl)
 leaving_not_less cells w unknowns c i r Equal z d n h = ((let l = h.0 in omega arith), h.1, λ k l p. ⊎_elim (λ (m : k < i). h.2 k m p) (λ (m : i ≤ k). let e : k ≡ i = omega arith in rw e (inr (λ j u. sym (d j u)))) (cases_lt k i))

@@ -1,5 +1,5 @@
--- For bodies: flat rows of numbers, as the code keeps them.
-use Rattle.std.specs.Prelude.{◌≡◌, ◌≢◌, ℕ, ◌-◌, ◌+◌, ◌*◌, ◌^◌, ◌<◌, ◌≤◌, ◌⊎◌, Option, None, Some, ℤ, pos, ◌-ℤ◌, ◌*ℤ◌, ◌<ℤ◌, ◌≤ℤ◌, unsigned_abs, List, length}
+-- For bodies: rows of numbers, and what a pivot makes of them.
+use Rattle.std.specs.Prelude.{◌≡◌, ◌≢◌, ℕ, ◌-◌, ◌^◌, ◌<◌, ◌≤◌, ◌⊎◌, Option, None, Some, ℤ, pos, ◌-ℤ◌, ◌*ℤ◌, ◌<ℤ◌, ◌≤ℤ◌, unsigned_abs, List}
 use Rattle.std.specs.declared.cmp.Ordering.{Ordering}
 use Rattle.std.specs.declared.cmp.Ordering.TheVariants.{Less, Equal, Greater}
 use Rattle.std.specs.Int.{◌∣◌}
@@ -8,11 +8,11 @@ use Rattle.kf_simplex.specs.Base.{at, deciding}
 abbrev pub IsNarrowNumber : ℤ → Type 0
 IsNarrowNumber z = unsigned_abs z ≤ 2 ^ 62
 
-abbrev pub AllBelow : List ℤ → ℕ → Type 0
-AllBelow xs b = (k : ℕ) → unsigned_abs (at xs k) ≤ b
+abbrev pub AllBelow : (ℕ → ℤ) → ℕ → Type 0
+AllBelow row b = (k : ℕ) → unsigned_abs (row k) ≤ b
 
-abbrev pub AllNarrow : List ℤ → Type 0
-AllNarrow xs = (k : ℕ) → unsigned_abs (at xs k) ≤ 2 ^ 62
+abbrev pub AllNarrow : (ℕ → ℤ) → Type 0
+AllNarrow row = (k : ℕ) → unsigned_abs (row k) ≤ 2 ^ 62
 
 -- the greatest common divisor of the first n members
 pub record IsCommonGcd (xs : List ℤ) (n g : ℕ) : Type 0 where
@@ -30,21 +30,28 @@ pub record IsReduced (old new : ℕ → ℤ) (n : ℕ) : Type 0 where
 abbrev pub IsCrossed : (ℕ → ℤ) → (ℕ → ℤ) → ℕ → (ℕ → ℤ) → ℕ → Type 0
 IsCrossed old chosen c new n = IsReduced (λ k. chosen c *ℤ old k -ℤ old c *ℤ chosen k) new n
 
--- an entry of a row, where every row takes w places
-abbrev pub row_at : List ℤ → ℕ → ℕ → ℕ → ℤ
-row_at xs w i k = at xs (i * w + k)
+-- the list `new`, at every place, over a positive number is `old`, and `new` has no common factor unless `old` is 0 everywhere
+pub record IsReducedRow (old new : ℕ → ℤ) : Type 0 where
+  pub factor : ℤ
+  pub positive : pos 0 <ℤ factor
+  pub times : (k : ℕ) → factor *ℤ new k ≡ old k
+  pub primitive : (m : ℕ) → old m ≢ pos 0 → (d : ℕ) → ((k : ℕ) → d ∣ unsigned_abs (new k)) → d ≡ 1
 
--- the places from `start` on, as many as `chosen` has, are crossed with it; the others stay
-pub record CrossesAt (old new chosen : List ℤ) (start c : ℕ) : Type 0 where
-  pub crossed : IsCrossed (λ k. at old (start + k)) (at chosen) c (λ k. at new (start + k)) (length chosen)
-  pub before : (k : ℕ) → k < start → at new k ≡ at old k
-  pub after : (k : ℕ) → start + length chosen ≤ k → at new k ≡ at old k
+-- a row as it comes out of a pivot: one that is 0 at column c stays, another is crossed with the chosen row
+abbrev pub Passes : (ℕ → ℤ) → (ℕ → ℤ) → ℕ → (ℕ → ℤ) → Type 0
+Passes old chosen c new = ((old c ≡ pos 0) × ((k : ℕ) → new k ≡ old k)) ⊎ IsReducedRow (λ k. chosen c *ℤ old k -ℤ old c *ℤ chosen k) new
 
--- the rows before i, but for row r, are crossed with the chosen row; the others stay
-pub record CrossesRows (old new chosen : List ℤ) (r c i : ℕ) : Type 0 where
-  pub crossed : (k : ℕ) → k < i → k ≢ r → IsCrossed (row_at old (length chosen) k) (at chosen) c (row_at new (length chosen) k) (length chosen)
-  pub rest : (k x : ℕ) → i ≤ k → x < length chosen → row_at new (length chosen) k x ≡ row_at old (length chosen) k x
-  pub chosen_row : (x : ℕ) → x < length chosen → row_at new (length chosen) r x ≡ row_at old (length chosen) r x
+-- row i, unless it is row r, is passed through a pivot; the others stay
+pub record PassesAt (old new : ℕ → ℕ → ℤ) (r c i : ℕ) : Type 0 where
+  pub passed : i ≢ r → Passes (old i) (old r) c (new i)
+  pub same : i ≡ r → (x : ℕ) → new i x ≡ old i x
+  pub others : (k x : ℕ) → k ≢ i → new k x ≡ old k x
+
+-- the rows before i, but for row r, are passed through a pivot; the others stay
+pub record PassesRows (old new : ℕ → ℕ → ℤ) (r c i : ℕ) : Type 0 where
+  pub passed : (k : ℕ) → k < i → k ≢ r → Passes (old k) (old r) c (new k)
+  pub rest : (k x : ℕ) → i ≤ k → new k x ≡ old k x
+  pub chosen_row : (x : ℕ) → new r x ≡ old r x
 
 -- which of two lists of n numbers is less at their first difference
 abbrev pub IsFirstDifference : (ℕ → ℤ) → (ℕ → ℤ) → ℕ → Ordering → Type 0
@@ -52,25 +59,21 @@ IsFirstDifference f g n Less = (m : ℕ) × (m < n) × ((k : ℕ) → k < m → 
 IsFirstDifference f g n Greater = (m : ℕ) × (m < n) × ((k : ℕ) → k < m → f k ≡ g k) × (g m <ℤ f m)
 IsFirstDifference f g n Equal = (k : ℕ) → k < n → f k ≡ g k
 
--- the deciding list of a row, each number times `by`
-abbrev pub scaled_key : List ℤ → ℕ → ℕ → ℤ → ℕ → ℤ
-scaled_key row unknowns right by m = at row (deciding unknowns right m) *ℤ by
-
 -- f is less at the first difference, or there is none
 abbrev pub IsAtMost : (ℕ → ℤ) → (ℕ → ℤ) → ℕ → Type 0
 IsAtMost f g n = ((m : ℕ) × (m < n) × ((k : ℕ) → k < m → f k ≡ g k) × (f m <ℤ g m)) ⊎ ((k : ℕ) → k < n → f k ≡ g k)
 
--- the deciding list of row i, each number times the entry of row r at column c
-abbrev pub key_at : List ℤ → ℕ → ℕ → ℕ → ℕ → ℕ → ℕ → ℤ
-key_at cells w unknowns c i r m = row_at cells w i (deciding unknowns (w - 1) m) *ℤ row_at cells w r c
+-- the deciding list of row i, each number times the entry of row r at column c; the right sides stand at the last of w columns
+abbrev pub key_at : (ℕ → ℕ → ℤ) → ℕ → ℕ → ℕ → ℕ → ℕ → ℕ → ℤ
+key_at cells w unknowns c i r m = cells i (deciding unknowns (w - 1) m) *ℤ cells r c
 
 -- which of the first i rows leaves, for column c; none where no entry there is positive
-abbrev pub IsLeaving : List ℤ → ℕ → ℕ → ℕ → ℕ → Option ℕ → Type 0
-IsLeaving cells w unknowns c i None = (k : ℕ) → k < i → row_at cells w k c ≤ℤ pos 0
-IsLeaving cells w unknowns c i (Some r) = (r < i) × (pos 0 <ℤ row_at cells w r c)
-    × ((k : ℕ) → k < i → pos 0 <ℤ row_at cells w k c → IsAtMost (key_at cells w unknowns c r k) (key_at cells w unknowns c k r) (w - unknowns))
+abbrev pub IsLeaving : (ℕ → ℕ → ℤ) → ℕ → ℕ → ℕ → ℕ → Option ℕ → Type 0
+IsLeaving cells w unknowns c i None = (k : ℕ) → k < i → cells k c ≤ℤ pos 0
+IsLeaving cells w unknowns c i (Some r) = (r < i) × (pos 0 <ℤ cells r c)
+    × ((k : ℕ) → k < i → pos 0 <ℤ cells k c → IsAtMost (key_at cells w unknowns c r k) (key_at cells w unknowns c k r) (w - unknowns))
 
--- the least of n columns with a positive entry, from a place of the cells on
-abbrev pub IsEntering : List ℤ → ℕ → ℕ → Option ℕ → Type 0
-IsEntering cells start n None = (j : ℕ) → j < n → at cells (start + j) ≤ℤ pos 0
-IsEntering cells start n (Some c) = (c < n) × (pos 0 <ℤ at cells (start + c)) × ((j : ℕ) → j < c → at cells (start + j) ≤ℤ pos 0)
+-- the least of n columns with a positive entry
+abbrev pub IsEntering : (ℕ → ℤ) → ℕ → Option ℕ → Type 0
+IsEntering row n None = (j : ℕ) → j < n → row j ≤ℤ pos 0
+IsEntering row n (Some c) = (c < n) × (pos 0 <ℤ row c) × ((j : ℕ) → j < c → row j ≤ℤ pos 0)

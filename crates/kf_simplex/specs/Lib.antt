@@ -6,7 +6,9 @@ pub mod Solutions
 pub mod Systems
 pub mod Tableaus
 -- For bodies
+pub mod Building
 pub mod Cells
+pub mod Entries
 pub mod Flat
 pub mod Laws
 pub mod Turns

@@ -1,4 +1,4 @@
--- For bodies: one turn of a run on a flat table.
+-- For bodies: one turn of a run on a table.
 use Rattle.std.specs.Prelude.{◌≡◌, ℕ, ◌<◌, ℤ, pos, List, length, ◌∷◌}
 use Rattle.kf_simplex.specs.Systems.{LinearSystem}
 use Rattle.kf_simplex.specs.Tableaus.{Tableau}
@@ -24,7 +24,7 @@ abbrev pub sizes : ℕ → ℕ → LinearSystem
 sizes v e = system v e (λ k c. pos 0)
 
 -- the table stands in a run of the system, after so many pivots
-pub record InRun (s : LinearSystem) (limit made : ℕ) (cells : List ℤ) (basis : List ℕ) : Type 0 where
+pub record InRun (s : LinearSystem) (limit made : ℕ) (cells : ℕ → ℕ → ℤ) (basis : List ℕ) : Type 0 where
   pub before : List Tableau
   pub run : IsRun s limit (tableau_of s cells basis ∷ before)
   pub pivots : made ≡ length before
@@ -35,9 +35,9 @@ Judges s limit made t (turns.Ends stop) = Ends s limit made t (cause_of stop)
 Judges s limit made t (turns.Pivot row column) = GoesOn s limit made t × Enters s t.objective column × Leaves s t.rows column row
 
 -- a pivot lies inside the table, and no cell is wide
-abbrev pub IsInside : ℕ → ℕ → List ℤ → Turn → Type 0
+abbrev pub IsInside : ℕ → ℕ → (ℕ → ℕ → ℤ) → Turn → Type 0
 IsInside v e cells (turns.Ends stop) = Unit {0}
-IsInside v e cells (turns.Pivot row column) = (row < e) × (column < v) × AllNarrow cells
+IsInside v e cells (turns.Pivot row column) = (row < e) × (column < v) × ((i : ℕ) → AllNarrow (cells i))
 
 abbrev pub IsEnd : Turn → Type 0
 IsEnd (turns.Ends stop) = Unit {0}

@@ -1,9 +1,14 @@
-ghost use Rattle.std.specs.Prelude.{◌≡◌, ℕ, ◌+◌, ◌*◌, ◌<◌, ◌≤◌, ◌^◌, ◌+ℤ◌, pos, length, slice_index, unsigned_abs, IfOk};
+ghost use Rattle.std.specs.Prelude.{◌≡◌, ℕ, ◌+◌, ◌*◌, ◌<◌, ◌≤◌, ◌^◌, ◌+ℤ◌, ℤ, pos, length, slice_index, slice_index_or, unsigned_abs, IfOk};
 ghost use Rattle.std.specs.List.{All};
 ghost use Rattle.kf_simplex.specs.Base.{at, total};
+ghost use Rattle.kf_simplex.specs.Cells.{AllNarrow};
+ghost use Rattle.kf_simplex.specs.Entries.{no_entry, number_in};
+ghost use Rattle.kf_simplex.specs.Flat.{IsWithin, cell};
 ghost use Rattle.kf_simplex.specs.Turns.{InRun};
-ghost use Rattle.kf_simplex.specs.Views.{coefficients, entry, linear, number_at, right_side};
+ghost use Rattle.kf_simplex.specs.Building.{Built};
+ghost use Rattle.kf_simplex.specs.Views.{entry, linear, number_at};
 
+use crate::row::{Entry, Row};
 use crate::table::Table;
 use crate::{Equation, System};
 use std::alloc::{AllocError, Global};
@@ -12,84 +17,126 @@ use std::alloc::{AllocError, Global};
 pub(crate) fn first_table(alloc: Global, s: &System) -> Result<Table, AllocError>
     requires { (length s.now.rows + 1) * (s.now.unknowns + length s.now.rows + 1) < 4000001 }
     ensures shape { IfOk result (λ t. (t.unknowns ≡ s.now.unknowns) × (t.equations ≡ length s.now.rows)) }
-    ensures first { IfOk result (λ t. (limit : ℕ) → InRun (linear s.now) limit 0 t.cells.items t.basis.items) }
+    ensures within { IfOk result (λ t. IsWithin (t.unknowns + t.equations) (cell t.rows.items)) }
+    ensures first { IfOk result (λ t. (limit : ℕ) → InRun (linear s.now) limit 0 (cell t.rows.items) t.basis.items) }
 {
-    let rows = s.rows.as_slice();
     let unknowns = s.unknowns as usize;
-    let equations = rows.len();
-    let width = unknowns + equations + 1;
-    let mut cells = vec![in alloc; 0i128; (equations + 1) * width]?;
-    write_equations(&mut cells, rows, unknowns);
+    let list = s.rows.as_slice();
+    let equations = list.len();
+    let mut sums = zeros(alloc, unknowns + equations + 1)?;
+    let mut rows = equation_rows(alloc, list, unknowns, &mut sums)?;
+    let objective = dense_row(alloc, &sums)?;
+    rows.push(objective)?;
     let basis = first_basis(alloc, unknowns, equations)?;
-    let chosen = vec![in alloc; 0i128; width]?;
     Ok(Table {
         unknowns,
         equations,
-        cells,
+        rows,
         basis,
-        chosen,
     })
 }
 
-// Writes each equation into a row of its own, and their sum into the last row.
-fn write_equations(cells: &mut [i128], rows: &[Equation], unknowns: usize)
-    requires shape { length cells.old ≡ (length rows.now + 1) * (unknowns + length rows.now + 1) }
-    requires small { (length rows.now + 1) * (unknowns + length rows.now + 1) < 4000001 }
-    requires lengths { All (λ q. length q.coefs ≡ unknowns) rows.now }
-    requires empty { (p : ℕ) → at cells.old p ≡ pos 0 }
-    ensures written { let w = unknowns + length rows.now + 1 in
-        (k c : ℕ) → k < length rows.now → c < w → at cells.new (k * w + c) ≡ number_at unknowns rows.now k c }
-    ensures summed { let w = unknowns + length rows.now + 1 in
-        (c : ℕ) → c < w → at cells.new (length rows.now * w + c) ≡ total (length rows.now) (λ k. number_at unknowns rows.now k c) }
+// So many zeros.
+fn zeros(alloc: Global, count: usize) -> Result<Vec<i128>, AllocError>
+    ensures len { IfOk result (λ xs. length xs.items ≡ count) }
+    ensures zero { IfOk result (λ xs. (c : ℕ) → at xs.items c ≡ pos 0) }
 {
-    let equations = rows.len();
-    let width = unknowns + equations + 1;
-    for k in 0..equations {
-        let row = &rows[k];
-        write_row(
-            cells,
-            k * width,
-            row.coefs.as_slice(),
-            row.rhs,
-            k,
-            equations,
-        );
-        add_row(cells, k * width, equations * width, width);
-    }
+    let xs = vec![in alloc; 0i128; count]?;
+    Ok(xs)
 }
 
-// Writes equation `k` from place `start` on, where all is 0.
-fn write_row(cells: &mut [i128], start: usize, coefs: &[i64], rhs: i64, k: usize, equations: usize)
-    requires place { start + (length coefs.now + equations + 1) ≤ length cells.old }
-    requires small { length cells.old < 4000001 }
+// A row for each equation, and their sums by columns.
+fn equation_rows(
+    alloc: Global,
+    equations: &[Equation],
+    unknowns: usize,
+    sums: &mut [i128],
+) -> Result<Vec<Row>, AllocError>
+    requires len { length sums.old ≡ unknowns + length equations.now + 1 }
+    requires small { length sums.old < 4000001 }
+    requires lengths { All (λ q. length q.coefs ≡ unknowns) equations.now }
+    requires empty { (c : ℕ) → at sums.old c ≡ pos 0 }
+    ensures { IfOk result (λ rows. Built unknowns equations.now rows.items sums.new (length equations.now)) }
+{
+    let mut rows = Vec::with_capacity(alloc, equations.len() + 1)?;
+    for k in 0..equations.len() {
+        let equation = &equations[k];
+        let row = equation_row(
+            alloc,
+            equation.coefs.as_slice(),
+            equation.rhs,
+            k,
+            equations.len(),
+        )?;
+        add_row(sums, &row);
+        rows.push(row)?;
+    }
+    Ok(rows)
+}
+
+// The row of equation `k`.
+fn equation_row(
+    alloc: Global,
+    coefs: &[i64],
+    rhs: i64,
+    k: usize,
+    equations: usize,
+) -> Result<Row, AllocError>
     requires equation { k < equations }
-    requires empty { (c : ℕ) → c < length coefs.now + equations + 1 → at cells.old (start + c) ≡ pos 0 }
-    ensures written { (c : ℕ) → c < length coefs.now + equations + 1
-        → at cells.new (start + c) ≡ entry (length coefs.now) equations coefs.now rhs k c }
-    ensures before { (p : ℕ) → p < start → at cells.new p ≡ at cells.old p }
-    ensures after { (p : ℕ) → start + (length coefs.now + equations + 1) ≤ p → at cells.new p ≡ at cells.old p }
+    requires small { length coefs.now + equations < 4000001 }
+    ensures inside { IfOk result (λ row. (j : ℕ) → j < length row.entries.items → (slice_index_or row.entries.items j no_entry).column ≤ length coefs.now + equations) }
+    ensures numbers { IfOk result (λ row. (c : ℕ) → number_in row.entries.items c ≡ entry (length coefs.now) equations coefs.now rhs k c) }
 {
     let unknowns = coefs.len();
+    let mut entries = Vec::new(alloc);
     for j in 0..unknowns {
-        cells[start + j] = coefs[j] as i128;
+        if coefs[j] != 0 {
+            entries.push(Entry {
+                column: j,
+                number: coefs[j] as i128,
+            })?;
+        }
     }
-    cells[start + unknowns + k] = 1;
-    cells[start + unknowns + equations] = rhs as i128;
+    entries.push(Entry {
+        column: unknowns + k,
+        number: 1,
+    })?;
+    if rhs != 0 {
+        entries.push(Entry {
+            column: unknowns + equations,
+            number: rhs as i128,
+        })?;
+    }
+    Ok(Row { entries })
 }
 
-// Adds the numbers from place `from` on to those from place `to` on.
-fn add_row(cells: &mut [i128], from: usize, to: usize, width: usize)
-    requires apart { from + width ≤ to }
-    requires place { to + width ≤ length cells.old }
-    requires small { length cells.old < 4000001 }
-    requires narrow { (c : ℕ) → c < width → unsigned_abs (at cells.old (from + c)) ≤ 2 ^ 62 }
-    requires sums { (c : ℕ) → c < width → unsigned_abs (at cells.old (to + c)) ≤ 2 ^ 100 }
-    ensures added { (c : ℕ) → c < width → at cells.new (to + c) ≡ at cells.old (to + c) +ℤ at cells.old (from + c) }
-    ensures before { (p : ℕ) → p < to → at cells.new p ≡ at cells.old p }
+// Adds each number of the row to that at its column.
+fn add_row(sums: &mut [i128], row: &Row)
+    requires small { length sums.old < 4000001 }
+    requires inside { (j : ℕ) → j < length row.now.entries.items → (slice_index_or row.now.entries.items j no_entry).column < length sums.old }
+    requires narrow { AllNarrow (number_in row.now.entries.items) }
+    requires sums { (c : ℕ) → unsigned_abs (at sums.old c) ≤ 2 ^ 100 }
+    ensures { (c : ℕ) → c < length sums.old → at sums.new c ≡ at sums.old c +ℤ number_in row.now.entries.items c }
 {
-    for c in 0..width {
-        cells[to + c] = cells[to + c] + cells[from + c];
+    for e in row.entries.as_slice() {
+        sums[e.column] = sums[e.column] + e.number;
     }
+}
+
+// A row of all numbers but zeros.
+fn dense_row(alloc: Global, numbers: &[i128]) -> Result<Row, AllocError>
+    ensures { IfOk result (λ row. (c : ℕ) → number_in row.entries.items c ≡ at numbers.now c) }
+{
+    let mut entries = Vec::new(alloc);
+    for column in 0..numbers.len() {
+        if numbers[column] != 0 {
+            entries.push(Entry {
+                column,
+                number: numbers[column],
+            })?;
+        }
+    }
+    Ok(Row { entries })
 }
 
 // The artificial columns in order.

@@ -6,6 +6,7 @@ mod laws;
 mod lists;
 mod outcome;
 mod reading;
+mod row;
 mod rows;
 mod solving;
 mod system;

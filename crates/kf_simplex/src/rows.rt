@@ -1,9 +1,13 @@
-ghost use Rattle.std.specs.Prelude.{◌≡◌, ◌≢◌, ℕ, ◌+◌, ◌-◌, ◌*◌, ◌<◌, ◌≤◌, ◌^◌, ◌↔◌, ℤ, pos, ◌+ℤ◌, ◌-ℤ◌, ◌*ℤ◌, ◌<ℤ◌, ◌≤ℤ◌, unsigned_abs, length, IsTrue, EachIndex};
+ghost use Rattle.std.specs.Prelude.{◌≡◌, ◌≢◌, ℕ, ◌+◌, ◌-◌, ◌*◌, ◌<◌, ◌≤◌, ◌^◌, ◌↔◌, ℤ, pos, ◌+ℤ◌, ◌-ℤ◌, ◌*ℤ◌, ◌<ℤ◌, ◌≤ℤ◌, unsigned_abs, length, map, slice_index_or, EachIndex, IsTrue, IfOk};
 ghost use Rattle.std.specs.Int.{◌∣◌};
-ghost use Rattle.kf_simplex.specs.Cells.{IsNarrowNumber, AllNarrow, AllBelow, IsCommonGcd, IsReduced, IsCrossed, CrossesAt, CrossesRows, IsFirstDifference, scaled_key};
-ghost use Rattle.kf_simplex.specs.Base.{at, deciding};
+ghost use Rattle.kf_simplex.specs.Cells.{IsNarrowNumber, AllNarrow, AllBelow, IsCommonGcd, IsReducedRow, PassesAt, PassesRows, IsFirstDifference};
+ghost use Rattle.kf_simplex.specs.Base.{deciding};
+ghost use Rattle.kf_simplex.specs.Entries.{no_entry, number_in};
+ghost use Rattle.kf_simplex.specs.Flat.{cell};
 
+use crate::row::{Entry, Row, next_pair, number_at};
 use kf_frac::gcd;
+use std::alloc::{AllocError, Global};
 use std::cmp::Ordering;
 
 // A product of two narrow numbers.
@@ -28,102 +32,168 @@ fn crossed(p: i128, a: i128, x: i128, y: i128) -> i128
     product(p, x) - product(a, y)
 }
 
-// Each number of the row times `p`, less the other row's number times `a`.
-fn cross_row(row: &mut [i128], other: &[i128], p: i128, a: i128)
-    requires same_len { length row.old ≡ length other.now }
+// The row times `p`, less the other row times `a`.
+fn cross_row(alloc: Global, row: &Row, other: &Row, p: i128, a: i128) -> Result<Row, AllocError>
     requires p { IsNarrowNumber p }
     requires a { IsNarrowNumber a }
-    requires row { AllNarrow row.old }
-    requires other { AllNarrow other.now }
-    ensures value { EachIndex row.new (λ k. at row.new k ≡ p *ℤ at row.old k -ℤ a *ℤ at other.now k) }
-    ensures below { AllBelow row.new (2 ^ 125) }
+    requires row { AllNarrow (number_in row.now.entries.items) }
+    requires other { AllNarrow (number_in other.now.entries.items) }
+    ensures value { IfOk result (λ new. (k : ℕ) → number_in new.entries.items k ≡ p *ℤ number_in row.now.entries.items k -ℤ a *ℤ number_in other.now.entries.items k) }
+    ensures below { IfOk result (λ new. AllBelow (number_in new.entries.items) (2 ^ 125)) }
 {
-    for k in 0..row.len() {
-        row[k] = crossed(p, a, row[k], other[k]);
+    let mut entries = Vec::with_capacity(alloc, row.entries.len().max(other.entries.len()))?;
+    let mut xs = row.entries.as_slice();
+    let mut ys = other.entries.as_slice();
+    while let Some(pair) = next_pair(xs, ys) {
+        let number = crossed(p, a, pair.x, pair.y);
+        if number != 0 {
+            entries.push(Entry {
+                column: pair.column,
+                number,
+            })?;
+        }
+        xs = pair.xs;
+        ys = pair.ys;
     }
+    Ok(Row { entries })
 }
 
-// The greatest common divisor of a row.
-fn common_factor(row: &[i128]) -> u128
-    ensures { IsCommonGcd row.now (length row.now) result }
+// The greatest common divisor of a row's entries.
+fn common_factor(row: &Row) -> u128
+    ensures { IsCommonGcd (map (λ e. e.number) row.now.entries.items) (length row.now.entries.items) result }
 {
     let mut g = 0;
-    for x in row {
+    for e in row.entries.as_slice() {
         if g == 1 {
             return 1;
         }
-        g = gcd(g, x.unsigned_abs());
+        g = gcd(g, e.number.unsigned_abs());
     }
     g
 }
 
-// Divides each number by a common divisor.
-fn divide_row(row: &mut [i128], g: i128)
+// A number over a divisor of it.
+fn quotient(x: i128, g: i128) -> i128
     requires positive { pos 0 <ℤ g }
-    requires divides { EachIndex row.old (λ k. unsigned_abs g ∣ unsigned_abs (at row.old k)) }
-    ensures { EachIndex row.new (λ k. g *ℤ at row.new k ≡ at row.old k) }
+    requires divides { unsigned_abs g ∣ unsigned_abs x }
+    ensures { g *ℤ result ≡ x }
 {
-    for k in 0..row.len() {
-        row[k] = row[k] / g;
+    x / g
+}
+
+// Each number over a common divisor.
+fn divided(alloc: Global, row: &Row, g: i128) -> Result<Row, AllocError>
+    requires positive { pos 0 <ℤ g }
+    requires divides { (k : ℕ) → unsigned_abs g ∣ unsigned_abs (number_in row.now.entries.items k) }
+    ensures { IfOk result (λ new. (k : ℕ) → g *ℤ number_in new.entries.items k ≡ number_in row.now.entries.items k) }
+{
+    let mut entries = Vec::with_capacity(alloc, row.entries.len())?;
+    for e in row.entries.as_slice() {
+        let number = quotient(e.number, g);
+        entries.push(Entry {
+            column: e.column,
+            number,
+        })?;
     }
+    Ok(Row { entries })
+}
+
+// Whether no entry passes 2^62 in absolute value.
+fn are_narrow(entries: &[Entry]) -> bool
+    ensures { IsTrue result ↔ EachIndex entries.now (λ k. IsNarrowNumber ((slice_index_or entries.now k no_entry).number)) }
+{
+    entries.iter().all(|e| e.number.unsigned_abs() <= 1 << 62)
 }
 
 // Whether no number passes 2^62 in absolute value.
-pub(crate) fn is_narrow(row: &[i128]) -> bool
-    ensures { IsTrue result ↔ EachIndex row.now (λ k. IsNarrowNumber (at row.now k)) }
+fn is_narrow(row: &Row) -> bool
+    ensures { IsTrue result ↔ AllNarrow (number_in row.now.entries.items) }
 {
-    row.iter().all(|x| x.unsigned_abs() <= 1 << 62)
+    are_narrow(row.entries.as_slice())
 }
 
-// Divides a row by its greatest common divisor, if that is not 0.
-fn make_primitive(row: &mut [i128])
-    requires { AllBelow row.old (2 ^ 125) }
-    ensures { IsReduced (at row.old) (at row.new) (length row.old) }
+// The same of all rows.
+pub(crate) fn are_all_narrow(rows: &[Row]) -> bool
+    ensures { IsTrue result ↔ ((i : ℕ) → AllNarrow (cell rows.now i)) }
 {
-    let factor = common_factor(row);
-    if factor > 1 {
-        divide_row(row, factor as i128);
-    }
-}
-
-// Makes the row 0 at column `c` by the chosen row, and takes out its common factor.
-fn reduce_row(row: &mut [i128], chosen: &[i128], c: usize)
-    requires same_len { length row.old ≡ length chosen.now }
-    requires column { c < length row.old }
-    requires row { AllNarrow row.old }
-    requires chosen { AllNarrow chosen.now }
-    ensures { IsCrossed (at row.old) (at chosen.now) c (at row.new) (length row.old) }
-{
-    let a = row[c];
-    cross_row(row, chosen, chosen[c], a);
-    make_primitive(row);
-}
-
-// The same for the row that begins at `start`.
-fn reduce_at(cells: &mut [i128], start: usize, chosen: &[i128], c: usize)
-    requires place { start + length chosen.now ≤ length cells.old }
-    requires column { c < length chosen.now }
-    requires row { (k : ℕ) → k < length chosen.now → IsNarrowNumber (at cells.old (start + k)) }
-    requires chosen { AllNarrow chosen.now }
-    ensures { CrossesAt cells.old cells.new chosen.now start c }
-{
-    reduce_row(&mut cells[start..start + chosen.len()], chosen, c);
-}
-
-// The same for each of the first `rows` rows but row `r`.
-pub(crate) fn reduce_rows(cells: &mut [i128], chosen: &[i128], rows: usize, r: usize, c: usize)
-    requires shape { length cells.old ≡ rows * length chosen.now }
-    requires column { c < length chosen.now }
-    requires cells { AllNarrow cells.old }
-    requires chosen { AllNarrow chosen.now }
-    ensures { CrossesRows cells.old cells.new chosen.now r c rows }
-{
-    let width = chosen.len();
-    for i in 0..rows {
-        if i != r {
-            reduce_at(cells, i * width, chosen, c);
+    for i in 0..rows.len() {
+        if !is_narrow(&rows[i]) {
+            return false;
         }
     }
+    true
+}
+
+// The row over its greatest common divisor, if that is not 0.
+fn primitive(alloc: Global, row: Row) -> Result<Row, AllocError>
+    requires { AllBelow (number_in row.entries.items) (2 ^ 125) }
+    ensures { IfOk result (λ new. IsReducedRow (number_in row.entries.items) (number_in new.entries.items)) }
+{
+    let factor = common_factor(&row);
+    if factor > 1 {
+        divided(alloc, &row, factor as i128)
+    } else {
+        Ok(row)
+    }
+}
+
+// The row made 0 at column `c` by the chosen row, without common factor.
+fn reduced(alloc: Global, row: &Row, chosen: &Row, c: usize) -> Result<Row, AllocError>
+    requires row { AllNarrow (number_in row.now.entries.items) }
+    requires chosen { AllNarrow (number_in chosen.now.entries.items) }
+    ensures { IfOk result (λ new. IsReducedRow (λ k. number_in chosen.now.entries.items c *ℤ number_in row.now.entries.items k
+        -ℤ number_in row.now.entries.items c *ℤ number_in chosen.now.entries.items k) (number_in new.entries.items)) }
+{
+    let p = number_at(chosen, c);
+    let a = number_at(row, c);
+    let crossed = cross_row(alloc, row, chosen, p, a)?;
+    primitive(alloc, crossed)
+}
+
+// Makes row `i` 0 at column `c` by row `r`, and answers whether it is narrow then. A row that is 0 there
+// has no common factor, and stays.
+fn reduce_at(
+    alloc: Global,
+    rows: &mut [Row],
+    i: usize,
+    r: usize,
+    c: usize,
+) -> Result<bool, AllocError>
+    requires i { i < length rows.old }
+    requires r { r < length rows.old }
+    requires row { AllNarrow (cell rows.old i) }
+    requires chosen { AllNarrow (cell rows.old r) }
+    ensures passed { IfOk result (λ narrow. PassesAt (cell rows.old) (cell rows.new) r c i) }
+    ensures narrow { IfOk result (λ narrow. IsTrue narrow ↔ AllNarrow (cell rows.new i)) }
+{
+    if i == r || number_at(&rows[i], c) == 0 {
+        return Ok(true);
+    }
+    let row = reduced(alloc, &rows[i], &rows[r], c)?;
+    let narrow = is_narrow(&row);
+    rows[i] = row;
+    Ok(narrow)
+}
+
+// Makes column `c` 0 in each row but row `r`, and answers whether all rows are narrow then.
+pub(crate) fn reduce_rows(
+    alloc: Global,
+    rows: &mut [Row],
+    r: usize,
+    c: usize,
+) -> Result<bool, AllocError>
+    requires row { r < length rows.old }
+    requires narrow { (i : ℕ) → AllNarrow (cell rows.old i) }
+    ensures passed { IfOk result (λ narrow. PassesRows (cell rows.old) (cell rows.new) r c (length rows.old)) }
+    ensures narrow { IfOk result (λ narrow. IsTrue narrow ↔ ((i : ℕ) → AllNarrow (cell rows.new i))) }
+{
+    let mut narrow = true;
+    for i in 0..rows.len() {
+        if !reduce_at(alloc, rows, i, r, c)? {
+            narrow = false;
+        }
+    }
+    Ok(narrow)
 }
 
 // How `x / p` lies to `y / q`.
@@ -147,32 +217,58 @@ fn cross_order(x: i128, q: i128, y: i128, p: i128) -> Ordering
     }
 }
 
-// The place in a row of the `m`-th number that decides.
-fn deciding_place(unknowns: usize, right: usize, m: usize) -> usize
-    requires { unknowns + m ≤ right }
-    ensures value { result ≡ deciding unknowns right m }
-    ensures below { result ≤ right }
+// The same for numbers at a column, where it lies from column `from` on and before column `to`.
+fn order_at(column: usize, x: i128, y: i128, from: usize, to: usize, p: i128, q: i128) -> Ordering
+    requires x { IsNarrowNumber x }
+    requires q { IsNarrowNumber q }
+    requires y { IsNarrowNumber y }
+    requires p { IsNarrowNumber p }
+    ensures less { result ≡ Ordering.Less → (from ≤ column) × (column < to) × ((x *ℤ q) <ℤ (y *ℤ p)) }
+    ensures greater { result ≡ Ordering.Greater → (from ≤ column) × (column < to) × ((y *ℤ p) <ℤ (x *ℤ q)) }
+    ensures equal { result ≡ Ordering.Equal → from ≤ column → column < to → x *ℤ q ≡ y *ℤ p }
 {
-    if m == 0 { right } else { unknowns + (m - 1) }
+    if from <= column && column < to {
+        cross_order(x, q, y, p)
+    } else {
+        Ordering::Equal
+    }
 }
 
-// How the deciding list of `a`, over its entry at the column, lies to that of `b`.
-pub(crate) fn key_order(a: &[i128], b: &[i128], unknowns: usize, column: usize) -> Ordering
-    requires same_len { length a.now ≡ length b.now }
-    requires unknowns { unknowns < length a.now }
-    requires column { column < unknowns }
-    requires a { AllNarrow a.now }
-    requires b { AllNarrow b.now }
-    ensures { IsFirstDifference (scaled_key a.now unknowns (length a.now - 1) (at b.now column)) (scaled_key b.now unknowns (length a.now - 1) (at a.now column)) (length a.now - unknowns) result }
+// How the numbers of `a` over `p` lie to those of `b` over `q`, from column `from` on and before column `to`.
+fn tail_order(a: &Row, b: &Row, from: usize, to: usize, p: i128, q: i128) -> Ordering
+    requires p { IsNarrowNumber p }
+    requires q { IsNarrowNumber q }
+    requires a { AllNarrow (number_in a.now.entries.items) }
+    requires b { AllNarrow (number_in b.now.entries.items) }
+    ensures { IsFirstDifference (λ m. number_in a.now.entries.items (from + m) *ℤ q) (λ m. number_in b.now.entries.items (from + m) *ℤ p) (to - from) result }
 {
-    let count = a.len() - unknowns;
-    for m in 0..count {
-        let place = deciding_place(unknowns, a.len() - 1, m);
-        match cross_order(a[place], b[column], b[place], a[column]) {
+    let mut xs = a.entries.as_slice();
+    let mut ys = b.entries.as_slice();
+    while let Some(pair) = next_pair(xs, ys) {
+        match order_at(pair.column, pair.x, pair.y, from, to, p, q) {
             Ordering::Less => return Ordering::Less,
             Ordering::Greater => return Ordering::Greater,
             Ordering::Equal => {}
         }
+        xs = pair.xs;
+        ys = pair.ys;
     }
     Ordering::Equal
+}
+
+// How the deciding list of `a`, over its entry at the column, lies to that of `b`.
+pub(crate) fn key_order(a: &Row, b: &Row, unknowns: usize, right: usize, column: usize) -> Ordering
+    requires a { AllNarrow (number_in a.now.entries.items) }
+    requires b { AllNarrow (number_in b.now.entries.items) }
+    requires right { unknowns ≤ right }
+    ensures { IsFirstDifference (λ m. number_in a.now.entries.items (deciding unknowns right m) *ℤ number_in b.now.entries.items column)
+        (λ m. number_in b.now.entries.items (deciding unknowns right m) *ℤ number_in a.now.entries.items column) (right + 1 - unknowns) result }
+{
+    let p = number_at(a, column);
+    let q = number_at(b, column);
+    match cross_order(number_at(a, right), q, number_at(b, right), p) {
+        Ordering::Less => Ordering::Less,
+        Ordering::Greater => Ordering::Greater,
+        Ordering::Equal => tail_order(a, b, unknowns, right, p, q),
+    }
 }

@@ -16,7 +16,7 @@ pub fn solve(alloc: Global, s: &System, pivots: u32) -> Result<Outcome, SimplexE
     ensures enough { ways (s.now.unknowns + length s.now.rows) (length s.now.rows) ≤ pivots → result ≢ Err SimplexError.Budget }
 {
     let mut table = first_table(alloc, s)?;
-    let ending = table.run(pivots);
+    let ending = table.run(alloc, pivots)?;
     match ending.stop {
         Stop::Wide => Err(SimplexError::Wide {
             pivots: ending.pivots,

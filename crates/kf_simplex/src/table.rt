@@ -1,12 +1,13 @@
-ghost use Rattle.std.specs.Prelude.{◌≡◌, ℕ, ◌+◌, ◌*◌, ◌-◌, ◌<◌, length, slice_set, slice_range, ℤ, IsTrue, ◌↔◌};
-ghost use Rattle.kf_simplex.specs.Cells.{AllNarrow, CrossesRows, IsFirstDifference, key_at, IsLeaving, IsEntering};
-ghost use Rattle.kf_simplex.specs.Base.{at};
+ghost use Rattle.std.specs.Prelude.{◌≡◌, ℕ, ◌+◌, ◌-◌, ◌<◌, length, pos, slice_set, ℤ, IsTrue, IfOk, ◌↔◌};
+ghost use Rattle.kf_simplex.specs.Cells.{AllNarrow, PassesRows, IsFirstDifference, key_at, IsLeaving, IsEntering};
 ghost use Rattle.kf_simplex.specs.Systems.{IsSystem};
 ghost use Rattle.kf_simplex.specs.Runs.{Ends};
-ghost use Rattle.kf_simplex.specs.Flat.{tableau_of};
+ghost use Rattle.kf_simplex.specs.Flat.{IsWithin, cell, tableau_of};
 ghost use Rattle.kf_simplex.specs.Turns.{InRun, IsEnd, IsInside, Judges, cause_of, system};
 
-use crate::rows::{is_narrow, key_order, reduce_rows};
+use crate::row::{Row, number_at};
+use crate::rows::{are_all_narrow, key_order, reduce_rows};
+use std::alloc::{AllocError, Global};
 use std::cmp::Ordering;
 
 // Why a run ends.
@@ -32,51 +33,53 @@ pub(crate) enum Turn {
     Pivot { row: usize, column: usize },
 }
 
-// The tableau of a basis in flat rows: those of the equations, then the objective's. A row has the
-// unknowns, the artificials and the right side.
+// The tableau of a basis: the rows of the equations, then the objective's. A row has the unknowns, the
+// artificials and the right side.
 #[derive(Drop)]
 pub(crate) struct Table {
     pub(crate) unknowns: usize,
     pub(crate) equations: usize,
-    pub(crate) cells: Vec<i128>,
+    pub(crate) rows: Vec<Row>,
     pub(crate) basis: Vec<usize>,
-    // Room for a copy of one row.
-    pub(crate) chosen: Vec<i128>,
-    ghost cells_len: { length cells.items ≡ (equations + 1) * (unknowns + equations + 1) },
+    ghost rows_len: { length rows.items ≡ equations + 1 },
     ghost basis_len: { length basis.items ≡ equations },
-    ghost chosen_len: { length chosen.items ≡ unknowns + equations + 1 },
-    ghost small: { (equations + 1) * (unknowns + equations + 1) < 4000001 },
+    ghost small: { unknowns + equations < 4000001 },
 }
 
 impl Table {
     // Goes from basis to basis until the run ends.
-    pub(crate) fn run(&mut self, limit: u32) -> Ending
-        ensures shape { (self.new.unknowns ≡ self.old.unknowns) × (self.new.equations ≡ self.old.equations) }
-        ensures runs { (number : ℕ → ℕ → ℤ) → let s = system self.old.unknowns self.old.equations number in
-            IsSystem s → InRun s limit 0 self.old.cells.items self.old.basis.items → InRun s limit result.pivots self.new.cells.items self.new.basis.items }
-        ensures ends { (number : ℕ → ℕ → ℤ) → let s = system self.old.unknowns self.old.equations number in
-            IsSystem s → InRun s limit 0 self.old.cells.items self.old.basis.items
-            → Ends s limit result.pivots (tableau_of s self.new.cells.items self.new.basis.items) (cause_of result.stop) }
+    pub(crate) fn run(&mut self, alloc: Global, limit: u32) -> Result<Ending, AllocError>
+        requires { IsWithin (self.old.unknowns + self.old.equations) (cell self.old.rows.items) }
+        ensures shape { IfOk result (λ ending. (self.new.unknowns ≡ self.old.unknowns) × (self.new.equations ≡ self.old.equations)) }
+        ensures within { IfOk result (λ ending. IsWithin (self.old.unknowns + self.old.equations) (cell self.new.rows.items)) }
+        ensures runs { IfOk result (λ ending. (number : ℕ → ℕ → ℤ) → let s = system self.old.unknowns self.old.equations number in
+            IsSystem s → InRun s limit 0 (cell self.old.rows.items) self.old.basis.items → InRun s limit ending.pivots (cell self.new.rows.items) self.new.basis.items) }
+        ensures ends { IfOk result (λ ending. (number : ℕ → ℕ → ℤ) → let s = system self.old.unknowns self.old.equations number in
+            IsSystem s → InRun s limit 0 (cell self.old.rows.items) self.old.basis.items
+            → Ends s limit ending.pivots (tableau_of s (cell self.new.rows.items) self.new.basis.items) (cause_of ending.stop)) }
     {
+        let mut narrow = are_all_narrow(&self.rows);
         let mut pivots = 0;
         loop {
-            match self.turn(limit, pivots) {
-                Turn::Ends(stop) => return Ending { stop, pivots },
-                Turn::Pivot { row, column } => self.pivot(row, column),
+            match self.turn(narrow, limit, pivots) {
+                Turn::Ends(stop) => return Ok(Ending { stop, pivots }),
+                Turn::Pivot { row, column } => narrow = self.pivot(alloc, row, column)?,
             }
             pivots += 1;
         }
     }
 
     // The first cause that applies to the tableau, or the next pivot.
-    fn turn(&self, limit: u32, made: u32) -> Turn
+    fn turn(&self, narrow: bool, limit: u32, made: u32) -> Turn
+        requires within { IsWithin (self.now.unknowns + self.now.equations) (cell self.now.rows.items) }
+        requires narrow { IsTrue narrow ↔ ((i : ℕ) → AllNarrow (cell self.now.rows.items i)) }
         ensures judges { (number : ℕ → ℕ → ℤ) → let s = system self.now.unknowns self.now.equations number in
-            IsSystem s → InRun s limit made self.now.cells.items self.now.basis.items
-            → Judges s limit made (tableau_of s self.now.cells.items self.now.basis.items) result }
-        ensures inside { IsInside self.now.unknowns self.now.equations self.now.cells.items result }
+            IsSystem s → InRun s limit made (cell self.now.rows.items) self.now.basis.items
+            → Judges s limit made (tableau_of s (cell self.now.rows.items) self.now.basis.items) result }
+        ensures inside { IsInside self.now.unknowns self.now.equations (cell self.now.rows.items) result }
         ensures goes_on { made ≡ limit → IsEnd result }
     {
-        if !self.fits() {
+        if !narrow {
             return Turn::Ends(Stop::Wide);
         }
         if self.objective_right() == 0 {
@@ -95,34 +98,29 @@ impl Table {
         }
     }
 
-    // Makes column `c` 0 in all rows but row `r`, and puts it into the basis.
-    fn pivot(&mut self, r: usize, c: usize)
+    // Makes column `c` 0 in all rows but row `r`, and puts it into the basis. Whether all rows are narrow now.
+    fn pivot(&mut self, alloc: Global, r: usize, c: usize) -> Result<bool, AllocError>
         requires row { r < self.old.equations }
         requires column { c < self.old.unknowns }
-        requires narrow { AllNarrow self.old.cells.items }
-        ensures shape { (self.new.unknowns ≡ self.old.unknowns) × (self.new.equations ≡ self.old.equations) }
-        ensures chosen { let w = self.old.unknowns + self.old.equations + 1 in self.new.chosen.items ≡ slice_range self.old.cells.items (r * w) (r * w + w) }
-        ensures cells { CrossesRows self.old.cells.items self.new.cells.items self.new.chosen.items r c (self.old.equations + 1) }
-        ensures basis { self.new.basis.items ≡ slice_set self.old.basis.items r c }
+        requires narrow { (i : ℕ) → AllNarrow (cell self.old.rows.items i) }
+        ensures shape { IfOk result (λ narrow. (self.new.unknowns ≡ self.old.unknowns) × (self.new.equations ≡ self.old.equations)) }
+        ensures rows { IfOk result (λ narrow. PassesRows (cell self.old.rows.items) (cell self.new.rows.items) r c (self.old.equations + 1)) }
+        ensures basis { IfOk result (λ narrow. self.new.basis.items ≡ slice_set self.old.basis.items r c) }
+        ensures narrow { IfOk result (λ narrow. IsTrue narrow ↔ ((i : ℕ) → AllNarrow (cell self.new.rows.items i))) }
     {
-        let width = self.unknowns + self.equations + 1;
-        let start = r * width;
-        self.chosen
-            .copy_from_slice(&self.cells[start..start + width]);
-        reduce_rows(&mut self.cells, &self.chosen, self.equations + 1, r, c);
+        let narrow = reduce_rows(alloc, &mut self.rows, r, c)?;
         self.basis[r] = c;
+        Ok(narrow)
     }
 
     // The row with the least deciding list over its entry at column `c`, among those with a positive one.
     fn leaving(&self, c: usize) -> Option<usize>
-        requires column { c < self.now.unknowns }
-        requires narrow { AllNarrow self.now.cells.items }
-        ensures { IsLeaving self.now.cells.items (self.now.unknowns + self.now.equations + 1) self.now.unknowns c self.now.equations result }
+        requires { (i : ℕ) → AllNarrow (cell self.now.rows.items i) }
+        ensures { IsLeaving (cell self.now.rows.items) (self.now.unknowns + self.now.equations + 1) self.now.unknowns c self.now.equations result }
     {
-        let width = self.unknowns + self.equations + 1;
         let mut best = None;
         for i in 0..self.equations {
-            if self.cells[i * width + c] > 0 {
+            if number_at(&self.rows[i], c) > 0 {
                 best = match best {
                     None => Some(i),
                     Some(r) => match self.row_order(i, r, c) {
@@ -139,30 +137,30 @@ impl Table {
     fn row_order(&self, i: usize, r: usize, c: usize) -> Ordering
         requires i { i < self.now.equations }
         requires r { r < self.now.equations }
-        requires column { c < self.now.unknowns }
-        requires narrow { AllNarrow self.now.cells.items }
+        requires narrow { (i : ℕ) → AllNarrow (cell self.now.rows.items i) }
         ensures { let w = self.now.unknowns + self.now.equations + 1 in
-            IsFirstDifference (key_at self.now.cells.items w self.now.unknowns c i r) (key_at self.now.cells.items w self.now.unknowns c r i) (w - self.now.unknowns) result }
+            IsFirstDifference (key_at (cell self.now.rows.items) w self.now.unknowns c i r) (key_at (cell self.now.rows.items) w self.now.unknowns c r i) (w - self.now.unknowns) result }
     {
-        let width = self.unknowns + self.equations + 1;
-        let left = i * width;
-        let right = r * width;
         key_order(
-            &self.cells[left..left + width],
-            &self.cells[right..right + width],
+            &self.rows[i],
+            &self.rows[r],
             self.unknowns,
+            self.unknowns + self.equations,
             c,
         )
     }
 
     // The first unknown with a positive entry in the objective row.
     fn entering(&self) -> Option<usize>
-        ensures { IsEntering self.now.cells.items (self.now.equations * (self.now.unknowns + self.now.equations + 1)) self.now.unknowns result }
+        ensures { IsEntering (cell self.now.rows.items self.now.equations) self.now.unknowns result }
     {
-        let start = self.equations * (self.unknowns + self.equations + 1);
-        for j in 0..self.unknowns {
-            if self.cells[start + j] > 0 {
-                return Some(j);
+        for e in self.rows[self.equations].entries.as_slice() {
+            if e.number > 0 {
+                return if e.column < self.unknowns {
+                    Some(e.column)
+                } else {
+                    None
+                };
             }
         }
         None
@@ -170,16 +168,8 @@ impl Table {
 
     // The objective row's right side.
     fn objective_right(&self) -> i128
-        ensures { result ≡ at self.now.cells.items (self.now.equations * (self.now.unknowns + self.now.equations + 1) + (self.now.unknowns + self.now.equations)) }
+        ensures { result ≡ cell self.now.rows.items self.now.equations (self.now.unknowns + self.now.equations) }
     {
-        self.cells[self.equations * (self.unknowns + self.equations + 1)
-            + (self.unknowns + self.equations)]
-    }
-
-    // Whether no cell passes 2^62 in absolute value.
-    fn fits(&self) -> bool
-        ensures { IsTrue result ↔ AllNarrow self.now.cells.items }
-    {
-        is_narrow(&self.cells)
+        number_at(&self.rows[self.equations], self.unknowns + self.equations)
     }
 }

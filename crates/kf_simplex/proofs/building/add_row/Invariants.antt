@@ -1,6 +1,6 @@
-use Rattle.kf_simplex.proofs.FlatBuild.{Added}
+use Rattle.std.proofs.Common.{drop}
+use Rattle.kf_simplex.proofs.FirstRows.{IsAdding}
 use Rattle.kf_simplex.proofs.building.add_row.Given as goal
 
--- the first c numbers are added
-abbrev pub invariant-loop-c : goal.invariant-loop-c
-invariant-loop-c l = Added l.initial.cells l.cells l.from l.to l.c
+abbrev pub invariant-loop-e : goal.invariant-loop-e
+invariant-loop-e l = IsAdding l.initial.sums l.sums l.row.entries.items (drop l.e-index l.row.entries.items)

@@ -1,5 +1,7 @@
-use Rattle.kf_simplex.proofs.rows.common_factor.Given as goal
+use Rattle.std.proofs.Common.{map}
 use Rattle.kf_simplex.specs.Cells.{IsCommonGcd}
+use Rattle.kf_simplex.specs.declared.row.Entry.{Entry}
+use Rattle.kf_simplex.proofs.rows.common_factor.Given as goal
 
-abbrev pub invariant-loop-x : goal.invariant-loop-x
-invariant-loop-x l = IsCommonGcd l.row l.x-index l.g
+abbrev pub invariant-loop-e : goal.invariant-loop-e
+invariant-loop-e l = IsCommonGcd (map (λ (e : Entry). e.number) l.row.entries.items) l.e-index l.g

@@ -1,8 +1,9 @@
-use Rattle.std.proofs.Common.{◌≡◌, ℕ, ◌<◌, ◌≤◌, ◌^◌, ◌-ℤ◌, ◌*ℤ◌, unsigned_abs}
+use Rattle.std.proofs.Common.{◌+◌, length}
+use Rattle.kf_simplex.proofs.Crossing.{IsCrossing}
 use Rattle.kf_simplex.proofs.rows.cross_row.Given as goal
-use Rattle.kf_simplex.specs.Base.{at}
 
-abbrev pub invariant-loop-k : goal.invariant-loop-k
-invariant-loop-k l = ((j : ℕ) → j < l.k → at l.row j ≡ l.p *ℤ at l.initial.row j -ℤ l.a *ℤ at l.other j)
-    × ((j : ℕ) → l.k ≤ j → at l.row j ≡ at l.initial.row j)
-    × ((j : ℕ) → unsigned_abs (at l.row j) ≤ 2 ^ 125)
+abbrev pub decreases-loop-pair : goal.decreases-loop-pair
+decreases-loop-pair l = length l.xs + length l.ys
+
+abbrev pub invariant-loop-pair : goal.invariant-loop-pair
+invariant-loop-pair l = IsCrossing l.row.entries.items l.other.entries.items l.xs l.ys l.p l.a l.entries.items

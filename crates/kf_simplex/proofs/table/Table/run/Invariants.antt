@@ -1,5 +1,8 @@
-use Rattle.std.proofs.Common.{◌≡◌, ℕ, ◌-◌, ◌≤◌, ℤ}
+use Rattle.std.proofs.Common.{◌≡◌, ℕ, ◌+◌, ◌-◌, ◌≤◌, ℤ}
 use Rattle.kf_simplex.specs.Systems.{IsSystem}
+use Rattle.kf_simplex.specs.Cells.{AllNarrow}
+use Rattle.kf_simplex.specs.Flat.{IsWithin, cell}
+use Rattle.std.specs.Prelude.{IsTrue, ◌↔◌}
 use Rattle.kf_simplex.specs.Turns.{system, InRun}
 use Rattle.kf_simplex.proofs.table.Table.run.Given as goal
 
@@ -10,8 +13,10 @@ invariant-loop-stop l = record {
   equations : l.self.equations ≡ l.initial.self.equations;
   runs : (number : ℕ → ℕ → ℤ)
       → IsSystem (system l.initial.self.unknowns l.initial.self.equations number)
-      → InRun (system l.initial.self.unknowns l.initial.self.equations number) l.limit 0 l.initial.self.cells.items l.initial.self.basis.items
-      → InRun (system l.initial.self.unknowns l.initial.self.equations number) l.limit l.pivots l.self.cells.items l.self.basis.items;
+      → InRun (system l.initial.self.unknowns l.initial.self.equations number) l.limit 0 (cell l.initial.self.rows.items) l.initial.self.basis.items
+      → InRun (system l.initial.self.unknowns l.initial.self.equations number) l.limit l.pivots (cell l.self.rows.items) l.self.basis.items;
+  within : IsWithin (l.self.unknowns + l.self.equations) (cell l.self.rows.items);
+  narrow : IsTrue l.narrow ↔ ((i : ℕ) → AllNarrow (cell l.self.rows.items i));
 }
 
 abbrev pub decreases-loop-stop : goal.decreases-loop-stop

@@ -4,7 +4,7 @@ use Rattle.std.proofs.lemmas.List.{get_or_default}
 use mir.Syntax.{w128}
 use Rattle.kf_frac.specs.declared.frac.Frac.{Frac}
 use Rattle.kf_simplex.specs.Answers.{IsSolutionOf}
-use Rattle.kf_simplex.specs.Flat.{tableau_of}
+use Rattle.kf_simplex.specs.Flat.{cell, tableau_of}
 use Rattle.kf_simplex.specs.Turns.{sizes}
 use Rattle.kf_simplex.proofs.Quotients.{read_column, read_past}
 use Rattle.kf_simplex.proofs.table.Table.solution.Goals as goal
@@ -19,29 +19,29 @@ loop-i-preserved c =
           let entry : FitsSigned w128 w.cell.result = search rules in
           let right : FitsSigned w128 w.cell-right.result = search rules in
           rw w.values-is
-          (read_column c.args.self.now.cells.items c.args.self.now.basis.items c.args.self.now.unknowns c.args.self.now.equations c.loop-i.values.items c.loop-i.i c.index-column.result.now w.quotient.result
+          (read_column (cell c.args.self.now.rows.items) c.args.self.now.basis.items c.args.self.now.unknowns c.args.self.now.equations c.loop-i.values.items c.loop-i.i c.index-column.result.now w.quotient.result
           w.cell.result w.cell-right.result column w.if-column-self.true (λ k l. c.requires.distinct k c.loop-i.i l c.loop-i-test.true) w.cell.ensures w.cell-right.ensures
           (simp to_z-of_z at w.quotient.ensures) c.loop-i.invariant)
       | else-column-self w ↦
           rw w.values-is
-          (read_past c.args.self.now.cells.items c.args.self.now.basis.items c.args.self.now.unknowns c.args.self.now.equations c.loop-i.values.items c.loop-i.i c.index-column.result.now column
+          (read_past (cell c.args.self.now.rows.items) c.args.self.now.basis.items c.args.self.now.unknowns c.args.self.now.equations c.loop-i.values.items c.loop-i.i c.index-column.result.now column
           w.if-column-self.false c.loop-i.invariant)
     ]
 
 pub quotient-requires-clause-num : goal.quotient-requires-clause-num
 quotient-requires-clause-num c =
     let f : FitsSigned w128 c.cell-right.result = search rules in
-    simp to_z-of_z (rw c.cell-right.ensures (c.requires.narrow _))
+    simp to_z-of_z (rw c.cell-right.ensures (c.requires.narrow _ _))
 
 pub quotient-requires-clause-den : goal.quotient-requires-clause-den
 quotient-requires-clause-den c =
     let f : FitsSigned w128 c.cell.result = search rules in
-    simp to_z-of_z (rw c.cell.ensures (c.requires.narrow _))
+    simp to_z-of_z (rw c.cell.ensures (c.requires.narrow _ _))
 
 pub returns : goal.returns
 returns c =
     let all : c.loop-i.i ≡ c.args.self.now.equations = omega arith in
-    subst (λ (xs : List Frac). IsSolutionOf (sizes c.args.self.now.unknowns c.args.self.now.equations) (tableau_of (sizes c.args.self.now.unknowns c.args.self.now.equations) c.args.self.now.cells.items c.args.self.now.basis.items) xs)
+    subst (λ (xs : List Frac). IsSolutionOf (sizes c.args.self.now.unknowns c.args.self.now.equations) (tableau_of (sizes c.args.self.now.unknowns c.args.self.now.equations) (cell c.args.self.now.rows.items) c.args.self.now.basis.items) xs)
     (sym c.new.ensures)
     (record {
       len = c.loop-i.invariant.len;

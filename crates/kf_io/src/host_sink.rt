@@ -35,8 +35,6 @@ impl<W: Write> Sink for HostSink<W> {
 
     ghost faults = { λ faults. faults };
 
-    ghost room = { λ _. 0 };
-
     fn write(&mut self, bytes: &[u8]) -> Result<usize, Failed> {
         match self.stream.write(bytes) {
             Ok(count) if count > 0 || bytes.is_empty() => Ok(count),

@@ -35,8 +35,9 @@ pub trait Sink {
     /// How often a write has failed, up to 2^64 - 1.
     ghost faults: { Self → ℕ };
 
-    /// How many more bytes it is certain to take without a fault; 0 where nothing is known.
-    ghost room: { Self → ℕ };
+    /// How many more bytes it is certain to take without a fault; 0 where nothing is known, as where an
+    /// implementation leaves it out.
+    ghost room: { Self → ℕ } = { λ _. 0 };
 
     /// Takes bytes from the front of the piece, at least one where there is one, and says how many.
     fn write(&mut self, bytes: &[u8]) -> Result<usize, Failed>

@@ -1,5 +1,5 @@
 -- Columns pushed through statements, one after the other, and through the branches of a conditional.
-use Rattle.std.proofs.Common.{◌≡◌, ℕ, ◌+◌, ◌≤◌, true, false, List, [], ◌∷◌, ◌++◌, All, ◌∙◌, subst, arith}
+use Rattle.std.proofs.Common.{◌≡◌, ℕ, ◌+◌, ◌≤◌, true, false, List, [], ◌∷◌, ◌++◌, All, refl, ◌∙◌, subst, arith}
 use Rattle.std.proofs.lemmas.List.Elements.{All-append}
 use Rattle.std.proofs.lemmas.List.Sums.{sum_by-append}
 use Rattle.kf_value.specs.Kinds.{TruthKind}
@@ -12,7 +12,7 @@ use Rattle.kf_hyper.specs.Shapes.{IsBelow}
 use Rattle.kf_core.specs.Checked.{AreSound, DistKinded, IsSound}
 use Rattle.kf_core.specs.Dxs.{DxTree}
 use Rattle.kf_core.specs.Ready.{IsPushed}
-use Rattle.kf_core.specs.Runs.{Tried, all_runs, guarded, runs, tried}
+use Rattle.kf_core.specs.Runs.{Tried, all_runs, guarded, runs, stay, tried}
 use Rattle.kf_core.specs.Sts.{StTree, sts}
 use Rattle.kf_core.proofs.Filled.{all_full}
 use Rattle.kf_core.proofs.Measures.{Full}
@@ -69,7 +69,7 @@ module _ (shape : Shape) (turns : ℕ) where
     next_goes = goes_first (runs (shape_types shape) turns x) (block left) now.columns (block_full left others_sound) on.can.goes
 
     pub next_can : CanGo (runs (shape_types shape) turns x) size now
-    next_can = record { are = on.can.are; merged = on.can.merged; below = on.can.below; fits = on.can.fits; goes = next_goes }
+    next_can = record { are = on.can.are; below = on.can.below; fits = on.can.fits; goes = next_goes }
 
     pub block_step : (next : Joint) → HasGone (runs (shape_types shape) turns x) size now next → BlockOn whole before left next
     block_step next gone =
@@ -80,7 +80,6 @@ module _ (shape : Shape) (turns : ℕ) where
           sound = others_sound;
           can = record {
             are = pushed_columns (runs (shape_types shape) turns x) now.columns next.columns gone.pushed;
-            merged = pushed_again (runs (shape_types shape) turns x) now.columns next.columns gone.pushed;
             below = gone.below;
             fits = omega (arith, kept, gone.scale, on.can.fits);
             goes = goes_behind (runs (shape_types shape) turns x) (block left) now.columns next.columns on.can.are next_goes on.can.goes gone.pushed;
@@ -92,16 +91,34 @@ module _ (shape : Shape) (turns : ℕ) where
               on.can.are next_goes on.can.goes gone.pushed p);
         }
 
+  -- a statement that does nothing leaves merged columns as they are
+  pub block_skip : (whole : Runner) (before : Joint) (x : StTree) (left : List StTree) (now : Joint) → stay ≡ runs (shape_types shape) turns x
+      → BlockOn whole before (x ∷ left) now → AreMerged now.columns now.columns → BlockOn whole before left now
+  block_skip whole before x left now skips on merged =
+      block_step whole before x left now on now
+      (subst (λ f. HasGone f size now now) skips (record { pushed = pushed_stay now.columns now.columns on.can.are merged; scale = refl; below = on.can.below }))
+
   pub block_end : (whole : Runner) (before : Joint) (left : List StTree) (now : Joint) → left ≡ [] → BlockOn whole before left now
-      → HasGone whole size before now
-  block_end whole before left now none on =
+      → AreMerged now.columns now.columns → HasGone whole size before now
+  block_end whole before left now none on merged =
       let last : BlockOn whole before [] now = subst (λ xs. BlockOn whole before xs now) none on in
       record {
-        pushed = last.leads now.columns (pushed_stay now.columns now.columns last.can.are last.can.merged);
+        pushed = last.leads now.columns (pushed_stay now.columns now.columns last.can.are merged);
         scale = last.scale;
         below =
             last.can.below;
       }
+
+  -- what one statement makes of columns is what a block of it makes of them
+  pub alone_on : (x : StTree) (now : Joint) → AreSound (shape_kinds shape) (x ∷ []) → CanGo (block (x ∷ [])) size now
+      → BlockOn (block (x ∷ [])) now (x ∷ []) now
+  alone_on x now sound can = record { sound = sound; can = can; scale = refl; leads = λ after p. p }
+
+  pub alone_gone : (x : StTree) (now after : Joint) → AreSound (shape_kinds shape) (x ∷ []) → CanGo (block (x ∷ [])) size now
+      → HasGone (runs (shape_types shape) turns x) size now after → HasGone (block (x ∷ [])) size now after
+  alone_gone x now after sound can gone =
+      block_end (block (x ∷ [])) now [] after refl (block_step (block (x ∷ [])) now x [] now (alone_on x now sound can) after gone)
+      (pushed_again (runs (shape_types shape) turns x) now.columns after.columns gone.pushed)
 
   -- ---- conditionals
 
@@ -119,7 +136,6 @@ module _ (shape : Shape) (turns : ℕ) where
       pub can_take : CanGo (block xs) size taken
       can_take = record {
         are = pushed_columns (side true ways) now.columns taken.columns sides.to_taken;
-        merged = pushed_again (side true ways) now.columns taken.columns sides.to_taken;
         below = sides.below_taken;
         fits = omega (arith, sides.whole, sides.scale_taken, can.fits);
         goes =
@@ -130,7 +146,6 @@ module _ (shape : Shape) (turns : ℕ) where
       pub can_leave : CanGo (block ys) size left
       can_leave = record {
         are = pushed_columns (side false ways) now.columns left.columns sides.to_left;
-        merged = pushed_again (side false ways) now.columns left.columns sides.to_left;
         below = sides.below_left;
         fits = omega (arith, sides.whole, sides.scale_left, can.fits);
         goes =

@@ -1,7 +1,8 @@
 -- A part of a program's statements: what can be pushed through what is left can be pushed through a part of it, and then through the rest.
 use Rattle.std.proofs.Common.{◌≡◌, ℕ, ◌+◌, ◌-◌, ◌≤◌, ◌<◌, List, [], ◌∷◌, ◌++◌, All, length, map, take, drop, get_or, refl, sym, ap, ◌∙◌, subst, arith}
-use Rattle.std.proofs.lemmas.List.{drop-drop, drop-map, take-append-drop, take-map, take_more}
+use Rattle.std.proofs.lemmas.List.{drop-drop, drop-map, length-map, take-append-drop, take-map, take_more}
 use Rattle.std.proofs.lemmas.List.Elements.{All-append, All-cons, All-nil}
+use Rattle.kf_value.proofs.ListLemmas.{left_step}
 use Rattle.kf_value.specs.Shapes.{shape_size, shape_types}
 use Rattle.kf_hyper.specs.Columns.{IsColumn}
 use Rattle.kf_hyper.specs.Joint.{Joint, mass}
@@ -9,9 +10,9 @@ use Rattle.kf_hyper.specs.Merged.{AreMerged}
 use Rattle.kf_hyper.specs.Shapes.{IsBelow}
 use Rattle.kf_core.specs.declared.program.Program.{Program}
 use Rattle.kf_core.specs.declared.st.St.{St}
-use Rattle.kf_core.specs.Checked.{AreSound, IsChecked, more, none}
+use Rattle.kf_core.specs.Checked.{AreSound, IsChecked, IsSound, more, none}
 use Rattle.kf_core.specs.Ready.{IsPushed, IsReady}
-use Rattle.kf_core.specs.Runs.{chain}
+use Rattle.kf_core.specs.Runs.{chain, runs}
 use Rattle.kf_core.specs.Sts.{StTree}
 use Rattle.kf_core.specs.SupportLaws.{BlockAgrees, RunsChain}
 use Rattle.kf_core.specs.Views.{program_tree, st_items, st_tree}
@@ -21,8 +22,8 @@ use Rattle.kf_eval.specs.Kinds.{shape_kinds}
 use Rattle.kf_value.specs.Kinds.{KindTree}
 use Rattle.kf_quiet.specs.Following.{Goes}
 use Rattle.kf_run.specs.Going.{CanGo, HasGone}
-use Rattle.kf_hyper.proofs.Beliefs.{merged_again, merged_below, merged_columns, merged_mass}
-use Rattle.kf_run.proofs.Blocks.{block, block_full}
+use Rattle.kf_hyper.proofs.Beliefs.{merged_below, merged_columns, merged_mass}
+use Rattle.kf_run.proofs.Blocks.{alone_gone, alone_on, block, block_full, next_can}
 use Rattle.kf_quiet.proofs.Carrying.{Matrix, Runner, goes_behind, goes_merged, pushed_merged}
 use Rattle.kf_quiet.proofs.Statements.{goes_first, goes_ready, ready_goes}
 
@@ -80,9 +81,12 @@ module _ (program : Program) (turns from to : ℕ) (order : from ≤ to) (checke
   part_sound = subst (AreSound (shape_kinds program.shape)) (part_map st_tree from to (st_items program.body))
       (sound_before (shape_kinds program.shape) here rest both_sound)
 
-  module _ (agrees : BlockAgrees) (chains : RunsChain) (columns merged : Joint) (are : All IsColumn columns.columns)
-      (ready : IsReady (shape_types program.shape) turns (drop from whole) columns.columns)
-      (is_merged : AreMerged columns.columns merged.columns) where
+  -- the statements of the part, as the program has them
+  abbrev pub own_part : List StTree
+  own_part = map st_tree (part from to (st_items program.body))
+
+  module _ (agrees : BlockAgrees) (chains : RunsChain) (columns : Joint) (are : All IsColumn columns.columns)
+      (ready : IsReady (shape_types program.shape) turns (drop from whole) columns.columns) where
     abbrev both : Runner
     both n = chain (block program.shape turns here n) (block program.shape turns rest)
 
@@ -95,35 +99,44 @@ module _ (program : Program) (turns from to : ℕ) (order : from ≤ to) (checke
     rest_full : (n : ℕ) → Full (block program.shape turns rest n)
     rest_full = block_full program.shape turns rest (sound_behind (shape_kinds program.shape) here rest both_sound)
 
-    part_goes : Goes (block program.shape turns here) columns.columns
-    part_goes = goes_first (block program.shape turns here) (block program.shape turns rest) columns.columns rest_full both_go
+    here_goes : Goes (block program.shape turns here) columns.columns
+    here_goes = goes_first (block program.shape turns here) (block program.shape turns rest) columns.columns rest_full both_go
 
-    -- merged columns can be pushed through the part
-    pub part_can : mass columns.columns ≤ columns.scale → merged.scale ≡ columns.scale → All (IsBelow (shape_size program.shape)) columns.columns
-        → CanGo (block program.shape turns (map st_tree (part from to (st_items program.body)))) (shape_size program.shape) merged
-    part_can fits scale below =
-        let kept = merged_mass columns.columns merged.columns are is_merged in
-        subst (λ xs. CanGo (block program.shape turns xs) (shape_size program.shape) merged) (part_map st_tree from to (st_items program.body)) (record {
-          are = merged_columns columns.columns merged.columns are is_merged;
-          merged = merged_again columns.columns merged.columns are is_merged;
-          below = merged_below (shape_size program.shape) columns.columns merged.columns are is_merged below;
-          fits = omega (arith, kept, fits, scale);
-          goes = goes_merged (block program.shape turns here) columns.columns merged.columns are part_goes is_merged;
-        })
+    part_goes : Goes (block program.shape turns own_part) columns.columns
+    part_goes = subst (λ xs. Goes (block program.shape turns xs) columns.columns) (part_map st_tree from to (st_items program.body)) here_goes
 
-    module _ (after : Matrix) (gone : IsPushed (block program.shape turns (map st_tree (part from to (st_items program.body)))) merged.columns after) where
-      through : IsPushed (block program.shape turns here) merged.columns after
-      through = subst (λ xs. IsPushed (block program.shape turns xs) merged.columns after) (sym (part_map st_tree from to (st_items program.body))) gone
+    -- columns can be pushed through the part
+    pub part_can : mass columns.columns ≤ columns.scale → All (IsBelow (shape_size program.shape)) columns.columns
+        → CanGo (block program.shape turns own_part) (shape_size program.shape) columns
+    part_can fits below = record { are = are; below = below; fits = fits; goes = part_goes }
 
-      -- and so the columns themselves
+    module _ (after : Matrix) (gone : IsPushed (block program.shape turns own_part) columns.columns after) where
       pub part_pushed : IsPushed (block program.shape turns here) columns.columns after
-      part_pushed = pushed_merged (block program.shape turns here) columns.columns merged.columns after are part_goes is_merged through
+      part_pushed = subst (λ xs. IsPushed (block program.shape turns xs) columns.columns after) (sym (part_map st_tree from to (st_items program.body))) gone
 
       -- what is behind the part can be pushed through the rest
       pub rest_ready : IsReady (shape_types program.shape) turns rest after
       rest_ready =
           goes_ready agrees (shape_types program.shape) turns rest after
-          (goes_behind (block program.shape turns here) (block program.shape turns rest) columns.columns after are part_goes both_go part_pushed)
+          (goes_behind (block program.shape turns here) (block program.shape turns rest) columns.columns after are here_goes both_go part_pushed)
+
+    module _ (merged : Joint) (is_merged : AreMerged columns.columns merged.columns) where
+      -- so can what they come to when those of one posterior are added up
+      pub merged_can : mass columns.columns ≤ columns.scale → merged.scale ≡ columns.scale → All (IsBelow (shape_size program.shape)) columns.columns
+          → CanGo (block program.shape turns own_part) (shape_size program.shape) merged
+      merged_can fits scale below =
+          let kept = merged_mass columns.columns merged.columns are is_merged in
+          record {
+            are = merged_columns columns.columns merged.columns are is_merged;
+            below = merged_below (shape_size program.shape) columns.columns merged.columns are is_merged below;
+            fits = omega (arith, kept, fits, scale);
+            goes = goes_merged (block program.shape turns own_part) columns.columns merged.columns are part_goes is_merged;
+          }
+
+      -- and it comes to the same
+      pub merged_gone : (after : Matrix) → IsPushed (block program.shape turns own_part) merged.columns after
+          → IsPushed (block program.shape turns own_part) columns.columns after
+      merged_gone after gone = pushed_merged (block program.shape turns own_part) columns.columns merged.columns after are part_goes is_merged gone
 
 -- the same of a program and statements that are had by calls
 module _ (program own : Program) (turns given from to : ℕ) (us : List St) (is : own ≡ program) (same : given ≡ turns) (read : us ≡ st_items own.body) where
@@ -145,3 +158,75 @@ module _ (program own : Program) (turns given from to : ℕ) (us : List St) (is 
       → HasGone (block program.shape turns (map st_tree (part from to (st_items program.body)))) (shape_size program.shape) now after
   own_gone now after gone = subst (λ (h : Had). HasGone (block h.0.shape h.1.0 (map st_tree (part from to h.1.1))) (shape_size h.0.shape) now after)
       (sym had) gone
+
+-- the part of one statement is this statement
+part_one : {X Y : Type 0} (f : X → Y) (at : ℕ) (xs : List X) (x : X) → map f (drop at xs) ≡ f x ∷ map f (drop (at + 1) xs)
+    → map f (part at (at + 1) xs) ≡ f x ∷ []
+part_one f at xs x here =
+    let one : (at + 1) - at ≡ 1 = omega arith in
+    sym (take-map f ((at + 1) - at) (drop at xs)) ∙ (ap (λ n. take n (map f (drop at xs))) one ∙ ap (take 1) here)
+
+-- a statement of the program is one of those that are had
+own_within : (program own : Program) (us : List St) (at : ℕ) → own ≡ program → us ≡ st_items own.body → at < length (map st_tree (st_items program.body))
+    → at < length us
+own_within program own us at is read within =
+    let same = ap length (read ∙ ap (λ (p : Program). st_items p.body) is) in
+    omega (arith, same, length-map (st_items program.body) st_tree, within)
+
+-- where the part is one statement, what can be pushed through it, and what it makes of columns
+module _ (own : Program) (given at : ℕ) (us : List St) (s : St) (one : map st_tree (part at (at + 1) us) ≡ st_tree s ∷ [])
+    (sound : AreSound (shape_kinds own.shape) (map st_tree (part at (at + 1) us))) where
+  alone_sound : AreSound (shape_kinds own.shape) (st_tree s ∷ [])
+  alone_sound = subst (AreSound (shape_kinds own.shape)) one sound
+
+  one_sound : IsSound (shape_kinds own.shape) (st_tree s)
+  one_sound = (sound_first (shape_kinds own.shape) alone_sound).0
+
+  module _ (now : Joint) (can : CanGo (block own.shape given (map st_tree (part at (at + 1) us))) (shape_size own.shape) now) where
+    alone_can : CanGo (block own.shape given (st_tree s ∷ [])) (shape_size own.shape) now
+    alone_can = subst (λ xs. CanGo (block own.shape given xs) (shape_size own.shape) now) one can
+
+    one_can : CanGo (runs (shape_types own.shape) given (st_tree s)) (shape_size own.shape) now
+    one_can = next_can own.shape given (block own.shape given (st_tree s ∷ [])) now (st_tree s) [] now (alone_on own.shape given (st_tree s) now alone_sound alone_can)
+
+    one_gone : (after : Joint) → HasGone (runs (shape_types own.shape) given (st_tree s)) (shape_size own.shape) now after
+        → HasGone (block own.shape given (map st_tree (part at (at + 1) us))) (shape_size own.shape) now after
+    one_gone after gone =
+        subst (λ xs. HasGone (block own.shape given xs) (shape_size own.shape) now after) (sym one)
+        (alone_gone own.shape given (st_tree s) now after alone_sound alone_can gone)
+
+-- one statement of a program, both had by calls: it can be pushed through, and what comes of it is what comes of the part
+module _ (program own : Program) (turns given at : ℕ) (us : List St) (s : St) (is : own ≡ program) (same : given ≡ turns) (read : us ≡ st_items own.body)
+    (within : at < length (map st_tree (st_items program.body))) (found : s ≡ get_or us at s) (checked : IsChecked (program_tree program)) where
+  alone : map st_tree (part at (at + 1) us) ≡ st_tree s ∷ []
+  alone = part_one st_tree at us s (left_step st_tree us at s (own_within program own us at is read within) found)
+
+  next : at ≤ at + 1
+  next = omega arith
+
+  all_sound : AreSound (shape_kinds own.shape) (map st_tree (part at (at + 1) us))
+  all_sound = own_sound program own turns given at (at + 1) us is same read (part_sound program turns at (at + 1) next checked)
+
+  pub step_sound : IsSound (shape_kinds own.shape) (st_tree s)
+  step_sound = one_sound own given at us s alone all_sound
+
+  module _ (agrees : BlockAgrees) (chains : RunsChain) (columns : Joint) (are : All IsColumn columns.columns) (fits : mass columns.columns ≤ columns.scale)
+      (below : All (IsBelow (shape_size program.shape)) columns.columns)
+      (ready : IsReady (shape_types program.shape) turns (drop at (map st_tree (st_items program.body))) columns.columns) where
+    all_can : CanGo (block own.shape given (map st_tree (part at (at + 1) us))) (shape_size own.shape) columns
+    all_can = own_can program own turns given at (at + 1) us is same read columns
+        (part_can program turns at (at + 1) next checked agrees chains columns are ready fits below)
+
+    pub step_can : CanGo (runs (shape_types own.shape) given (st_tree s)) (shape_size own.shape) columns
+    step_can = one_can own given at us s alone all_sound columns all_can
+
+    module _ (after : Joint) (gone : HasGone (runs (shape_types own.shape) given (st_tree s)) (shape_size own.shape) columns after) where
+      all_gone : HasGone (block program.shape turns (map st_tree (part at (at + 1) (st_items program.body)))) (shape_size program.shape) columns after
+      all_gone = own_gone program own turns given at (at + 1) us is same read columns after
+          (one_gone own given at us s alone all_sound columns all_can after gone)
+
+      pub step_pushed : IsPushed (block program.shape turns (part at (at + 1) (map st_tree (st_items program.body)))) columns.columns after.columns
+      step_pushed = part_pushed program turns at (at + 1) next checked agrees chains columns are ready after.columns all_gone.pushed
+
+      pub step_ready : IsReady (shape_types program.shape) turns (drop (at + 1) (map st_tree (st_items program.body))) after.columns
+      step_ready = rest_ready program turns at (at + 1) next checked agrees chains columns are ready after.columns all_gone.pushed

@@ -20,7 +20,7 @@ use Rattle.kf_run.specs.Going.{CanGo, HasGone}
 use Rattle.kf_quiet.specs.Merging.{SplitsOnce}
 use Rattle.kf_hyper.proofs.Beliefs.{merged_again, merged_below, merged_columns, merged_mass, merged_none}
 use Rattle.kf_run.proofs.Blocks.{AreSides, block_full, mass_both}
-use Rattle.kf_quiet.proofs.Carrying.{Runner, Matrix, pushed_again, pushed_columns}
+use Rattle.kf_quiet.proofs.Carrying.{Runner, Matrix, pushed_columns}
 use Rattle.kf_quiet.proofs.Statements.{ComesTo, all_turned, block_mass, blocks_split, goes_body, goes_guard, goes_next, turned, turned_last, turned_none}
 
 module _ (shape : Shape) (turns : ℕ) (test : DxTree) (xs : List StTree) (kinded : DistKinded (shape_kinds shape) test TruthKind)
@@ -120,7 +120,6 @@ module _ (shape : Shape) (turns : ℕ) (test : DxTree) (xs : List StTree) (kinde
       pub turn_can : CanGo body size taken
       turn_can = record {
         are = pushed_columns (side true guard) asking.columns taken.columns sides.to_taken;
-        merged = pushed_again (side true guard) asking.columns taken.columns sides.to_taken;
         below = sides.below_taken;
         fits = omega (arith, sides.whole, sides.scale_taken, on.can.fits);
         goes = goes_body guard filled (place test) body (block_full shape turns xs sound) splits rest asking.columns taken.columns on.can.are on.can.goes
@@ -136,7 +135,6 @@ module _ (shape : Shape) (turns : ℕ) (test : DxTree) (xs : List StTree) (kinde
           record {
             can = record {
               are = pushed_columns body taken.columns next.columns went.pushed;
-              merged = pushed_again body taken.columns next.columns went.pushed;
               below = went.below;
               fits = omega (arith, kept, went.scale, turn_can.fits);
               goes = goes_next guard filled (place test) body (block_full shape turns xs sound) splits rest asking.columns taken.columns next.columns

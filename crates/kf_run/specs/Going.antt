@@ -2,16 +2,14 @@
 use Rattle.std.specs.Prelude.{◌≡◌, ◌≤◌, ℕ, List, All}
 use Rattle.kf_hyper.specs.Columns.{IsColumn}
 use Rattle.kf_hyper.specs.Joint.{Joint, mass}
-use Rattle.kf_hyper.specs.Merged.{AreMerged}
 use Rattle.kf_hyper.specs.Shapes.{IsBelow}
 use Rattle.kf_core.specs.Ready.{IsPushed}
 use Rattle.kf_core.specs.Runs.{Run}
 use Rattle.kf_quiet.specs.Following.{Goes}
 
--- merged columns of so many stores, whose weights go whole along the runs
+-- columns of so many stores, whose weights go whole along the runs
 pub record CanGo (from : ℕ → List Run) (size : ℕ) (now : Joint) : Type 0 where
   pub are : All IsColumn now.columns
-  pub merged : AreMerged now.columns now.columns
   pub below : All (IsBelow size) now.columns
   pub fits : mass now.columns ≤ now.scale
   pub goes : Goes from now.columns

@@ -1,9 +1,9 @@
-//! The stages of a cleared program: its own statements, pushed by value.
+//! The stages of a cleared program: its own statements, one at a time.
 
 ghost use Rattle.kf_core.specs.Views.{program_tree};
 ghost use Rattle.kf_support.specs.Cleared.{program_of, turns_of, whole_scale};
 
-use crate::pushes::push_owned;
+use crate::pushes::push_at;
 use crate::stages::Stages;
 use crate::starting::start;
 use kf_core::{choice_laws, run_laws};
@@ -27,16 +27,10 @@ impl Stages for Cleared {
         Ok(columns)
     }
 
-    fn pass(
-        &self,
-        alloc: Global,
-        from: usize,
-        to: usize,
-        columns: Columns,
-    ) -> Result<Columns, Mem> {
+    fn pass(&self, alloc: Global, at: usize, columns: &Columns) -> Result<Columns, Mem> {
         run_laws();
-        are_columns(&columns);
-        let after = push_owned(alloc, self, from, to, columns)?;
+        are_columns(columns);
+        let after = push_at(alloc, self, at, columns)?;
         Ok(after)
     }
 

@@ -1,6 +1,6 @@
 //! Columns of stores pushed through statements.
 
-ghost use Rattle.std.specs.Prelude.{◌≡◌, ◌≤◌, ◌+◌, ◌-◌, ◌++◌, [], List, All, length, map, take, drop, IfOk};
+ghost use Rattle.std.specs.Prelude.{◌≡◌, ◌≤◌, ◌<◌, ◌+◌, ◌-◌, ◌++◌, [], List, All, length, map, take, drop, IfOk};
 ghost use Rattle.kf_value.specs.Kinds.{TruthKind};
 ghost use Rattle.kf_value.specs.Shapes.{shape_size, shape_types};
 ghost use Rattle.kf_hyper.specs.Columns.{IsColumn};
@@ -43,27 +43,40 @@ fn merge_both(alloc: Global, one: Columns, other: Columns) -> Result<Columns, Me
     Ok(merged)
 }
 
-/// What columns become in a statement.
+/// A copy of the columns, with those of one posterior added up.
+fn merge_copy(alloc: Global, columns: &Columns) -> Result<Columns, Mem>
+    ensures merged { IfOk result (λ after. AreMerged columns.now.columns after.columns) }
+    ensures scale { IfOk result (λ after. after.scale ≡ columns.now.scale) }
+{
+    let copied = columns.copy(alloc)?;
+    let merged = merge(alloc, copied)?;
+    Ok(merged)
+}
+
+/// What columns become in a statement, with those of one posterior added up. They needn't be merged before.
 #[cycle(push)]
 fn push_one(
     alloc: Global,
     shape: &Shape,
     turns: u32,
     statement: &St,
-    columns: Columns,
+    columns: &Columns,
 ) -> Result<Columns, Mem>
     requires sound { IsSound (shape_kinds shape.now) (st_tree statement.now) }
-    requires can { CanGo (runs (shape_types shape.now) turns (st_tree statement.now)) (shape_size shape.now) columns }
-    ensures { IfOk result (λ after. HasGone (runs (shape_types shape.now) turns (st_tree statement.now)) (shape_size shape.now) columns after) }
+    requires can { CanGo (runs (shape_types shape.now) turns (st_tree statement.now)) (shape_size shape.now) columns.now }
+    ensures { IfOk result (λ after. HasGone (runs (shape_types shape.now) turns (st_tree statement.now)) (shape_size shape.now) columns.now after) }
 {
     match statement {
-        St::Skip => Ok(columns),
+        St::Skip => {
+            let after = merge_copy(alloc, columns)?;
+            Ok(after)
+        }
         St::Assign { slot, dist, shown } => {
-            let after = assignment(alloc, shape, usize::from(*slot), dist, *shown, &columns)?;
+            let after = assignment(alloc, shape, usize::from(*slot), dist, *shown, columns)?;
             Ok(after)
         }
         St::Observe(dist) => {
-            let after = show(alloc, shape, None, dist, &columns)?;
+            let after = show(alloc, shape, None, dist, columns)?;
             Ok(after)
         }
         St::If {
@@ -71,7 +84,7 @@ fn push_one(
             yes,
             no,
         } => {
-            let sides = guard(alloc, shape, test, &columns)?;
+            let sides = guard(alloc, shape, test, columns)?;
             let one = push_all(alloc, shape, turns, yes.as_slice(), sides.taken)?;
             let other = push_all(alloc, shape, turns, no.as_slice(), sides.left)?;
             let after = merge_both(alloc, one, other)?;
@@ -93,15 +106,15 @@ fn push_loop(
     turns: u32,
     test: &Dx,
     body: &[St],
-    columns: Columns,
+    columns: &Columns,
 ) -> Result<Columns, Mem>
     requires kinded { DistKinded (shape_kinds shape.now) (dx_tree test.now) TruthKind }
     requires sound { AreSound (shape_kinds shape.now) (map st_tree body.now) }
-    requires can { CanGo (looped turns (tried (shape_types shape.now) (dx_tree test.now)) (place (dx_tree test.now)) (all_runs (shape_types shape.now) turns (sts (map st_tree body.now)))) (shape_size shape.now) columns }
-    ensures { IfOk result (λ after. HasGone (looped turns (tried (shape_types shape.now) (dx_tree test.now)) (place (dx_tree test.now)) (all_runs (shape_types shape.now) turns (sts (map st_tree body.now)))) (shape_size shape.now) columns after) }
+    requires can { CanGo (looped turns (tried (shape_types shape.now) (dx_tree test.now)) (place (dx_tree test.now)) (all_runs (shape_types shape.now) turns (sts (map st_tree body.now)))) (shape_size shape.now) columns.now }
+    ensures { IfOk result (λ after. HasGone (looped turns (tried (shape_types shape.now) (dx_tree test.now)) (place (dx_tree test.now)) (all_runs (shape_types shape.now) turns (sts (map st_tree body.now)))) (shape_size shape.now) columns.now after) }
 {
-    let mut left = none_of(alloc, &columns);
-    let mut asking = columns;
+    let mut left = none_of(alloc, columns);
+    let mut asking = columns.copy(alloc)?;
     for _turn in 0..turns {
         if asking.columns().as_slice().is_empty() {
             return Ok(left);
@@ -115,7 +128,7 @@ fn push_loop(
     Ok(after)
 }
 
-/// What columns become in statements, one after the other.
+/// What merged columns become in statements, one after the other. A `skip` leaves them as they are.
 #[cycle(push)]
 fn push_all(
     alloc: Global,
@@ -125,47 +138,45 @@ fn push_all(
     columns: Columns,
 ) -> Result<Columns, Mem>
     requires sound { AreSound (shape_kinds shape.now) (map st_tree statements.now) }
+    requires merged { AreMerged columns.columns columns.columns }
     requires can { CanGo (all_runs (shape_types shape.now) turns (sts (map st_tree statements.now))) (shape_size shape.now) columns }
     ensures { IfOk result (λ after. HasGone (all_runs (shape_types shape.now) turns (sts (map st_tree statements.now))) (shape_size shape.now) columns after) }
 {
     let mut now = columns;
     for statement in statements {
-        now = push_one(alloc, shape, turns, statement, now)?;
+        match statement {
+            St::Skip => {}
+            _ => now = push_one(alloc, shape, turns, statement, &now)?,
+        }
     }
     Ok(now)
+}
+
+/// What columns of stores become in the outermost statement `at`, from 0, with those of one posterior added up.
+///
+/// They needn't be merged before, and nothing is merged that is merged already.
+pub fn push_at(alloc: Global, c: &Cleared, at: usize, columns: &Columns) -> Result<Columns, Mem>
+    requires within { at < length (program_tree (program_of c.now)).body }
+    requires scale { columns.now.scale ≡ whole_scale c.now }
+    requires below { All (IsBelow (shape_size (program_of c.now).shape)) columns.now.columns }
+    requires ready { IsReady (program_tree (program_of c.now)).types (turns_of c.now) (drop at (program_tree (program_of c.now)).body) columns.now.columns }
+    ensures pushed { IfOk result (λ after. IsPushed (all_runs (program_tree (program_of c.now)).types (turns_of c.now) (sts (take ((at + 1) - at) (drop at (program_tree (program_of c.now)).body)))) columns.now.columns after.columns) }
+    ensures scale { IfOk result (λ after. after.scale ≡ whole_scale c.now) }
+    ensures below { IfOk result (λ after. All (IsBelow (shape_size (program_of c.now).shape)) after.columns) }
+    ensures ready { IfOk result (λ after. IsReady (program_tree (program_of c.now)).types (turns_of c.now) (drop (at + 1) (program_tree (program_of c.now)).body) after.columns) }
+{
+    run_laws();
+    are_columns(columns);
+    let program = c.program();
+    let statement = &program.body.as_slice()[at];
+    let after = push_one(alloc, &program.shape, c.turns(), statement, columns)?;
+    Ok(after)
 }
 
 /// What columns of stores become in the outermost statements from the one at `from` on, up to but not with the one at `to`.
 ///
 /// Columns of one posterior are added up behind each statement, also inside branches and loops, so that no more is kept
 /// than one column for each belief that an observer may hold. Weights are over the program's scale, before and behind.
-pub fn push_owned(
-    alloc: Global,
-    c: &Cleared,
-    from: usize,
-    to: usize,
-    columns: Columns,
-) -> Result<Columns, Mem>
-    requires order { from ≤ to }
-    requires within { to ≤ length (program_tree (program_of c.now)).body }
-    requires scale { columns.scale ≡ whole_scale c.now }
-    requires below { All (IsBelow (shape_size (program_of c.now).shape)) columns.columns }
-    requires ready { IsReady (program_tree (program_of c.now)).types (turns_of c.now) (drop from (program_tree (program_of c.now)).body) columns.columns }
-    ensures pushed { IfOk result (λ after. IsPushed (all_runs (program_tree (program_of c.now)).types (turns_of c.now) (sts (take (to - from) (drop from (program_tree (program_of c.now)).body)))) columns.columns after.columns) }
-    ensures scale { IfOk result (λ after. after.scale ≡ whole_scale c.now) }
-    ensures below { IfOk result (λ after. All (IsBelow (shape_size (program_of c.now).shape)) after.columns) }
-    ensures ready { IfOk result (λ after. IsReady (program_tree (program_of c.now)).types (turns_of c.now) (drop to (program_tree (program_of c.now)).body) after.columns) }
-{
-    run_laws();
-    are_columns(&columns);
-    let merged = merge(alloc, columns)?;
-    let program = c.program();
-    let statements = &program.body.as_slice()[from..to];
-    let after = push_all(alloc, &program.shape, c.turns(), statements, merged)?;
-    Ok(after)
-}
-
-/// What `push_owned` makes of a copy of the columns.
 pub fn push(
     alloc: Global,
     c: &Cleared,
@@ -183,7 +194,11 @@ pub fn push(
     ensures below { IfOk result (λ after. All (IsBelow (shape_size (program_of c.now).shape)) after.columns) }
     ensures ready { IfOk result (λ after. IsReady (program_tree (program_of c.now)).types (turns_of c.now) (drop to (program_tree (program_of c.now)).body) after.columns) }
 {
-    let owned = columns.copy(alloc)?;
-    let after = push_owned(alloc, c, from, to, owned)?;
+    run_laws();
+    are_columns(columns);
+    let merged = merge_copy(alloc, columns)?;
+    let program = c.program();
+    let statements = &program.body.as_slice()[from..to];
+    let after = push_all(alloc, &program.shape, c.turns(), statements, merged)?;
     Ok(after)
 }

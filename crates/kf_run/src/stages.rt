@@ -23,7 +23,8 @@ use std::alloc::Global;
 
 /// A program as the list of its outermost statements, by what they make of columns of stores.
 ///
-/// It hands out no statement and no trace. All columns are over its scale, and merged columns alone are passed on.
+/// It hands out no statement and no trace. All columns are over its scale. What is passed through a statement has no two columns in
+/// proportion and all weight, so whoever stands on this carries no more past an outermost statement than one column for each posterior.
 pub trait Stages {
     /// The program, the turns that a loop may have, and the scale of all runs.
     ghost meaning: { Self → Meaning };
@@ -41,21 +42,20 @@ pub trait Stages {
         ensures mass { IfOk result (λ first. mass first.columns ≡ (meaning self.now).scale) }
         ensures ready { IfOk result (λ first. IsReady (meaning self.now).program.types (meaning self.now).turns (meaning self.now).program.body first.columns) };
 
-    /// What the columns become in the outermost statements from the one at `from`, from 0, up to but not with the one at
-    /// `to`, with those of one posterior added up behind each.
-    fn pass(&self, alloc: Global, from: usize, to: usize, columns: Columns) -> Result<Columns, Mem>
-        requires order { from ≤ to }
-        requires within { to ≤ length (meaning self.now).program.body }
-        requires scale { columns.scale ≡ (meaning self.now).scale }
-        requires below { All (IsBelow (store_count (meaning self.now))) columns.columns }
-        requires apart { AreApart columns.columns }
-        requires mass { mass columns.columns ≡ (meaning self.now).scale }
-        requires ready { IsReady (meaning self.now).program.types (meaning self.now).turns (drop from (meaning self.now).program.body) columns.columns }
-        ensures pushed { IfOk result (λ after. IsPushed (runs_between (meaning self.now) from to) columns.columns after.columns) }
+    /// What the columns become in the outermost statement `at`, from 0, with those of one posterior added up. It takes columns of
+    /// which no two are in proportion, and which sum to the scale.
+    fn pass(&self, alloc: Global, at: usize, columns: &Columns) -> Result<Columns, Mem>
+        requires within { at < length (meaning self.now).program.body }
+        requires scale { columns.now.scale ≡ (meaning self.now).scale }
+        requires below { All (IsBelow (store_count (meaning self.now))) columns.now.columns }
+        requires apart { AreApart columns.now.columns }
+        requires mass { mass columns.now.columns ≡ (meaning self.now).scale }
+        requires ready { IsReady (meaning self.now).program.types (meaning self.now).turns (drop at (meaning self.now).program.body) columns.now.columns }
+        ensures pushed { IfOk result (λ after. IsPushed (runs_between (meaning self.now) at (at + 1)) columns.now.columns after.columns) }
         ensures scale { IfOk result (λ after. after.scale ≡ (meaning self.now).scale) }
         ensures below { IfOk result (λ after. All (IsBelow (store_count (meaning self.now))) after.columns) }
         ensures mass { IfOk result (λ after. mass after.columns ≡ (meaning self.now).scale) }
-        ensures ready { IfOk result (λ after. IsReady (meaning self.now).program.types (meaning self.now).turns (drop to (meaning self.now).program.body) after.columns) };
+        ensures ready { IfOk result (λ after. IsReady (meaning self.now).program.types (meaning self.now).turns (drop (at + 1) (meaning self.now).program.body) after.columns) };
 
     /// The hyper of the columns, about the program's target.
     fn finish(&self, alloc: Global, columns: &Columns) -> Result<Hyper, Mem>
@@ -67,7 +67,7 @@ pub trait Stages {
         ensures target { IfOk result (λ h. target_of h ≡ (meaning self.now).program.target) };
 }
 
-/// The hyper of a program, got by carrying merged columns of stores through its statements.
+/// The hyper of a program, got by carrying merged columns of stores through its outermost statements, one after the other.
 pub fn hyper_of<S: Stages>(alloc: Global, s: &S) -> Result<Hyper, Mem>
     ensures hyper { IfOk result (λ h. IsHyperOf (joint_of (S.meaning s.now).turns (S.meaning s.now).program) (inners_of h)) }
     ensures scale { IfOk result (λ h. scale_of h ≡ (S.meaning s.now).scale) }
@@ -76,9 +76,11 @@ pub fn hyper_of<S: Stages>(alloc: Global, s: &S) -> Result<Hyper, Mem>
     choice_laws();
     run_laws();
     let count = s.count();
-    let start = s.start(alloc)?;
-    let now = s.pass(alloc, 0, count, start)?;
-    let hyper = s.finish(alloc, &now)?;
+    let mut columns = s.start(alloc)?;
+    for at in 0..count {
+        columns = s.pass(alloc, at, &columns)?;
+    }
+    let hyper = s.finish(alloc, &columns)?;
     Ok(hyper)
 }
 
@@ -101,7 +103,7 @@ pub fn trail<S: Stages>(alloc: Global, s: &S) -> Result<CountList, Mem>
     counts.push(number_of(&start))?;
     let mut now = start;
     for at in 0..s.count() {
-        now = s.pass(alloc, at, at + 1, now)?;
+        now = s.pass(alloc, at, &now)?;
         counts.push(number_of(&now))?;
     }
     Ok(CountList::new(counts))

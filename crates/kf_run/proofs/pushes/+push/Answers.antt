@@ -1,4 +1,4 @@
-use Rattle.std.proofs.Common.{rules, ◌≡◌, ◌-◌, ◌+◌, suc, map, arith, sym, refl, ◌∙◌, subst}
+use Rattle.std.proofs.Common.{rules, ◌≡◌, ◌-◌, ◌+◌, ℕ, suc, true, false, map, arith, sym, refl, ◌∙◌, subst}
 use Rattle.std.specs.Prelude.{IfOk}
 use Rattle.kf_value.specs.Shapes.{shape_size, shape_types}
 use Rattle.kf_value.proofs.ListLemmas.{left_step, left_end}
@@ -6,20 +6,24 @@ use Rattle.kf_core.specs.declared.st.St.{the_lemmas}
 use Rattle.kf_core.specs.Views.{dx_tree, st_tree, st_items}
 use Rattle.kf_eval.specs.Kinds.{shape_kinds}
 use Rattle.kf_core.proofs.SoundParts as sound
-use Rattle.kf_quiet.specs.Following.{Goes}
+use Rattle.kf_hyper.specs.Joint.{Joint}
+use Rattle.kf_hyper.proofs.Beliefs.{merged_below}
+use Rattle.kf_core.specs.Runs.{tried}
+use Rattle.kf_quiet.specs.Following.{Goes, side}
 use Rattle.kf_run.specs.Going.{CanGo, HasGone}
 use Rattle.kf_run.proofs.Blocks as blocks
-use Rattle.kf_quiet.proofs.Carrying.{pushed_stay}
+use Rattle.kf_quiet.proofs.Carrying.{pushed_again, pushed_stay}
 use Rattle.kf_run.proofs.Forms as form
 use Rattle.kf_run.proofs.Turns as loop
 use Rattle.kf_run.proofs.pushes.+push.Goals as goal
+use Rattle.kf_run.proofs.pushes.+push.Goals.{push_all-in-Skip, push_all-in_default+in_ok-now-in_default}
 
 -- ---- statements, one after the other
 
 pub push_all-push_one-requires : goal.push_all-push_one-requires
 push_all-push_one-requires t c =
     let here = left_step st_tree c.args.statements.now c.loop-statement.statement-index c.statement-item.result (omega arith) c.statement-item.is in
-    let before = rw here at c.loop-statement.invariant in (
+    let before = rw here at c.loop-statement.invariant.0 in (
       search (rules, the_lemmas),
       (
         blocks.next_sound c.args.shape.now c.args.turns _ _ _ _ _ before,
@@ -31,13 +35,23 @@ push_all-push_one-requires t c =
 pub push_all-loop-statement-preserved : goal.push_all-loop-statement-preserved
 push_all-loop-statement-preserved t c =
     let here = left_step st_tree c.args.statements.now c.loop-statement.statement-index c.statement-item.result (omega arith) c.statement-item.is in
-    let before = rw here at c.loop-statement.invariant in
-    blocks.block_step c.args.shape.now c.args.turns _ _ _ _ _ before c.in_ok-now.now c.in_ok-now.ensures
+    let before = rw here at c.loop-statement.invariant.0 in
+    let merged = c.loop-statement.invariant.1 in
+    elim c.match-statement.branch [
+      | push_all-in-Skip w ↦
+          let skips = form.skip_runs (shape_types c.args.shape.now) c.args.turns c.statement-item.result w.in-Skip.is in
+          rw w.now-is (blocks.block_skip c.args.shape.now c.args.turns _ _ _ _ c.loop-statement.now skips before merged, merged)
+      | push_all-in_default+in_ok-now-in_default w ↦
+          rw w.now-is (
+            blocks.block_step c.args.shape.now c.args.turns _ _ _ _ c.loop-statement.now before w.in_ok-now-in_default.now w.in_ok-now-in_default.ensures,
+            pushed_again _ c.loop-statement.now.columns w.in_ok-now-in_default.now.columns w.in_ok-now-in_default.ensures.pushed,
+          )
+    ]
 
 pub push_all-returns : goal.push_all-returns
 push_all-returns t c =
     blocks.block_end c.args.shape.now c.args.turns _ c.args.columns _ c.loop-statement.now
-    (left_end st_tree c.args.statements.now c.loop-statement.statement-index (omega arith)) c.loop-statement.invariant
+    (left_end st_tree c.args.statements.now c.loop-statement.statement-index (omega arith)) c.loop-statement.invariant.0 c.loop-statement.invariant.1
 
 -- ---- loops
 
@@ -48,16 +62,16 @@ push_loop-loop-turn-init t c =
       kinded = c.requires.kinded;
       sound = c.requires.sound;
       on =
-          subst (λ rest. loop.LoopOn c.args.shape.now c.args.turns (dx_tree c.args.test.now) (map st_tree c.args.body.now) c.requires.kinded
-          c.requires.sound c.args.columns rest c.args.columns c.none_of-left.result) all
+          subst (λ (at : ℕ × Joint). loop.LoopOn c.args.shape.now c.args.turns (dx_tree c.args.test.now) (map st_tree c.args.body.now) c.requires.kinded
+          c.requires.sound c.args.columns.now at.0 at.1 c.none_of-left.result) (λ i. (all i, sym c.in_ok-asking.ensures i))
           (loop.loop_start c.args.shape.now c.args.turns (dx_tree c.args.test.now) (map st_tree c.args.body.now) c.requires.kinded c.requires.sound
-          c.args.columns c.none_of-left.result c.none_of-left.ensures c.requires.can);
+          c.args.columns.now c.none_of-left.result c.none_of-left.ensures c.requires.can);
     }
 
 pub push_loop-returns-then-is_empty : goal.push_loop-returns-then-is_empty
 push_loop-returns-then-is_empty t c =
     let i = c.loop-turn.invariant in
-    loop.loop_none c.args.shape.now c.args.turns (dx_tree c.args.test.now) (map st_tree c.args.body.now) i.kinded i.sound c.args.columns
+    loop.loop_none c.args.shape.now c.args.turns (dx_tree c.args.test.now) (map st_tree c.args.body.now) i.kinded i.sound c.args.columns.now
     (c.args.turns - c.loop-turn._turn) c.loop-turn.asking c.loop-turn.left i.on
     (loop.none_there c.loop-turn.asking.columns (search rules))
 
@@ -85,9 +99,9 @@ push_loop-push_all-requires t c =
     let i = c.loop-turn.invariant in
     let rest = c.args.turns - (c.loop-turn._turn + 1) in
     let later : c.args.turns - c.loop-turn._turn ≡ suc rest = omega arith in
-    let on : loop.LoopOn c.args.shape.now c.args.turns (dx_tree c.args.test.now) (map st_tree c.args.body.now) i.kinded i.sound c.args.columns (suc rest)
+    let on : loop.LoopOn c.args.shape.now c.args.turns (dx_tree c.args.test.now) (map st_tree c.args.body.now) i.kinded i.sound c.args.columns.now (suc rest)
     c.loop-turn.asking c.loop-turn.left =
-    subst (λ k. loop.LoopOn c.args.shape.now c.args.turns (dx_tree c.args.test.now) (map st_tree c.args.body.now) i.kinded i.sound c.args.columns k
+    subst (λ k. loop.LoopOn c.args.shape.now c.args.turns (dx_tree c.args.test.now) (map st_tree c.args.body.now) i.kinded i.sound c.args.columns.now k
     c.loop-turn.asking c.loop-turn.left) later i.on in
     let sides : blocks.AreSides c.args.shape.now (dx_tree c.args.test.now) c.loop-turn.asking c.in_ok-sides.sides.taken c.in_ok-sides.sides.left = record {
       to_taken = c.in_ok-sides.ensures.taken;
@@ -101,8 +115,12 @@ push_loop-push_all-requires t c =
       search (rules, the_lemmas),
       (
         c.requires.sound,
-        loop.turn_can c.args.shape.now c.args.turns (dx_tree c.args.test.now) (map st_tree c.args.body.now) i.kinded i.sound c.args.columns
-            c.loop-turn.asking c.loop-turn.left c.in_ok-sides.sides.taken c.in_ok-sides.sides.left sides rest on,
+        (
+          pushed_again (side true (tried (shape_types c.args.shape.now) (dx_tree c.args.test.now))) c.loop-turn.asking.columns c.in_ok-sides.sides.taken.columns
+              sides.to_taken,
+          loop.turn_can c.args.shape.now c.args.turns (dx_tree c.args.test.now) (map st_tree c.args.body.now) i.kinded i.sound c.args.columns.now
+              c.loop-turn.asking c.loop-turn.left c.in_ok-sides.sides.taken c.in_ok-sides.sides.left sides rest on,
+        ),
       ),
     )
 
@@ -111,9 +129,9 @@ push_loop-loop-turn-preserved t c =
     let i = c.loop-turn.invariant in
     let rest = c.args.turns - (c.loop-turn._turn + 1) in
     let later : c.args.turns - c.loop-turn._turn ≡ suc rest = omega arith in
-    let on : loop.LoopOn c.args.shape.now c.args.turns (dx_tree c.args.test.now) (map st_tree c.args.body.now) i.kinded i.sound c.args.columns (suc rest)
+    let on : loop.LoopOn c.args.shape.now c.args.turns (dx_tree c.args.test.now) (map st_tree c.args.body.now) i.kinded i.sound c.args.columns.now (suc rest)
     c.loop-turn.asking c.loop-turn.left =
-    subst (λ k. loop.LoopOn c.args.shape.now c.args.turns (dx_tree c.args.test.now) (map st_tree c.args.body.now) i.kinded i.sound c.args.columns k
+    subst (λ k. loop.LoopOn c.args.shape.now c.args.turns (dx_tree c.args.test.now) (map st_tree c.args.body.now) i.kinded i.sound c.args.columns.now k
     c.loop-turn.asking c.loop-turn.left) later i.on in
     let sides : blocks.AreSides c.args.shape.now (dx_tree c.args.test.now) c.loop-turn.asking c.in_ok-sides.sides.taken c.in_ok-sides.sides.left = record {
       to_taken = c.in_ok-sides.ensures.taken;
@@ -128,9 +146,9 @@ push_loop-loop-turn-preserved t c =
       kinded = i.kinded;
       sound = i.sound;
       on =
-          loop.loop_step c.args.shape.now c.args.turns (dx_tree c.args.test.now) (map st_tree c.args.body.now) i.kinded i.sound c.args.columns
+          loop.loop_step c.args.shape.now c.args.turns (dx_tree c.args.test.now) (map st_tree c.args.body.now) i.kinded i.sound c.args.columns.now
           c.loop-turn.asking c.loop-turn.left c.in_ok-sides.sides.taken c.in_ok-sides.sides.left sides rest on
-          c.in_ok-left.left c.in_ok-asking.asking c.in_ok-left.ensures.merged c.in_ok-left.ensures.scale c.in_ok-asking.ensures;
+          c.in_ok-left.left c.in_ok-asking-2.asking c.in_ok-left.ensures.merged c.in_ok-left.ensures.scale c.in_ok-asking-2.ensures;
     }
 
 pub push_loop-guard-requires-2-clause-below : goal.push_loop-guard-requires-2-clause-below
@@ -156,9 +174,9 @@ pub push_loop-returns : goal.push_loop-returns
 push_loop-returns t c =
     let i = c.loop-turn.invariant in
     let last : c.args.turns - c.loop-turn._turn ≡ 0 = omega arith in
-    let on : loop.LoopOn c.args.shape.now c.args.turns (dx_tree c.args.test.now) (map st_tree c.args.body.now) i.kinded i.sound c.args.columns 0
+    let on : loop.LoopOn c.args.shape.now c.args.turns (dx_tree c.args.test.now) (map st_tree c.args.body.now) i.kinded i.sound c.args.columns.now 0
     c.loop-turn.asking c.loop-turn.left =
-    subst (λ k. loop.LoopOn c.args.shape.now c.args.turns (dx_tree c.args.test.now) (map st_tree c.args.body.now) i.kinded i.sound c.args.columns k
+    subst (λ k. loop.LoopOn c.args.shape.now c.args.turns (dx_tree c.args.test.now) (map st_tree c.args.body.now) i.kinded i.sound c.args.columns.now k
     c.loop-turn.asking c.loop-turn.left) last i.on in
     let sides : blocks.AreSides c.args.shape.now (dx_tree c.args.test.now) c.loop-turn.asking c.in_ok-sides-2.sides.taken c.in_ok-sides-2.sides.left =
     record {
@@ -170,7 +188,7 @@ push_loop-returns t c =
       below_left = c.in_ok-sides-2.ensures.below_left;
       whole = c.in_ok-sides-2.ensures.mass;
     } in
-    loop.loop_end c.args.shape.now c.args.turns (dx_tree c.args.test.now) (map st_tree c.args.body.now) i.kinded i.sound c.args.columns c.loop-turn.asking
+    loop.loop_end c.args.shape.now c.args.turns (dx_tree c.args.test.now) (map st_tree c.args.body.now) i.kinded i.sound c.args.columns.now c.loop-turn.asking
     c.loop-turn.left c.in_ok-sides-2.sides.taken c.in_ok-sides-2.sides.left sides on
     c.in_ok-after.after c.in_ok-after.ensures.merged c.in_ok-after.ensures.scale
 
@@ -188,7 +206,7 @@ push_one-assignment-requires-clause-kinded t c =
 
 pub push_one-assignment-requires-clause-goes : goal.push_one-assignment-requires-clause-goes
 push_one-assignment-requires-clause-goes t c =
-    subst (λ f. Goes f c.args.columns.columns) (sym (form.assign_runs (shape_types c.args.shape.now) c.args.turns c.args.statement.now c.in-Assign.slot
+    subst (λ f. Goes f c.args.columns.now.columns) (sym (form.assign_runs (shape_types c.args.shape.now) c.args.turns c.args.statement.now c.in-Assign.slot
     c.from.result c.in-Assign.dist c.in-Assign.shown c.in-Assign.is c.from.ensures)) c.requires.can.goes
 
 pub push_one-show-requires-clause-kinded : goal.push_one-show-requires-clause-kinded
@@ -197,7 +215,7 @@ push_one-show-requires-clause-kinded t c = sound.observe_parts (shape_kinds c.ar
 
 pub push_one-show-requires-clause-goes : goal.push_one-show-requires-clause-goes
 push_one-show-requires-clause-goes t c =
-    subst (λ f. Goes f c.args.columns.columns) (sym (form.observe_runs (shape_types c.args.shape.now) c.args.turns c.args.statement.now c.in-Observe.dist
+    subst (λ f. Goes f c.args.columns.now.columns) (sym (form.observe_runs (shape_types c.args.shape.now) c.args.turns c.args.statement.now c.in-Observe.dist
     c.in-Observe.is)) c.requires.can.goes
 
 pub push_one-guard-requires-clause-kinded : goal.push_one-guard-requires-clause-kinded
@@ -210,13 +228,13 @@ push_one-guard-requires-clause-goes t c =
     let other = map st_tree (st_items c.in-If.no) in
     let same = form.if_runs (shape_types c.args.shape.now) c.args.turns c.args.statement.now c.in-If.test c.in-If.yes c.in-If.no c.in-If.is
     (st_items c.in-If.yes) (st_items c.in-If.no) refl refl in
-    let can = subst (λ f. CanGo f (shape_size c.args.shape.now) c.args.columns) (sym same) c.requires.can in
+    let can = subst (λ f. CanGo f (shape_size c.args.shape.now) c.args.columns.now) (sym same) c.requires.can in
     let kinded = sound.if_guard (shape_kinds c.args.shape.now) c.args.statement.now c.requires.sound c.in-If.test c.in-If.yes c.in-If.no c.in-If.is in
     let sound_one = sound.yes_sound (shape_kinds c.args.shape.now) c.args.statement.now c.requires.sound c.in-If.test c.in-If.yes c.in-If.no c.in-If.is
     (st_items c.in-If.yes) refl in
     let sound_other = sound.no_sound (shape_kinds c.args.shape.now) c.args.statement.now c.requires.sound c.in-If.test c.in-If.yes c.in-If.no c.in-If.is
     (st_items c.in-If.no) refl in
-    blocks.can_guard c.args.shape.now c.args.turns (dx_tree c.in-If.test) one other kinded sound_one sound_other c.args.columns can
+    blocks.can_guard c.args.shape.now c.args.turns (dx_tree c.in-If.test) one other kinded sound_one sound_other c.args.columns.now can
 
 pub push_one-push_all-requires : goal.push_one-push_all-requires
 push_one-push_all-requires t c =
@@ -224,13 +242,13 @@ push_one-push_all-requires t c =
     let other = map st_tree (st_items c.in-If.no) in
     let same = form.if_runs (shape_types c.args.shape.now) c.args.turns c.args.statement.now c.in-If.test c.in-If.yes c.in-If.no c.in-If.is
     c.as_slice.result.now (st_items c.in-If.no) c.as_slice.ensures refl in
-    let can = subst (λ f. CanGo f (shape_size c.args.shape.now) c.args.columns) (sym same) c.requires.can in
+    let can = subst (λ f. CanGo f (shape_size c.args.shape.now) c.args.columns.now) (sym same) c.requires.can in
     let kinded = sound.if_guard (shape_kinds c.args.shape.now) c.args.statement.now c.requires.sound c.in-If.test c.in-If.yes c.in-If.no c.in-If.is in
     let sound_one = sound.yes_sound (shape_kinds c.args.shape.now) c.args.statement.now c.requires.sound c.in-If.test c.in-If.yes c.in-If.no c.in-If.is
     c.as_slice.result.now c.as_slice.ensures in
     let sound_other = sound.no_sound (shape_kinds c.args.shape.now) c.args.statement.now c.requires.sound c.in-If.test c.in-If.yes c.in-If.no c.in-If.is
     (st_items c.in-If.no) refl in
-    let sides : blocks.AreSides c.args.shape.now (dx_tree c.in-If.test) c.args.columns c.in_ok-sides-in-If.sides.taken c.in_ok-sides-in-If.sides.left =
+    let sides : blocks.AreSides c.args.shape.now (dx_tree c.in-If.test) c.args.columns.now c.in_ok-sides-in-If.sides.taken c.in_ok-sides-in-If.sides.left =
     record {
       to_taken = c.in_ok-sides-in-If.ensures.taken;
       to_left = c.in_ok-sides-in-If.ensures.left;
@@ -243,8 +261,12 @@ push_one-push_all-requires t c =
       search (rules, the_lemmas),
       (
         sound_one,
-        blocks.can_take c.args.shape.now c.args.turns (dx_tree c.in-If.test) one other kinded sound_one sound_other
-            c.args.columns can c.in_ok-sides-in-If.sides.taken c.in_ok-sides-in-If.sides.left sides,
+        (
+          pushed_again (side true (tried (shape_types c.args.shape.now) (dx_tree c.in-If.test))) c.args.columns.now.columns c.in_ok-sides-in-If.sides.taken.columns
+              sides.to_taken,
+          blocks.can_take c.args.shape.now c.args.turns (dx_tree c.in-If.test) one other kinded sound_one sound_other
+              c.args.columns.now can c.in_ok-sides-in-If.sides.taken c.in_ok-sides-in-If.sides.left sides,
+        ),
       ),
     )
 
@@ -254,13 +276,13 @@ push_one-push_all-requires-in-If t c =
     let other = map st_tree c.as_slice-in-If.result.now in
     let same = form.if_runs (shape_types c.args.shape.now) c.args.turns c.args.statement.now c.in-If.test c.in-If.yes c.in-If.no c.in-If.is
     c.as_slice.result.now c.as_slice-in-If.result.now c.as_slice.ensures c.as_slice-in-If.ensures in
-    let can = subst (λ f. CanGo f (shape_size c.args.shape.now) c.args.columns) (sym same) c.requires.can in
+    let can = subst (λ f. CanGo f (shape_size c.args.shape.now) c.args.columns.now) (sym same) c.requires.can in
     let kinded = sound.if_guard (shape_kinds c.args.shape.now) c.args.statement.now c.requires.sound c.in-If.test c.in-If.yes c.in-If.no c.in-If.is in
     let sound_one = sound.yes_sound (shape_kinds c.args.shape.now) c.args.statement.now c.requires.sound c.in-If.test c.in-If.yes c.in-If.no c.in-If.is
     c.as_slice.result.now c.as_slice.ensures in
     let sound_other = sound.no_sound (shape_kinds c.args.shape.now) c.args.statement.now c.requires.sound c.in-If.test c.in-If.yes c.in-If.no c.in-If.is
     c.as_slice-in-If.result.now c.as_slice-in-If.ensures in
-    let sides : blocks.AreSides c.args.shape.now (dx_tree c.in-If.test) c.args.columns c.in_ok-sides-in-If.sides.taken c.in_ok-sides-in-If.sides.left =
+    let sides : blocks.AreSides c.args.shape.now (dx_tree c.in-If.test) c.args.columns.now c.in_ok-sides-in-If.sides.taken c.in_ok-sides-in-If.sides.left =
     record {
       to_taken = c.in_ok-sides-in-If.ensures.taken;
       to_left = c.in_ok-sides-in-If.ensures.left;
@@ -273,8 +295,12 @@ push_one-push_all-requires-in-If t c =
       search (rules, the_lemmas),
       (
         sound_other,
-        blocks.can_leave c.args.shape.now c.args.turns (dx_tree c.in-If.test) one other kinded sound_one sound_other
-            c.args.columns can c.in_ok-sides-in-If.sides.taken c.in_ok-sides-in-If.sides.left sides,
+        (
+          pushed_again (side false (tried (shape_types c.args.shape.now) (dx_tree c.in-If.test))) c.args.columns.now.columns c.in_ok-sides-in-If.sides.left.columns
+              sides.to_left,
+          blocks.can_leave c.args.shape.now c.args.turns (dx_tree c.in-If.test) one other kinded sound_one sound_other
+              c.args.columns.now can c.in_ok-sides-in-If.sides.taken c.in_ok-sides-in-If.sides.left sides,
+        ),
       ),
     )
 
@@ -284,13 +310,13 @@ push_one-merge_both-requires-clause-fits t c =
     let other = map st_tree c.as_slice-in-If.result.now in
     let same = form.if_runs (shape_types c.args.shape.now) c.args.turns c.args.statement.now c.in-If.test c.in-If.yes c.in-If.no c.in-If.is
     c.as_slice.result.now c.as_slice-in-If.result.now c.as_slice.ensures c.as_slice-in-If.ensures in
-    let can = subst (λ f. CanGo f (shape_size c.args.shape.now) c.args.columns) (sym same) c.requires.can in
+    let can = subst (λ f. CanGo f (shape_size c.args.shape.now) c.args.columns.now) (sym same) c.requires.can in
     let kinded = sound.if_guard (shape_kinds c.args.shape.now) c.args.statement.now c.requires.sound c.in-If.test c.in-If.yes c.in-If.no c.in-If.is in
     let sound_one = sound.yes_sound (shape_kinds c.args.shape.now) c.args.statement.now c.requires.sound c.in-If.test c.in-If.yes c.in-If.no c.in-If.is
     c.as_slice.result.now c.as_slice.ensures in
     let sound_other = sound.no_sound (shape_kinds c.args.shape.now) c.args.statement.now c.requires.sound c.in-If.test c.in-If.yes c.in-If.no c.in-If.is
     c.as_slice-in-If.result.now c.as_slice-in-If.ensures in
-    let sides : blocks.AreSides c.args.shape.now (dx_tree c.in-If.test) c.args.columns c.in_ok-sides-in-If.sides.taken c.in_ok-sides-in-If.sides.left =
+    let sides : blocks.AreSides c.args.shape.now (dx_tree c.in-If.test) c.args.columns.now c.in_ok-sides-in-If.sides.taken c.in_ok-sides-in-If.sides.left =
     record {
       to_taken = c.in_ok-sides-in-If.ensures.taken;
       to_left = c.in_ok-sides-in-If.ensures.left;
@@ -300,7 +326,7 @@ push_one-merge_both-requires-clause-fits t c =
       below_left = c.in_ok-sides-in-If.ensures.below_left;
       whole = c.in_ok-sides-in-If.ensures.mass;
     } in
-    blocks.joined_fit c.args.shape.now c.args.turns (dx_tree c.in-If.test) one other kinded sound_one sound_other c.args.columns can
+    blocks.joined_fit c.args.shape.now c.args.turns (dx_tree c.in-If.test) one other kinded sound_one sound_other c.args.columns.now can
     c.in_ok-sides-in-If.sides.taken c.in_ok-sides-in-If.sides.left sides c.in_ok-one-in-If.one c.in_ok-other-in-If.other c.in_ok-one-in-If.ensures
     c.in_ok-other-in-If.ensures
 
@@ -313,34 +339,36 @@ push_one-push_loop-requires t c =
         (
           sound.body_sound ks c.args.statement.now c.requires.sound c.in-While.test c.in-While.body c.in-While.is c.as_slice-in-While.result.now
               c.as_slice-in-While.ensures,
-          subst (λ f. CanGo f (shape_size c.args.shape.now) c.args.columns)
+          subst (λ f. CanGo f (shape_size c.args.shape.now) c.args.columns.now)
               (sym (form.while_runs (shape_types c.args.shape.now) c.args.turns c.args.statement.now c.in-While.test c.in-While.body c.in-While.is
               c.as_slice-in-While.result.now c.as_slice-in-While.ensures)) c.requires.can,
         ),
       ),
     )
 
-pub push_one-returns-in-Skip : goal.push_one-returns-in-Skip
-push_one-returns-in-Skip t c =
-    subst (λ f. HasGone f (shape_size c.args.shape.now) c.args.columns c.args.columns)
+pub push_one-returns-in_ok-after-in-Skip : goal.push_one-returns-in_ok-after-in-Skip
+push_one-returns-in_ok-after-in-Skip t c =
+    let after = c.in_ok-after-in-Skip.after in
+    let can = c.requires.can in
+    subst (λ f. HasGone f (shape_size c.args.shape.now) c.args.columns.now after)
     (form.skip_runs (shape_types c.args.shape.now) c.args.turns c.args.statement.now c.in-Skip.is)
     (record {
-      pushed = pushed_stay c.args.columns.columns c.args.columns.columns c.requires.can.are c.requires.can.merged;
-      scale = refl;
+      pushed = pushed_stay c.args.columns.now.columns after.columns can.are c.in_ok-after-in-Skip.ensures.merged;
+      scale = c.in_ok-after-in-Skip.ensures.scale;
       below =
-          c.requires.can.below;
+          merged_below (shape_size c.args.shape.now) c.args.columns.now.columns after.columns can.are c.in_ok-after-in-Skip.ensures.merged can.below;
     })
 
 pub push_one-returns-in_ok-after-in-Assign : goal.push_one-returns-in_ok-after-in-Assign
 push_one-returns-in_ok-after-in-Assign t c =
-    subst (λ f. HasGone f (shape_size c.args.shape.now) c.args.columns c.in_ok-after-in-Assign.after)
+    subst (λ f. HasGone f (shape_size c.args.shape.now) c.args.columns.now c.in_ok-after-in-Assign.after)
     (form.assign_runs (shape_types c.args.shape.now) c.args.turns c.args.statement.now c.in-Assign.slot c.from.result c.in-Assign.dist c.in-Assign.shown
     c.in-Assign.is c.from.ensures)
     (record { pushed = c.in_ok-after-in-Assign.ensures.pushed; scale = c.in_ok-after-in-Assign.ensures.scale; below = c.in_ok-after-in-Assign.ensures.below })
 
 pub push_one-returns-in_ok-after-in-Observe : goal.push_one-returns-in_ok-after-in-Observe
 push_one-returns-in_ok-after-in-Observe t c =
-    subst (λ f. HasGone f (shape_size c.args.shape.now) c.args.columns c.in_ok-after-in-Observe.after)
+    subst (λ f. HasGone f (shape_size c.args.shape.now) c.args.columns.now c.in_ok-after-in-Observe.after)
     (form.observe_runs (shape_types c.args.shape.now) c.args.turns c.args.statement.now c.in-Observe.dist c.in-Observe.is)
     (record {
       pushed = c.in_ok-after-in-Observe.ensures.pushed;
@@ -355,13 +383,13 @@ push_one-returns-in_ok-after-in-If t c =
     let other = map st_tree c.as_slice-in-If.result.now in
     let same = form.if_runs (shape_types c.args.shape.now) c.args.turns c.args.statement.now c.in-If.test c.in-If.yes c.in-If.no c.in-If.is
     c.as_slice.result.now c.as_slice-in-If.result.now c.as_slice.ensures c.as_slice-in-If.ensures in
-    let can = subst (λ f. CanGo f (shape_size c.args.shape.now) c.args.columns) (sym same) c.requires.can in
+    let can = subst (λ f. CanGo f (shape_size c.args.shape.now) c.args.columns.now) (sym same) c.requires.can in
     let kinded = sound.if_guard (shape_kinds c.args.shape.now) c.args.statement.now c.requires.sound c.in-If.test c.in-If.yes c.in-If.no c.in-If.is in
     let sound_one = sound.yes_sound (shape_kinds c.args.shape.now) c.args.statement.now c.requires.sound c.in-If.test c.in-If.yes c.in-If.no c.in-If.is
     c.as_slice.result.now c.as_slice.ensures in
     let sound_other = sound.no_sound (shape_kinds c.args.shape.now) c.args.statement.now c.requires.sound c.in-If.test c.in-If.yes c.in-If.no c.in-If.is
     c.as_slice-in-If.result.now c.as_slice-in-If.ensures in
-    let sides : blocks.AreSides c.args.shape.now (dx_tree c.in-If.test) c.args.columns c.in_ok-sides-in-If.sides.taken c.in_ok-sides-in-If.sides.left =
+    let sides : blocks.AreSides c.args.shape.now (dx_tree c.in-If.test) c.args.columns.now c.in_ok-sides-in-If.sides.taken c.in_ok-sides-in-If.sides.left =
     record {
       to_taken = c.in_ok-sides-in-If.ensures.taken;
       to_left = c.in_ok-sides-in-If.ensures.left;
@@ -371,13 +399,13 @@ push_one-returns-in_ok-after-in-If t c =
       below_left = c.in_ok-sides-in-If.ensures.below_left;
       whole = c.in_ok-sides-in-If.ensures.mass;
     } in
-    subst (λ f. HasGone f (shape_size c.args.shape.now) c.args.columns c.in_ok-after-in-If.after) same
-    (blocks.branches_joined c.args.shape.now c.args.turns (dx_tree c.in-If.test) one other kinded sound_one sound_other c.args.columns can
+    subst (λ f. HasGone f (shape_size c.args.shape.now) c.args.columns.now c.in_ok-after-in-If.after) same
+    (blocks.branches_joined c.args.shape.now c.args.turns (dx_tree c.in-If.test) one other kinded sound_one sound_other c.args.columns.now can
     c.in_ok-sides-in-If.sides.taken c.in_ok-sides-in-If.sides.left sides c.in_ok-one-in-If.one c.in_ok-other-in-If.other c.in_ok-one-in-If.ensures
     c.in_ok-other-in-If.ensures c.in_ok-after-in-If.after c.in_ok-after-in-If.ensures.merged c.in_ok-after-in-If.ensures.scale)
 
 pub push_one-returns-in-While : goal.push_one-returns-in-While
 push_one-returns-in-While t c =
-    subst (λ f. IfOk c.push_loop.result (HasGone f (shape_size c.args.shape.now) c.args.columns))
+    subst (λ f. IfOk c.push_loop.result (HasGone f (shape_size c.args.shape.now) c.args.columns.now))
     (form.while_runs (shape_types c.args.shape.now) c.args.turns c.args.statement.now c.in-While.test c.in-While.body c.in-While.is
     c.as_slice-in-While.result.now c.as_slice-in-While.ensures) c.push_loop.ensures

@@ -1,5 +1,6 @@
--- The programs of a task's files are typed, meet no fault, and their scales aren't too wide.
-use Rattle.std.proofs.Common.{◌≡◌, ℕ, nat_le, if◌then◌else◌, IsOk, List, [], ◌∷◌, length, Bool, true, false, Result, Ok, Err, refl, sym, ap, subst}
+-- The programs of files are typed, meet no fault, and their scales aren't too wide.
+use Rattle.std.proofs.Common.{◌≡◌, ℕ, nat_le, if◌then◌else◌, IsOk, List, [], ◌∷◌, ◌++◌, codes, length, Bool, true, false, Result, Ok, Err, refl, sym, subst}
+use Rattle.std.specs.Fmt.{decimal}
 use Rattle.std.specs.List.{AllByRecursion as Every}
 use Rattle.std.proofs.lemmas.Bool.{leb-true}
 use Rattle.kf_frac.specs.Fractions.{limit}
@@ -13,15 +14,25 @@ use Rattle.kf_core.specs.Programs.{ProgramTree}
 use Rattle.kf_core.specs.Runs.{Halted}
 use Rattle.kf_core.specs.Scale.{scale_of as run_scale}
 use Rattle.kf_core.specs.Support.{StoreSet, program_pass}
-use Rattle.kf_top.specs.Answer.{Refused, FewStatements, ManyStores, WideScale}
-use Rattle.kf_top.specs.Outcome.{Step, Each, Gives, Text, TextWith, TypedOf, TextOf, bad_run, narrow, cleared, few_stores, FullOf, FullTexts, long_enough, LongCleared, ReadyOf, ClearedOf}
-use Rattle.kf_words.specs.Task.{Command, Covers, Quiet, Task}
+use Rattle.kf_load.specs.Steps.{Refused, Step, Each, Gives, refusal}
+use Rattle.kf_load.specs.Texts.{File, Text, TextWith, TypedOf, TextOf, bad_run, narrow, cleared, long_enough, LongCleared}
+use Rattle.kf_top.specs.Outcome.{few_stores, FullOf, FullTexts, ReadyOf, ClearedOf}
+use Rattle.kf_words.specs.Task.{Command, Covers, Quiet}
 use Rattle.kf_laws.proofs.ProperHypers.{IsTypedProgram, IsClear}
 use Rattle.kf_laws.proofs.SizedTargets.{target_sized}
 
--- the programs of a task's files are clear
+-- the programs of files are clear, whatever the command
 abbrev pub AreClear : Type 0
-AreClear = (contents : List ℕ → List ℕ) (task : Task) (ps : List ProgramTree) → ClearedOf contents task (Ok ps) → Every (IsClear task.turns) ps
+AreClear = (command : Command) (turns : ℕ) (programs : List File) (ps : List ProgramTree) → ClearedOf command turns programs (Ok ps) → Every (IsClear turns) ps
+
+abbrev wide_scale : List ℕ → Refused
+wide_scale name = refusal 7 name (codes ": scale passes 2^127 - 1")
+
+abbrev many_stores : List ℕ → ℕ → Refused
+many_stores name count = refusal 8 name (codes ": " ++ (decimal count ++ codes " stores"))
+
+abbrev few_statements : List ℕ → ℕ → Refused
+few_statements name count = refusal 13 name (codes ": " ++ (decimal count ++ codes " statements"))
 
 -- what holds of each result of a step holds of all results of a step for each
 pub every_done : {A B : Type 0} (step : A → Step B) (P : A → Type 0) (Q : B → Type 0) → ((x : A) (y : B) → P x → step x (Ok y) → Q y)
@@ -56,12 +67,12 @@ module _ (turns : ℕ) (t : Text) (p : ProgramTree) where
 
   -- a cleared program is that of its text
   pub same_program : Ok p ≡ cleared turns t → p ≡ t.program
-  same_program is = (kept (nat_le (run_scale turns t.program) limit) t.program p (WideScale t.name) (has_passed is).1).0
+  same_program is = (kept (nat_le (run_scale turns t.program) limit) t.program p (wide_scale t.name) (has_passed is).1).0
 
   clear : IsTypedProgram t.program → Ok p ≡ cleared turns t → IsClear turns p
   clear typed is =
       let both = has_passed is in
-      let fits = kept (nat_le (run_scale turns t.program) limit) t.program p (WideScale t.name) both.1 in
+      let fits = kept (nat_le (run_scale turns t.program) limit) t.program p (wide_scale t.name) both.1 in
       subst (IsClear turns) (sym fits.0) (record { typed = typed; passes = both.0; narrow = leb-true (run_scale turns t.program) limit fits.1 })
 
 -- ---- texts
@@ -80,14 +91,14 @@ with_tree name bytes tree well t is =
 
 -- a text with few stores stays as it is
 pub few_same : (t u : Text) → Gives (few_stores t) (Ok u) → u ≡ t
-few_same t u is = (kept (nat_le (initial_stores t.program.types t.source) 4096) t u (ManyStores t.name (initial_stores t.program.types t.source)) is).0
+few_same t u is = (kept (nat_le (initial_stores t.program.types t.source) 4096) t u (many_stores t.name (initial_stores t.program.types t.source)) is).0
 
 pub few_typed : (t u : Text) → IsTyped t → Gives (few_stores t) (Ok u) → IsTyped u
 few_typed t u typed is = subst IsTyped (sym (few_same t u is)) typed
 
 -- so does a long program
 pub long_same : (name : List ℕ) (most : ℕ) (p q : ProgramTree) → Gives (long_enough name most p) (Ok q) → q ≡ p
-long_same name most p q is = (kept (nat_le most (length p.body)) p q (FewStatements name (length p.body)) is).0
+long_same name most p q is = (kept (nat_le most (length p.body)) p q (few_statements name (length p.body)) is).0
 
 -- the law of the grammar
 module _ (built : OnlyBuilt) where
@@ -95,9 +106,9 @@ module _ (built : OnlyBuilt) where
   unfolding TypedOf
   typed_text name bytes t is = with_tree name bytes is.2.0 (built bytes is.0 is.2.0 is.2.1.program) t is.2.2
 
-  pub texts_typed : (contents : List ℕ → List ℕ) (names : List (List ℕ)) (ts : List Text) → Each (TextOf contents) names (Ok ts) → Every IsTyped ts
-  texts_typed contents names ts is =
-      every_done (TextOf contents) (λ name. Unit {0}) IsTyped (λ name t any read. typed_text name read.0 t read.2) names ts (every_one names) is
+  pub texts_typed : (files : List File) (ts : List Text) → Each TextOf files (Ok ts) → Every IsTyped ts
+  texts_typed files ts is =
+      every_done TextOf (λ file. Unit {0}) IsTyped (λ file t any read. typed_text file.name read.0 t read.2) files ts (every_one files) is
 
 -- that of full sources
 module _ (full_built : FullIsBuilt) where
@@ -131,4 +142,4 @@ module _ (full_built : FullIsBuilt) where
     ready_clear command turns ts ps typed is = each_clear turns ts ps typed is
 
     pub are_clear : OnlyBuilt → AreClear
-    are_clear built contents task ps is = ready_clear task.command task.turns is.0 ps (texts_typed built contents task.files is.0 is.1) is.2
+    are_clear built command turns programs ps is = ready_clear command turns is.0 ps (texts_typed built programs is.0 is.1) is.2

@@ -1,7 +1,5 @@
--- What `covers` answers holds at every prior, and what `quiet` states is worth no more than what `hyper` states.
-use Rattle.std.proofs.Common.{◌≡◌, ℕ, ◌≤◌, ℤ, pos, ◌*ℤ◌, ◌≤ℤ◌, ◌<ℤ◌, Bool, true, false, if◌then◌else◌, List, [], ◌∷◌, length, replicate, Option, None, Some, Result, Ok, Err, refl, sym, ap, subst, ◌∙◌, arith}
-use Rattle.std.specs.List.{AllByRecursion as Every}
-use Rattle.kf_check.specs.Translation.{Typed}
+-- What `covers` answers holds at every prior, and what `quiet` shows is worth no more than what `hyper` shows.
+use Rattle.std.proofs.Common.{◌≡◌, ℕ, ◌≤◌, ℤ, pos, ◌*ℤ◌, ◌≤ℤ◌, ◌<ℤ◌, true, false, if◌then◌else◌, List, [], ◌∷◌, length, replicate, Result, Ok, refl, sym, ap, subst, ◌∙◌, arith}
 use Rattle.kf_core.specs.Joint.{Cell, joint_of}
 use Rattle.kf_value.specs.Targets.{Item}
 use Rattle.kf_core.specs.Programs.{ProgramTree}
@@ -17,19 +15,23 @@ use Rattle.kf_prior.specs.Laws.{CarriesForAllPriors, HasHyper, IsFull, Separates
 use Rattle.kf_prior.specs.Priors.{IsPosteriorAt, initial_count}
 use Rattle.kf_quiet.specs.Laws.{QuietLeaksNoMore}
 use Rattle.kf_quiet.specs.Quiet.{quiet_joint}
-use Rattle.kf_refine.specs.Refinements.{Fraction, HyperTree}
+use Rattle.kf_refine.specs.Refinements.{HyperTree}
 use Rattle.kf_refine.specs.Verdicts.{VerdictTree, Yes, No, IsVerdict, Proves}
 use Rattle.kf_text.specs.Texts.{hyper_text}
 use Rattle.kf_text.specs.VerdictTexts.{verdict_text}
-use Rattle.kf_top.specs.Answer.{Refused, Shown, Statement, States, HyperOf, VerdictOn, says_yes}
-use Rattle.kf_top.specs.Ends.{Answer, IsAnswer, Settled}
+use Rattle.kf_load.specs.Steps.{Each, Gives}
+use Rattle.kf_load.specs.Texts.{File, LongCleared, Text, cleared}
+use Rattle.kf_top.specs.Answer.{AreHypers, CommandOutcome, HyperOf, Shown, is_yes, most_pivots, prints}
+use Rattle.kf_top.specs.Ends.{Answer, showing}
+use Rattle.kf_top.specs.Outcome.{ClearedOf, FullOf, few_stores}
+use Rattle.kf_laws.specs.Held.{held}
 use Rattle.kf_laws.specs.Laws.{AreQuietAnswers, CoversAllPriors, IsCoversAnswer, NoIsSeparated, QuietIsNoBetter, asks_covers}
-use Rattle.kf_top.specs.Outcome.{AreHypers, ClearedOf, CommandOutcome, Each, FullOf, Gives, LongCleared, Outcome, SomeOutcome, Text, TextOf, cleared, few_stores, most_pivots}
-use Rattle.kf_words.specs.Task.{Command, Covers, Hyper, Quiet, Task, on_file, task_of}
+use Rattle.kf_laws.specs.Refusals.{RefusalsAreReasoned}
+use Rattle.kf_words.specs.Task.{Command, Covers, Hyper, Quiet, on_file}
 use Rattle.kf_laws.proofs.ClearedPrograms.{IsTyped, every_done, few_typed, long_same, same_program, texts_typed}
-use Rattle.kf_laws.proofs.OneAnswer.{HasOne, next_of}
-use Rattle.kf_laws.proofs.SomeAnswer.{verdict_of}
-use Rattle.kf_laws.proofs.WrittenCertificates.{one_target, stated}
+use Rattle.kf_laws.proofs.OneAnswer.{HasOne}
+use Rattle.kf_laws.proofs.ShownAnswers.{command_shown, task_shown, verdict_of}
+use Rattle.kf_laws.proofs.WrittenCertificates.{one_target}
 
 -- ---- the programs are full
 
@@ -46,9 +48,9 @@ full_of t u typed is =
     subst HasFull (sym same) full
 
 full_programs : OnlyBuilt → (contents : List ℕ → List ℕ) (first second : List ℕ) (turns : ℕ) (p q : ProgramTree)
-    → ClearedOf contents (asks_covers first second turns) (Ok (p ∷ q ∷ [])) → IsFull p × IsFull q
+    → ClearedOf Covers turns (held contents (first ∷ second ∷ [])) (Ok (p ∷ q ∷ [])) → IsFull p × IsFull q
 full_programs built contents first second turns p q is =
-    let texts = texts_typed built contents (first ∷ second ∷ []) is.0 is.1 in
+    let texts = texts_typed built (held contents (first ∷ second ∷ [])) is.0 is.1 in
     let ready = is.2 in
     let few = every_done (λ t. Gives (few_stores t)) IsTyped IsTyped few_typed is.0 ready.1.0 texts ready.1.1 in
     let fulls = every_done FullOf IsTyped HasFull full_of ready.1.0 ready.0 few ready.1.2 in
@@ -67,43 +69,28 @@ record IsSaid (turns : ℕ) (p q : ProgramTree) (answer : Answer) : Type 0 where
   verdict : IsVerdict a b most_pivots (Ok v)
   proves : Proves a b v
   bytes : answer.out ≡ verdict_text a.target v
-  status : answer.status ≡ (if says_yes (VerdictOn false a b v) then 0 else 1)
+  status : answer.status ≡ (if is_yes v then 0 else 1)
 
-status_as : (b c : Bool) (n : ℕ) → n ≡ (if b then 0 else 1) → b ≡ c → n ≡ (if c then 0 else 1)
-status_as b c n is same = is ∙ ap (λ (d : Bool). if d then 0 else 1) same
-
--- a task and its programs, told by an answer that states something
-module _ (one_cleared : (contents : List ℕ → List ℕ) (task : Task) → HasOne (ClearedOf contents task)) (contents : List ℕ → List ℕ) where
-  command_stated : (words : List (List ℕ)) (task : Task) (answer : Answer) (ps : List ProgramTree) → task_of words ≡ Some task → IsAnswer words contents answer
-      → answer.status ≤ 1 → ClearedOf contents task (Ok ps)
-      → (statement : Statement) × Settled (Ok statement) answer × CommandOutcome contents task.command task.turns ps (Ok statement)
-  command_stated words task answer ps asks is_answer few are =
-      let w = stated is_answer.result answer is_answer.settled few in
-      let settled = subst (λ (r : Result Statement Refused). Settled r answer) w.1 is_answer.settled in
-      let outcome = subst (λ (t : Option Task). SomeOutcome contents t (Ok w.0)) asks (subst (λ (r : Result Statement Refused). Outcome words contents r) w.1 is_answer.outcome) in
-      (w.0, settled, next_of (ClearedOf contents task) (CommandOutcome contents task.command task.turns) (one_cleared contents task) ps are (Ok w.0) outcome)
-
+module _ (one_cleared : (command : Command) (turns : ℕ) (programs : List File) → HasOne (ClearedOf command turns programs)) (reasoned : RefusalsAreReasoned) (contents : List ℕ → List ℕ) where
   is_said : (first second : List ℕ) (turns : ℕ) (answer : Answer) (p q : ProgramTree) → IsCoversAnswer contents first second turns answer p q → answer.status ≤ 1
       → IsSaid turns p q answer
   is_said first second turns answer p q asked few =
-      let w = command_stated asked.words (asks_covers first second turns) answer (p ∷ q ∷ []) asked.asks asked.is_answer few asked.are_cleared in
+      let w = command_shown reasoned contents one_cleared asked.words (asks_covers first second turns) answer (p ∷ q ∷ []) asked.asks asked.is_answer few asked.are_cleared in
       let refined = w.2 in
       let a = refined.0 in
       let b = refined.1 in
       let v = verdict_of false a b refined.3.0 w.0 refined.3.2 in
-      let shown : Shown = w.1.0 in
-      let states = subst (λ (s : Statement). States shown s) v.2 w.1.1 in
-      let status : answer.status ≡ (if shown.yes then 0 else 1) = ap (λ (x : Answer). x.status) w.1.2 in
-      let out : answer.out ≡ shown.bytes = ap (λ (x : Answer). x.out) w.1.2 in
+      let status : answer.status ≡ (if w.0.yes then 0 else 1) = ap (λ (x : Answer). x.status) w.1 in
+      let out : answer.out ≡ w.0.bytes = ap (λ (x : Answer). x.out) w.1 in
       record {
         a = a;
         b = b;
         v = v.0;
         hypers = refined.2;
         verdict = subst (λ (x : Result VerdictTree _). IsVerdict a b most_pivots x) v.1 refined.3.1;
-        proves = states.text.0;
-        bytes = out ∙ states.text.1;
-        status = status_as shown.yes (says_yes (VerdictOn false a b v.0)) answer.status status states.yes;
+        proves = v.2;
+        bytes = out ∙ ap (λ (s : Shown). s.bytes) v.3;
+        status = status ∙ ap (λ (s : Shown). if s.yes then 0 else 1) v.3;
       }
 
 has_hyper : (turns : ℕ) (p q : ProgramTree) (a b : HyperTree) → AreHypers turns p q a b → IsFull p → IsFull q → HasHyper turns p a × HasHyper turns q b
@@ -116,7 +103,7 @@ has_hyper turns p q a b are full full' = (
 
 module _ (carries : CarriesForAllPriors) (turns : ℕ) (p q : ProgramTree) (a b : HyperTree) (are : AreHypers turns p q a b) (full : IsFull p) (full' : IsFull q)
     (same : a.target ≡ b.target) where
-  yes_carries : (v : VerdictTree) (n : ℕ) → Proves a b v → n ≡ (if says_yes (VerdictOn false a b v) then 0 else 1) → n ≡ 0
+  yes_carries : (v : VerdictTree) (n : ℕ) → Proves a b v → n ≡ (if is_yes v then 0 else 1) → n ≡ 0
       → (prior : List ℕ) (t : TableTree) (y z : ℤ) → length prior ≡ initial_count p → IsPosteriorAt turns p prior (Table t) y → IsPosteriorAt turns q prior (Table t) z
       → (z *ℤ pos (scale_of turns p)) ≤ℤ (y *ℤ pos (scale_of turns q))
   yes_carries (Yes rows) n proves is none prior t y z long first second =
@@ -127,7 +114,7 @@ module _ (carries : CarriesForAllPriors) (turns : ℕ) (p q : ProgramTree) (a b 
 
 module _ (separates : SeparatesAtUniform) (turns : ℕ) (p q : ProgramTree) (a b : HyperTree) (are : AreHypers turns p q a b) (full : IsFull p) (full' : IsFull q)
     (same : a.target ≡ b.target) (out : List ℕ) where
-  no_separates : (v : VerdictTree) (n : ℕ) → Proves a b v → out ≡ verdict_text a.target v → n ≡ (if says_yes (VerdictOn false a b v) then 0 else 1) → n ≡ 1
+  no_separates : (v : VerdictTree) (n : ℕ) → Proves a b v → out ≡ verdict_text a.target v → n ≡ (if is_yes v then 0 else 1) → n ≡ 1
       → (t : TableTree) × (out ≡ verdict_text p.target (No t))
       × ((y z : ℤ) → IsPosteriorAt turns p (replicate (initial_count p) 1) (Table t) y → IsPosteriorAt turns q (replicate (initial_count p) 1) (Table t) z
       → (y *ℤ pos (scale_of turns q)) <ℤ (z *ℤ pos (scale_of turns p)))
@@ -143,17 +130,17 @@ module _ (separates : SeparatesAtUniform) (turns : ℕ) (p q : ProgramTree) (a b
 
 -- ---- the laws
 
-module _ (one_cleared : (contents : List ℕ → List ℕ) (task : Task) → HasOne (ClearedOf contents task)) (built : OnlyBuilt) where
+module _ (one_cleared : (command : Command) (turns : ℕ) (programs : List File) → HasOne (ClearedOf command turns programs)) (reasoned : RefusalsAreReasoned) (built : OnlyBuilt) where
   pub covers_all : CarriesForAllPriors → CoversAllPriors
   covers_all carries contents first second turns answer p q asked none prior t y z long one other =
-      let said = is_said one_cleared contents first second turns answer p q asked (omega (arith, none)) in
+      let said = is_said one_cleared reasoned contents first second turns answer p q asked (omega (arith, none)) in
       let full = full_programs built contents first second turns p q asked.are_cleared in
       yes_carries carries turns p q said.a said.b said.hypers full.0 full.1 (one_target said.a said.b said.v said.verdict) said.v answer.status said.proves said.status none
       prior t y z long one other
 
   pub no_is_separated : SeparatesAtUniform → NoIsSeparated
   no_is_separated separates contents first second turns answer p q asked one =
-      let said = is_said one_cleared contents first second turns answer p q asked (omega (arith, one)) in
+      let said = is_said one_cleared reasoned contents first second turns answer p q asked (omega (arith, one)) in
       let full = full_programs built contents first second turns p q asked.are_cleared in
       no_separates separates turns p q said.a said.b said.hypers full.0 full.1 (one_target said.a said.b said.v said.verdict) answer.out said.v answer.status said.proves
       said.bytes said.status one
@@ -168,17 +155,17 @@ each_gives : (turns most : ℕ) (ts : List Text) (ps : List ProgramTree) → Eac
 each_gives turns most [] ps is = is
 each_gives turns most (t ∷ ts) ps is = (is.0, long_gives turns most t is.0 is.1, (is.2.0, each_gives turns most ts is.2.0 is.2.1, is.2.2))
 
--- what the bytes of a stated hyper are
-hyper_told : (answer : Answer) (statement : Statement) (target : List Item) (scale : ℕ) (joint : List Cell) → Settled (Ok statement) answer
-    → Gives {A = Statement} (Ok (HyperOf target scale joint)) (Ok statement) → (inners : List Inner) × IsHyperOf joint inners × (answer.out ≡ hyper_text target scale inners)
-hyper_told answer statement target scale joint settled is =
-    let same : statement ≡ HyperOf target scale joint = cc in
-    let states = subst (λ (s : Statement). States settled.0 s) same settled.1 in
-    (states.text.0, states.text.1, ap (λ (x : Answer). x.out) settled.2 ∙ states.text.2)
+-- what the bytes of a hyper that is shown are
+hyper_told : (answer : Answer) (shown : Shown) (target : List Item) (scale : ℕ) (joint : List Cell) → answer ≡ showing shown → HyperOf target scale joint (Ok shown)
+    → (inners : List Inner) × IsHyperOf joint inners × (answer.out ≡ hyper_text target scale inners)
+hyper_told answer shown target scale joint shows is =
+    let given : Ok shown ≡ prints (hyper_text target scale is.0) = is.2 in
+    let same : shown ≡ record { yes = true; bytes = hyper_text target scale is.0 } = cc in
+    (is.0, is.1, ap (λ (x : Answer). x.out) shows ∙ ap (λ (s : Shown). s.bytes) same)
 
-module _ (no_more : QuietLeaksNoMore) (contents : List ℕ → List ℕ) (from to turns : ℕ) (hyper quiet : Answer) (order : from ≤ to) where
-  by_programs : (ps : List ProgramTree) (st su : Statement) → Settled (Ok st) hyper → Settled (Ok su) quiet → CommandOutcome contents Hyper turns ps (Ok st)
-      → CommandOutcome contents (Quiet from to) turns ps (Ok su)
+module _ (no_more : QuietLeaksNoMore) (from to turns : ℕ) (hyper quiet : Answer) (order : from ≤ to) (tables others : List File) where
+  by_programs : (ps : List ProgramTree) (st su : Shown) → hyper ≡ showing st → quiet ≡ showing su → CommandOutcome Hyper turns tables ps (Ok st)
+      → CommandOutcome (Quiet from to) turns others ps (Ok su)
       → (p : ProgramTree) × (all hushed : List Inner) × AreQuietAnswers from to turns hyper quiet p all hushed
       × ((g : GainOf TableTree) (y z : ℤ) → IsPosterior g hushed y → IsPosterior g all z → NoBetter g y z)
   by_programs [] st su is_hyper is_quiet told told_too = absurd (cc)
@@ -193,12 +180,11 @@ module _ (no_more : QuietLeaksNoMore) (contents : List ℕ → List ℕ) (from t
       )
   by_programs (p ∷ q ∷ ps) st su is_hyper is_quiet told told_too = absurd (cc)
 
-pub quiet_no_better : ((contents : List ℕ → List ℕ) (task : Task) → HasOne (ClearedOf contents task)) → QuietLeaksNoMore → QuietIsNoBetter
-quiet_no_better one_cleared no_more words others contents name from to turns hyper quiet asks is_hyper none asks' is_quiet none' order =
-    let w = stated is_quiet.result quiet is_quiet.settled (omega (arith, none')) in
-    let settled = subst (λ (r : Result Statement Refused). Settled r quiet) w.1 is_quiet.settled in
-    let outcome = subst (λ (t : Option Task). SomeOutcome contents t (Ok w.0)) asks' (subst (λ (r : Result Statement Refused). Outcome others contents r) w.1 is_quiet.outcome) in
+pub quiet_no_better : ((command : Command) (turns : ℕ) (programs : List File) → HasOne (ClearedOf command turns programs)) → RefusalsAreReasoned → QuietLeaksNoMore → QuietIsNoBetter
+quiet_no_better one_cleared reasoned no_more words others contents name from to turns hyper quiet asks is_hyper none asks' is_quiet none' order =
+    let w = task_shown reasoned contents others (on_file (Quiet from to) name turns) quiet asks' is_quiet (omega (arith, none')) in
+    let outcome = w.2 in
     let are = outcome.1 in
-    let cleared_too : ClearedOf contents (on_file Hyper name turns) (Ok outcome.0) = (are.0, are.1, each_gives turns to are.0 outcome.0 are.2) in
-    let h = command_stated one_cleared contents words (on_file Hyper name turns) hyper outcome.0 asks is_hyper (omega (arith, none)) cleared_too in
-    by_programs no_more contents from to turns hyper quiet order outcome.0 h.0 w.0 h.1 settled h.2 outcome.2
+    let cleared_too : ClearedOf Hyper turns (held contents (name ∷ [])) (Ok outcome.0) = (are.0, are.1, each_gives turns to are.0 outcome.0 are.2) in
+    let h = command_shown reasoned contents one_cleared words (on_file Hyper name turns) hyper outcome.0 asks is_hyper (omega (arith, none)) cleared_too in
+    by_programs no_more from to turns hyper quiet order [] [] outcome.0 h.0 w.0 h.1 w.1 h.2 outcome.2

@@ -1,9 +1,14 @@
 mod Accepted
 mod ClearedPrograms
 mod CoveringAll
+mod HeldFiles
 mod OneAnswer
 mod OneComposed
 mod ProperHypers
+mod RunRefusals
+mod ShownAnswers
 mod SizedTargets
 mod SomeAnswer
+mod TaskFiles
+mod TaskRefusals
 mod WrittenCertificates

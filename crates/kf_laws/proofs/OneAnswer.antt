@@ -1,5 +1,5 @@
 -- Words and files have at most one defined answer.
-use Rattle.std.proofs.Common.{◌≡◌, ◌≢◌, ℕ, ◌<◌, ◌≤◌, Bool, false, ◌*◌, refl, arith, nat_le, if◌then◌else◌, List, [], ◌∷◌, length, None, Some, Option, Result, Ok, Err, sym, ◌∙◌, ap, subst, ⊎_elim}
+use Rattle.std.proofs.Common.{◌≡◌, ◌≢◌, ℕ, ◌<◌, ◌*◌, Bool, false, refl, arith, nat_le, if◌then◌else◌, List, [], ◌∷◌, length, codes, None, Some, Option, Result, Ok, Err, sym, ◌∙◌, ap, subst, ⊎_elim}
 use Rattle.std.specs.declared.cmp.Ordering.TheVariants.{Less}
 use Rattle.std.specs.List.{AllByRecursion as Every}
 use Rattle.std.specs.Ordering.{nat_cmp, ordering_reverse}
@@ -8,6 +8,8 @@ use Rattle.std.proofs.lemmas.Map.Keys.{sorted_from_strictly_increasing}
 use Rattle.kf_lex.specs.declared.token.Token.{Token}
 use Rattle.kf_lex.specs.Readings.{IsFault}
 use Rattle.kf_lex.specs.Laws.{IsOneReading}
+use Rattle.kf_parse.specs.declared.errors.ParseError.{ParseError}
+use Rattle.kf_parse.specs.declared.errors.ParseError.TheVariants as parsing
 use Rattle.kf_parse.specs.Answers.{IsRefused}
 use Rattle.kf_parse.specs.Laws.{OneProgram, NotBoth, OneRefusal}
 use Rattle.kf_ast.specs.Sources.{SourceTree}
@@ -19,11 +21,12 @@ use Rattle.kf_core.specs.Programs.{ProgramTree}
 use Rattle.kf_core.proofs.OneTable.{one_list}
 use Rattle.kf_hyper.specs.Traces.{Row}
 use Rattle.kf_channel.specs.Channels.{AreSecrets}
-use Rattle.kf_capacity.specs.Grids.{ChannelTree, GridTree, channel_grid}
+use Rattle.kf_capacity.specs.Grids.{ChannelTree, channel_grid}
 use Rattle.kf_text.specs.Texts.{hyper_text, trace_text, channel_text, trail_text, make_text}
 use Rattle.kf_text.specs.ReportTexts.{report_text}
 use Rattle.kf_text.specs.AttackTexts.{attack_text, reach_text}
 use Rattle.kf_text.specs.BlameTexts.{blame_text}
+use Rattle.kf_text.specs.CapacityTexts.{capacity_text}
 use Rattle.kf_frac.specs.Fractions.{limit}
 use Rattle.kf_value.specs.Targets.{Item}
 use Rattle.kf_hyper.specs.declared.entry.Entry.{Entry}
@@ -36,27 +39,32 @@ use Rattle.kf_gain.specs.Laws.{OneAverage, OneReport}
 use Rattle.kf_gain.specs.TableLaws.{OneTable}
 use Rattle.kf_gain.specs.Vulnerabilities.{IsWidth, width}
 use Rattle.kf_report.specs.Reports.{Leakage, IsLeakage}
-use Rattle.kf_attack.specs.Attacks.{AreAttacks, IsReach}
+use Rattle.kf_attack.specs.Attacks.{ReachTree, AreAttacks, IsReach}
 use Rattle.kf_attack.specs.Laws.{OneAttacks, OneReach}
 use Rattle.kf_make.specs.Making.{make_source}
 use Rattle.kf_refine.specs.Refinements.{HyperTree}
-use Rattle.kf_refine.specs.Verdicts.{IsVerdict}
+use Rattle.kf_refine.specs.Verdicts.{VerdictTree}
+use Rattle.kf_refine.specs.declared.verdict.RefineError.{RefineError}
 use Rattle.kf_refine.specs.Laws.{OneVerdict}
+use Rattle.kf_refine.specs.Views.{IsProper}
 use Rattle.kf_cert.specs.Certificates.{CertTree, cert_of}
 use Rattle.kf_cert.specs.Laws.{OneMark}
+use Rattle.kf_load.specs.Steps.{Refused, Step, After, Each, Gives, refusal}
+use Rattle.kf_load.specs.Texts.{File, Fault, Text, bad_text, token_fault, syntax_fault, type_fault, IsBad, TokensOf, SourceOf, ProgramOf, TextWith, TypedOf, TextOf, cleared, long_enough, LongCleared, source_of}
 use Rattle.kf_prior.specs.FullSources.{full_source}
+use Rattle.kf_quiet.specs.Blames.{BlameTree}
 use Rattle.kf_quiet.specs.Laws.{OnlyOneBlames}
 use Rattle.kf_quiet.specs.Quiet.{quiet_joint}
 use Rattle.kf_run.specs.Laws.{OnlyOneTrail}
+use Rattle.kf_words.specs.Jobs.{IsInRange}
+use Rattle.kf_words.specs.Laws.{TasksInRange}
 use Rattle.kf_words.specs.Task.{Command, Composition, Hyper, Traces, Channel, Trail, Capacity, Compose, Leak, Attack, Reach, Make, Refine, Check, Covers, Quiet, Blame, Task, task_of}
-use Rattle.kf_top.specs.Answer.{Shown, Statement, HyperOf, TracesOf, ChannelOf, ReportOf, AttackOf, ReachOf, TrailOf, MadeOf, VerdictOn, MarkOf, CapacityOf, AlgebraOf, BlameOf, IsText, States, Refused, Usage, BadTable, WideGain, OtherTarget, WideChannel}
-use Rattle.kf_top.specs.Outcome.{Step, After, Gives, Each, Fault, Text, bad_text, token_fault, syntax_fault, type_fault, IsBad, TokensOf, SourceOf, ProgramOf, TextWith, TypedOf, TextOf, cleared, few_stores, FullOf, FullTexts, long_enough, LongCleared, ReadyOf, ClearedOf, table_word, TableOf, TableIn, GainIn, HasWidth, ReportIn, AttackIn, channel_statement, IsChannelTree, initial, is_narrow, CapacityIn, Composed, algebra_stated, ComposedIn, IsHyperTree, AreHypers, most_pivots, verdict_stated, RefineOutcome, cert_read, CertIn, mark_stated, MarkIn, CheckOutcome, MadeOutcome, CommandOutcome, TaskOutcome, SomeOutcome, Outcome, source_of}
-use Rattle.kf_top.specs.Ends.{Answer, Settled, IsAnswer, showing}
+use Rattle.kf_top.specs.Answer.{Shown, usage, prints, other_target, wide_channel, HyperOf, TracesOf, TrailOf, MadeOf, MadeOutcome, BlameOf, initial, ChannelOf, IsChannelTree, is_narrow, CapacityIn, Composed, algebra_shown, ComposedIn, table_word, bad_file, TableOf, TableIn, GainIn, HasWidth, NarrowGain, ReportOf, ReportIn, AttackOf, AttackIn, ReachOf, IsHyperTree, AreHypers, most_pivots, VerdictShown, VerdictOn, RefineOutcome, cert_read, CertIn, mark_shown, MarkIn, MarkOn, CommandOutcome}
+use Rattle.kf_top.specs.Outcome.{few_stores, FullOf, FullTexts, ReadyOf, ClearedOf, TaskOutcome, SomeOutcome}
+use Rattle.kf_top.specs.Ends.{Answer, IsAnswer, settled}
 use Rattle.kf_laws.proofs.ClearedPrograms.{AreClear}
-use Rattle.kf_laws.proofs.ProperHypers.{AreProper, IsClear}
-use Rattle.kf_laws.proofs.SomeAnswer.{HasText}
-use Rattle.kf_top.proofs.Steps.{some_syntax}
 use Rattle.kf_laws.proofs.OneComposed.{one_composed}
+use Rattle.kf_laws.proofs.ProperHypers.{AreProper, IsClear, IsShaped, shaped}
 
 -- ---- secrets
 
@@ -68,60 +76,7 @@ one_secrets rows xs ys p q =
     one_list nat_cmp not_both_numbers xs ys (sorted_from_strictly_increasing xs p.ascending) (sorted_from_strictly_increasing ys q.ascending)
     (λ x. (λ h. (q.listed x).1 ((p.listed x).0 h), λ h. (p.listed x).1 ((q.listed x).0 h)))
 
--- ---- statements
-
-same_shown : (a b : Shown) → a.bytes ≡ b.bytes → a.yes ≡ b.yes → a ≡ b
-same_shown a b bytes yes' = λ i. record { yes = yes' i; bytes = bytes i }
-
--- inners have one leakage
-one_leakage : OneReport → (g : GainOf TableTree) (scale : ℕ) (inners : List Inner) (l m : Leakage) → IsLeakage g scale inners l → IsLeakage g scale inners m → l ≡ m
-one_leakage one g scale inners l m p q =
-    let prior : l.prior ≡ m.prior = (one g inners l.prior m.prior).0 p.prior q.prior in
-    let posterior : l.posterior ≡ m.posterior = (one g inners l.posterior m.posterior).1 p.posterior q.posterior in
-    let whole : l.whole ≡ m.whole = p.whole ∙ sym q.whole in
-    λ i. record { prior = prior i; posterior = posterior i; whole = whole i }
-
-module _ (rows_are_one : RowsAreOne) (hypers_are_one : HypersAreOne) (reports_are_one : OneReport) (trails_are_one : OnlyOneTrail)
-    (attacks_are_one : OneAttacks) (reaches_are_one : OneReach) (blames_are_one : OnlyOneBlames) where
-  one_text : (statement : Statement) → HasText statement → (xs ys : List ℕ) → IsText statement xs → IsText statement ys → xs ≡ ys
-  one_text (HyperOf target scale joint) has xs ys p q = p.2 ∙ ap (hyper_text target scale) (hypers_are_one joint p.0 q.0 p.1 q.1) ∙ sym q.2
-  one_text (TracesOf target scale joint) has xs ys p q = p.2 ∙ ap (trace_text target scale) (rows_are_one joint p.0 q.0 p.1 q.1) ∙ sym q.2
-  one_text (ChannelOf target joint) has xs ys p q =
-      let rows : p.0 ≡ q.0 = rows_are_one joint p.0 q.0 p.1 q.1 in
-      let secrets : p.2.0 ≡ q.2.0 = one_secrets q.0 p.2.0 q.2.0 (subst (λ (rs : List Row). AreSecrets rs p.2.0) rows p.2.1) q.2.1 in
-      p.2.2 ∙ (λ i. channel_text target (rows i) (secrets i)) ∙ sym q.2.2
-  one_text (ReportOf g scale joint) has xs ys p q =
-      let inners : p.0 ≡ q.0 = hypers_are_one joint p.0 q.0 p.1 q.1 in
-      let leakage : p.2.0 ≡ q.2.0 = one_leakage reports_are_one g scale q.0 p.2.0 q.2.0 (subst (λ (is : List Inner). IsLeakage g scale is p.2.0) inners p.2.1) q.2.1 in
-      p.2.2 ∙ ap (report_text g) leakage ∙ sym q.2.2
-  one_text (AttackOf g target scale joint) has xs ys p q =
-      let inners : p.0 ≡ q.0 = hypers_are_one joint p.0 q.0 p.1 q.1 in
-      let are : AreAttacks g q.0 p.2.0 = subst (λ (is : List Inner). AreAttacks g is p.2.0) inners p.2.1 in
-      let attacks : p.2.0 ≡ q.2.0 = attacks_are_one has.1.0 scale g q.0 p.2.0 q.2.0 (has.1.1 q.0 q.1) are q.2.1 in
-      p.2.2 ∙ (λ i. attack_text g target scale (inners i) (attacks i)) ∙ sym q.2.2
-  one_text (ReachOf num den scale joint) has xs ys p q =
-      let inners : p.0 ≡ q.0 = hypers_are_one joint p.0 q.0 p.1 q.1 in
-      let is : IsReach scale q.0 num den p.2.0 = subst (λ (is : List Inner). IsReach scale is num den p.2.0) inners p.2.1 in
-      let some : 0 < den = omega (arith, has.0, has.1) in
-      let reach : p.2.0 ≡ q.2.0 = reaches_are_one scale num den q.0 p.2.0 q.2.0 some is q.2.1 in
-      p.2.2 ∙ ap (reach_text scale) reach ∙ sym q.2.2
-  one_text (MadeOf count scale joint) has xs ys p q = p.2 ∙ ap (make_text count scale) (hypers_are_one joint p.0 q.0 p.1 q.1) ∙ sym q.2
-  one_text (TrailOf turns p) has xs ys a b = a.2 ∙ ap trail_text (trails_are_one turns p a.0 b.0 a.1 b.1) ∙ sym b.2
-  one_text (BlameOf turns p) has xs ys a b = a.2 ∙ ap (blame_text (run_scale turns p)) (blames_are_one turns p a.0 b.0 a.1 b.1) ∙ sym b.2
-  one_text (VerdictOn json a b v) has xs ys p q = p.1 ∙ sym q.1
-  one_text (MarkOf mark) has xs ys p q = p ∙ sym q
-  one_text (CapacityOf g) has xs ys p q = p ∙ sym q
-  one_text (AlgebraOf first second both) has xs ys p q = p ∙ sym q
-
-  one_shown : (statement : Statement) → HasText statement → (a b : Shown) → States a statement → States b statement → a ≡ b
-  one_shown statement has a b p q = same_shown a b (one_text statement has a.bytes b.bytes p.text q.text) (p.yes ∙ sym q.yes)
-
-  one_settled : (r : Result Statement Refused) → ((statement : Statement) → r ≡ Ok statement → HasText statement) → (a b : Answer) → Settled r a
-      → Settled r b → a ≡ b
-  one_settled (Ok statement) has a b p q = p.2 ∙ ap showing (one_shown statement (has statement refl) p.0 q.0 p.1 q.1) ∙ sym q.2
-  one_settled (Err r) has a b p q = p ∙ sym q
-
--- ---- outcomes
+-- ---- steps
 
 abbrev pub HasOne : {A : Type 0} → Step A → Type 0
 HasOne {A} step = (r s : Result A Refused) → step r → step s → r ≡ s
@@ -181,6 +136,65 @@ one_bad IsError fault_of name bytes one r s p q =
     let f : p.fault ≡ q.fault = cc in
     p.is ∙ ap (bad_text name bytes) f ∙ sym q.is
 
+-- ---- what is shown
+
+-- inners have one leakage
+one_leakage : OneReport → (g : GainOf TableTree) (scale : ℕ) (inners : List Inner) (l m : Leakage) → IsLeakage g scale inners l → IsLeakage g scale inners m → l ≡ m
+one_leakage one g scale inners l m p q =
+    let prior : l.prior ≡ m.prior = (one g inners l.prior m.prior).0 p.prior q.prior in
+    let posterior : l.posterior ≡ m.posterior = (one g inners l.posterior m.posterior).1 p.posterior q.posterior in
+    let whole : l.whole ≡ m.whole = p.whole ∙ sym q.whole in
+    λ i. record { prior = prior i; posterior = posterior i; whole = whole i }
+
+-- the laws of hypers
+module _ (hypers_are_one : HypersAreOne) where
+  one_hyper : (target : List Item) (scale : ℕ) (joint : List Cell) → HasOne (HyperOf target scale joint)
+  one_hyper target scale joint r s p q =
+      p.2 ∙ ap (λ (is : List Inner). prints (hyper_text target scale is)) (hypers_are_one joint p.0 q.0 p.1 q.1) ∙ sym q.2
+
+  one_made_hyper : (count scale : ℕ) (joint : List Cell) → HasOne (MadeOf count scale joint)
+  one_made_hyper count scale joint r s p q =
+      p.2 ∙ ap (λ (is : List Inner). prints (make_text count scale is)) (hypers_are_one joint p.0 q.0 p.1 q.1) ∙ sym q.2
+
+  one_report : OneReport → (scale : ℕ) (joint : List Cell) (g : GainOf TableTree) → HasOne (ReportOf scale joint g)
+  one_report reports_are_one scale joint g r s p q =
+      let inners : p.0 ≡ q.0 = hypers_are_one joint p.0 q.0 p.1 q.1 in
+      let leakage : p.2.0 ≡ q.2.0 = one_leakage reports_are_one g scale q.0 p.2.0 q.2.0 (subst (λ (is : List Inner). IsLeakage g scale is p.2.0) inners p.2.1) q.2.1 in
+      p.2.2 ∙ ap (λ (l : Leakage). prints (report_text g l)) leakage ∙ sym q.2.2
+
+  one_attack : OneAttacks → (target : List Item) (scale : ℕ) (joint : List Cell) (g : GainOf TableTree) → IsShaped scale joint → HasOne (AttackOf target scale joint g)
+  one_attack attacks_are_one target scale joint g has r s p q =
+      let inners : p.0 ≡ q.0 = hypers_are_one joint p.0 q.0 p.1 q.1 in
+      let are : AreAttacks g q.0 p.2.0 = subst (λ (is : List Inner). AreAttacks g is p.2.0) inners p.2.1 in
+      let attacks : p.2.0 ≡ q.2.0 = attacks_are_one has.0 scale g q.0 p.2.0 q.2.0 (has.1 q.0 q.1) are q.2.1 in
+      p.2.2 ∙ (λ i. prints (attack_text g target scale (inners i) (attacks i))) ∙ sym q.2.2
+
+  one_reach : OneReach → (num den scale : ℕ) (joint : List Cell) → 0 < den → HasOne (ReachOf num den scale joint)
+  one_reach reaches_are_one num den scale joint some r s p q =
+      let inners : p.0 ≡ q.0 = hypers_are_one joint p.0 q.0 p.1 q.1 in
+      let is : IsReach scale q.0 num den p.2.0 = subst (λ (is : List Inner). IsReach scale is num den p.2.0) inners p.2.1 in
+      let reach : p.2.0 ≡ q.2.0 = reaches_are_one scale num den q.0 p.2.0 q.2.0 some is q.2.1 in
+      p.2.2 ∙ ap (λ (t : ReachTree). prints (reach_text scale t)) reach ∙ sym q.2.2
+
+-- the laws of rows
+module _ (rows_are_one : RowsAreOne) where
+  one_traces : (target : List Item) (scale : ℕ) (joint : List Cell) → HasOne (TracesOf target scale joint)
+  one_traces target scale joint r s p q =
+      p.2 ∙ ap (λ (rows : List Row). prints (trace_text target scale rows)) (rows_are_one joint p.0 q.0 p.1 q.1) ∙ sym q.2
+
+  one_channel_shown : (target : List Item) (joint : List Cell) → HasOne (ChannelOf target joint)
+  one_channel_shown target joint r s p q =
+      let rows : p.0 ≡ q.0 = rows_are_one joint p.0 q.0 p.1 q.1 in
+      let secrets : p.2.0 ≡ q.2.0 = one_secrets q.0 p.2.0 q.2.0 (subst (λ (rs : List Row). AreSecrets rs p.2.0) rows p.2.1) q.2.1 in
+      p.2.2 ∙ (λ i. prints (channel_text target (rows i) (secrets i))) ∙ sym q.2.2
+
+one_trail : OnlyOneTrail → (turns : ℕ) (p : ProgramTree) → HasOne (TrailOf turns p)
+one_trail trails_are_one turns p r s a b = a.2 ∙ ap (λ (counts : List ℕ). prints (trail_text counts)) (trails_are_one turns p a.0 b.0 a.1 b.1) ∙ sym b.2
+
+one_blame : OnlyOneBlames → (turns : ℕ) (p : ProgramTree) → HasOne (BlameOf turns p)
+one_blame blames_are_one turns p r s a b =
+    a.2 ∙ ap (λ (blames : List BlameTree). prints (blame_text (run_scale turns p) blames)) (blames_are_one turns p a.0 b.0 a.1 b.1) ∙ sym b.2
+
 -- ---- gains
 
 -- the law of gain tables
@@ -192,16 +206,19 @@ module _ (tables_are_one : OneTable) where
   one_table target name bytes (Err r) (Err s) p q =
       let same : Err p.0 ≡ Err q.0 = tables_are_one target bytes (Err p.0) (Err q.0) p.1 q.1 in
       let e : p.0 ≡ q.0 = cc in
-      ap Err (p.2 ∙ ap (λ (f : TableError). BadTable name (table_word f)) e ∙ sym q.2)
+      ap Err (p.2 ∙ ap (λ (f : TableError). bad_file name (table_word f)) e ∙ sym q.2)
 
-  one_gain : (contents : List ℕ → List ℕ) (target : List Item) (g : GainOf (List ℕ)) → HasOne (GainIn contents target g)
-  one_gain contents target Bayes = one_given (Ok Bayes)
-  one_gain contents target (Tries k) = one_given (Ok (Tries k))
-  one_gain contents target Guessing = one_given (Ok Guessing)
-  one_gain contents target (Table name) =
-      one_after (TableIn contents target name) (λ t. Gives (Ok (Table t)))
-      (one_after (Gives (source_of contents name)) (TableOf target name) (one_given (source_of contents name)) (λ bytes _. one_table target name bytes))
-      (λ t _. one_given (Ok (Table t)))
+  one_table_in : (target : List Item) (file : File) → HasOne (TableIn target file)
+  one_table_in target file =
+      one_after (Gives (source_of file)) (TableOf target file.name) (one_given (source_of file)) (λ bytes _. one_table target file.name bytes)
+
+  one_gain : (target : List Item) (g : GainOf (List ℕ)) (tables : List File) → HasOne (GainIn target g tables)
+  one_gain target Bayes tables = one_given (Ok Bayes)
+  one_gain target (Tries k) tables = one_given (Ok (Tries k))
+  one_gain target Guessing tables = one_given (Ok Guessing)
+  one_gain target (Table name) (file ∷ []) =
+      one_after (TableIn target file) (λ t. Gives (Ok (Table t))) (one_table_in target file) (λ t _. one_given (Ok (Table t)))
+  one_gain target (Table name) tables = one_given (Err usage)
 
 -- the laws of hypers and of their sums
 module _ (hypers_are_one : HypersAreOne) (averages_are_one : OneAverage) where
@@ -212,12 +229,20 @@ module _ (hypers_are_one : HypersAreOne) (averages_are_one : OneAverage) where
       let average : same.average ≡ q.is_width.average = averages_are_one q.inners same.average q.is_width.average same.is_average q.is_width.is_average in
       same.is ∙ ap (λ (column : List Entry). width g (length column)) average ∙ sym q.is_width.is
 
-  -- what is stated where the width of a gain fits
-  one_narrow : (scale : ℕ) (joint : List Cell) (g : GainOf TableTree) (statement : Statement)
-      → HasOne (λ result. (m : ℕ) × HasWidth joint g m × (result ≡ (if nat_le (scale * m) limit then Ok statement else Err WideGain)))
-  one_narrow scale joint g statement r s p q =
+  -- the width of a gain, where it fits
+  one_narrow : (scale : ℕ) (joint : List Cell) (g : GainOf TableTree) → HasOne (NarrowGain scale joint g)
+  one_narrow scale joint g r s p q =
       let m : p.0 ≡ q.0 = one_width joint g p.0 q.0 p.1 q.1 in
-      p.2 ∙ ap (λ (n : ℕ). if nat_le (scale * n) limit then Ok statement else Err WideGain) m ∙ sym q.2
+      p.2 ∙ ap (λ (n : ℕ). if nat_le (scale * n) limit then Ok n else Err (refusal 7 [] (codes "gain passes 2^127 - 1"))) m ∙ sym q.2
+
+  one_report_in : OneReport → (scale : ℕ) (joint : List Cell) (g : GainOf TableTree) → HasOne (ReportIn scale joint g)
+  one_report_in reports_are_one scale joint g =
+      one_after (NarrowGain scale joint g) (λ m. ReportOf scale joint g) (one_narrow scale joint g) (λ m _. one_report hypers_are_one reports_are_one scale joint g)
+
+  one_attack_in : OneAttacks → (target : List Item) (scale : ℕ) (joint : List Cell) → IsShaped scale joint → (g : GainOf TableTree) → HasOne (AttackIn target scale joint g)
+  one_attack_in attacks_are_one target scale joint has g =
+      one_after (NarrowGain scale joint g) (λ m. AttackOf target scale joint g) (one_narrow scale joint g)
+      (λ m _. one_attack hypers_are_one attacks_are_one target scale joint g has)
 
 -- ---- verdicts and certificates
 
@@ -229,41 +254,47 @@ pub one_tree : HypersAreOne → (turns : ℕ) (p : ProgramTree) (a b : HyperTree
 one_tree hypers_are_one turns p a b x y =
     same_tree a b (x.target ∙ sym y.target) (x.scale ∙ sym y.scale) (hypers_are_one (joint_of turns p) a.inners b.inners x.is_hyper y.is_hyper)
 
+one_verdict_shown : (json : Bool) (a b : HyperTree) (v : Result VerdictTree RefineError) → HasOne (VerdictShown json a b v)
+one_verdict_shown json a b (Ok v) r s h k = h.1 ∙ sym k.1
+one_verdict_shown json a b (Err e) r s h k = h ∙ sym k
+
+one_verdict_on : OneVerdict → (json : Bool) (a b : HyperTree) → IsProper a → IsProper b → HasOne (VerdictOn json a b)
+one_verdict_on verdicts_are_one json a b proper proper' r s h k =
+    let verdict : h.0 ≡ k.0 = verdicts_are_one a b most_pivots h.0 k.0 proper proper' h.1 k.1 in
+    one_verdict_shown json a b k.0 r s (subst (λ (v : Result VerdictTree RefineError). VerdictShown json a b v r) verdict h.2) k.2
+
+-- what holds of the hypers of two programs holds of one pair
+module _ (hypers_are_one : HypersAreOne) (turns : ℕ) (p q : ProgramTree) (On : HyperTree → HyperTree → Step Shown)
+    (one_on : (a b : HyperTree) → AreHypers turns p q a b → HasOne (On a b)) where
+  one_of_hypers : HasOne (λ result. (a b : HyperTree) × AreHypers turns p q a b × On a b result)
+  one_of_hypers r s h k =
+      let a : h.0 ≡ k.0 = one_tree hypers_are_one turns p h.0 k.0 h.2.first k.2.first in
+      let b : h.1 ≡ k.1 = one_tree hypers_are_one turns q h.1 k.1 h.2.second k.2.second in
+      one_on k.0 k.1 k.2 r s (subst (λ (x : HyperTree). On k.0 x r) b (subst (λ (x : HyperTree). On x h.1 r) a h.3)) k.3
+
 one_refine : HypersAreOne → OneVerdict → AreProper → (json : Bool) (turns : ℕ) (p q : ProgramTree) → IsClear turns p → IsClear turns q → HasOne (RefineOutcome json turns p q)
-one_refine hypers_are_one verdicts_are_one are_proper json turns p q clear clear' r s h k =
-    let a : h.0 ≡ k.0 = one_tree hypers_are_one turns p h.0 k.0 h.2.first k.2.first in
-    let b : h.1 ≡ k.1 = one_tree hypers_are_one turns q h.1 k.1 h.2.second k.2.second in
-    let on_a : IsVerdict k.0 h.1 most_pivots h.3.0 = subst (λ (x : HyperTree). IsVerdict x h.1 most_pivots h.3.0) a h.3.1 in
-    let on_both : IsVerdict k.0 k.1 most_pivots h.3.0 = subst (λ (x : HyperTree). IsVerdict k.0 x most_pivots h.3.0) b on_a in
-    let verdict : h.3.0 ≡ k.3.0 =
-    verdicts_are_one k.0 k.1 most_pivots h.3.0 k.3.0 (are_proper turns p k.0 clear k.2.first) (are_proper turns q k.1 clear' k.2.second) on_both k.3.1 in
-    h.3.2 ∙ (λ i. verdict_stated json (a i) (b i) (verdict i)) ∙ sym k.3.2
+one_refine hypers_are_one verdicts_are_one are_proper json turns p q clear clear' =
+    one_of_hypers hypers_are_one turns p q (VerdictOn json)
+    (λ a b are. one_verdict_on verdicts_are_one json a b (are_proper turns p a clear are.first) (are_proper turns q b clear' are.second))
 
 one_mark : OneMark → (a b : HyperTree) (c : CertTree) → HasOne (MarkIn a b c)
 one_mark marks_are_one a b c r s h k =
     ⊎_elim
-    (λ (x : (a.target ≢ b.target) × (r ≡ Err OtherTarget)).
-    ⊎_elim (λ (y : (a.target ≢ b.target) × (s ≡ Err OtherTarget)). x.1 ∙ sym y.1) (λ y. absurd (x.0 y.0)) k)
+    (λ (x : (a.target ≢ b.target) × (r ≡ Err other_target)).
+    ⊎_elim (λ (y : (a.target ≢ b.target) × (s ≡ Err other_target)). x.1 ∙ sym y.1) (λ y. absurd (x.0 y.0)) k)
     (λ x.
-    ⊎_elim (λ (y : (a.target ≢ b.target) × (s ≡ Err OtherTarget)). absurd (y.0 x.0))
-    (λ y. x.1.2 ∙ ap mark_stated (marks_are_one a b c x.1.0 y.1.0 x.1.1 y.1.1) ∙ sym y.1.2) k)
+    ⊎_elim (λ (y : (a.target ≢ b.target) × (s ≡ Err other_target)). absurd (y.0 x.0))
+    (λ y. x.1.2 ∙ ap mark_shown (marks_are_one a b c x.1.0 y.1.0 x.1.1 y.1.1) ∙ sym y.1.2) k)
     h
 
-pub one_cert : (contents : List ℕ → List ℕ) (name : List ℕ) → HasOne (CertIn contents name)
-one_cert contents name =
-    one_after (Gives (source_of contents name)) (λ bytes. Gives (cert_read name (cert_of bytes))) (one_given (source_of contents name))
-    (λ bytes _. one_given (cert_read name (cert_of bytes)))
+pub one_cert : (file : File) → HasOne (CertIn file)
+one_cert file =
+    one_after (Gives (source_of file)) (λ bytes. Gives (cert_read file.name (cert_of bytes))) (one_given (source_of file))
+    (λ bytes _. one_given (cert_read file.name (cert_of bytes)))
 
-one_marked : HypersAreOne → OneMark → (turns : ℕ) (p q : ProgramTree) (c : CertTree) → HasOne (λ result. (a b : HyperTree) × AreHypers turns p q a b × MarkIn a b c result)
-one_marked hypers_are_one marks_are_one turns p q c r s h k =
-    let a : h.0 ≡ k.0 = one_tree hypers_are_one turns p h.0 k.0 h.2.first k.2.first in
-    let b : h.1 ≡ k.1 = one_tree hypers_are_one turns q h.1 k.1 h.2.second k.2.second in
-    one_mark marks_are_one k.0 k.1 c r s (subst (λ (x : HyperTree). MarkIn k.0 x c r) b (subst (λ (x : HyperTree). MarkIn x h.1 c r) a h.3)) k.3
-
-one_check : HypersAreOne → OneMark → (contents : List ℕ → List ℕ) (name : List ℕ) (turns : ℕ) (p q : ProgramTree) → HasOne (CheckOutcome contents name turns p q)
-one_check hypers_are_one marks_are_one contents name turns p q =
-    one_after (CertIn contents name) (λ c result. (a b : HyperTree) × AreHypers turns p q a b × MarkIn a b c result) (one_cert contents name)
-    (λ c _. one_marked hypers_are_one marks_are_one turns p q c)
+one_mark_on : HypersAreOne → OneMark → (turns : ℕ) (p q : ProgramTree) (c : CertTree) → HasOne (MarkOn turns p q c)
+one_mark_on hypers_are_one marks_are_one turns p q c =
+    one_of_hypers hypers_are_one turns p q (λ a b. MarkIn a b c) (λ a b are. one_mark marks_are_one a b c)
 
 -- ---- capacities
 
@@ -281,51 +312,59 @@ module _ (rows_are_one : RowsAreOne) where
   one_capacity : (turns : ℕ) (p : ProgramTree) → HasOne (CapacityIn turns p)
   one_capacity turns p r s h k =
       let c : h.0 ≡ k.0 = one_channel turns p h.0 k.0 h.1 k.1 in
-      h.2 ∙ ap (λ (t : ChannelTree). if is_narrow (channel_grid t) then Ok (CapacityOf (channel_grid t)) else Err WideChannel) c ∙ sym k.2
+      h.2 ∙ ap (λ (t : ChannelTree). if is_narrow (channel_grid t) then prints (capacity_text (channel_grid t)) else Err wide_channel) c ∙ sym k.2
 
-  one_algebra : (way : Composition) (c d : ChannelTree) → HasOne (After (Composed way c d) (λ g. Gives (algebra_stated (channel_grid c) (channel_grid d) g)))
+  one_algebra : (way : Composition) (c d : ChannelTree) → HasOne (After (Composed way c d) (λ g. Gives (algebra_shown (channel_grid c) (channel_grid d) g)))
   one_algebra way c d =
-      one_after (Composed way c d) (λ g. Gives (algebra_stated (channel_grid c) (channel_grid d) g)) (one_composed way c d)
-      (λ g _. one_given (algebra_stated (channel_grid c) (channel_grid d) g))
+      one_after (Composed way c d) (λ g. Gives (algebra_shown (channel_grid c) (channel_grid d) g)) (one_composed way c d)
+      (λ g _. one_given (algebra_shown (channel_grid c) (channel_grid d) g))
 
   one_composition : (way : Composition) (turns : ℕ) (p q : ProgramTree) → HasOne (ComposedIn way turns p q)
   one_composition way turns p q r s h k =
       let c : h.0 ≡ k.0 = one_channel turns p h.0 k.0 h.2 k.2 in
       let d : h.1 ≡ k.1 = one_channel turns q h.1 k.1 h.3 k.3 in
-      let on_c = subst (λ (t : ChannelTree). After (Composed way t h.1) (λ g. Gives (algebra_stated (channel_grid t) (channel_grid h.1) g)) r) c h.4 in
-      let on_both = subst (λ (t : ChannelTree). After (Composed way k.0 t) (λ g. Gives (algebra_stated (channel_grid k.0) (channel_grid t) g)) r) d on_c in
+      let on_c = subst (λ (t : ChannelTree). After (Composed way t h.1) (λ g. Gives (algebra_shown (channel_grid t) (channel_grid h.1) g)) r) c h.4 in
+      let on_both = subst (λ (t : ChannelTree). After (Composed way k.0 t) (λ g. Gives (algebra_shown (channel_grid k.0) (channel_grid t) g)) r) d on_c in
       one_algebra way k.0 k.1 r s on_both k.4
 
 -- ---- commands
 
 module _ (made_are_one : (count turns : ℕ) → HasOne (MadeOutcome count turns)) (tables_are_one : OneTable) (rows_are_one : RowsAreOne) (hypers_are_one : HypersAreOne)
-    (averages_are_one : OneAverage) (verdicts_are_one : OneVerdict) (marks_are_one : OneMark) (are_proper : AreProper) (contents : List ℕ → List ℕ) (turns : ℕ) where
-  one_command : (command : Command) (ps : List ProgramTree) → Every (IsClear turns) ps → HasOne (CommandOutcome contents command turns ps)
-  one_command Hyper (p ∷ []) clear = one_given (Ok (HyperOf p.target (run_scale turns p) (joint_of turns p)))
-  one_command Traces (p ∷ []) clear = one_given (Ok (TracesOf p.target (run_scale turns p) (joint_of turns p)))
-  one_command Channel (p ∷ []) clear = one_given (channel_statement turns p)
-  one_command (Make count) [] clear = made_are_one count turns
-  one_command Trail (p ∷ []) clear = one_given (Ok (TrailOf turns p))
-  one_command Capacity (p ∷ []) clear =
-      one_after (Gives (initial p)) (CapacityIn turns) (one_given (initial p)) (λ read _. one_capacity rows_are_one turns read)
-  one_command (Compose way) (p ∷ q ∷ []) clear =
+    (averages_are_one : OneAverage) (verdicts_are_one : OneVerdict) (marks_are_one : OneMark) (are_proper : AreProper) (reports_are_one : OneReport)
+    (trails_are_one : OnlyOneTrail) (attacks_are_one : OneAttacks) (reaches_are_one : OneReach) (blames_are_one : OnlyOneBlames) (turns : ℕ) where
+  one_command : (command : Command) → IsInRange command → (tables : List File) (ps : List ProgramTree) → Every (IsClear turns) ps → HasOne (CommandOutcome command turns tables ps)
+  one_command Hyper has tables (p ∷ []) clear = one_hyper hypers_are_one p.target (run_scale turns p) (joint_of turns p)
+  one_command Traces has tables (p ∷ []) clear = one_traces rows_are_one p.target (run_scale turns p) (joint_of turns p)
+  one_command Channel has tables (p ∷ []) clear =
+      one_after (Gives (initial p)) (λ p. ChannelOf p.target (joint_of turns p)) (one_given (initial p)) (λ q _. one_channel_shown rows_are_one q.target (joint_of turns q))
+  one_command Trail has tables (p ∷ []) clear = one_trail trails_are_one turns p
+  one_command Capacity has tables (p ∷ []) clear =
+      one_after (Gives (initial p)) (CapacityIn turns) (one_given (initial p)) (λ q _. one_capacity rows_are_one turns q)
+  one_command (Compose way) has tables (p ∷ q ∷ []) clear =
       one_after (Gives (initial p)) (λ p. After (Gives (initial q)) (λ q. ComposedIn way turns p q)) (one_given (initial p))
       (λ first _. one_after (Gives (initial q)) (λ q. ComposedIn way turns first q) (one_given (initial q)) (λ second _. one_composition rows_are_one way turns first second))
-  one_command (Leak g) (p ∷ []) clear =
-      one_after (GainIn contents p.target g) (ReportIn (run_scale turns p) (joint_of turns p)) (one_gain tables_are_one contents p.target g)
-      (λ g _. one_narrow hypers_are_one averages_are_one (run_scale turns p) (joint_of turns p) g (ReportOf g (run_scale turns p) (joint_of turns p)))
-  one_command (Attack g) (p ∷ []) clear =
-      one_after (GainIn contents p.target g) (AttackIn p.target (run_scale turns p) (joint_of turns p)) (one_gain tables_are_one contents p.target g)
-      (λ g _. one_narrow hypers_are_one averages_are_one (run_scale turns p) (joint_of turns p) g (AttackOf g p.target (run_scale turns p) (joint_of turns p)))
-  one_command (Reach num den) (p ∷ []) clear = one_given (Ok (ReachOf num den (run_scale turns p) (joint_of turns p)))
-  one_command (Refine json) (p ∷ q ∷ []) clear = one_refine hypers_are_one verdicts_are_one are_proper json turns p q clear.0 clear.1.0
-  one_command (Check name) (p ∷ q ∷ []) clear = one_check hypers_are_one marks_are_one contents name turns p q
-  one_command Covers (p ∷ q ∷ []) clear = one_refine hypers_are_one verdicts_are_one are_proper false turns p q clear.0 clear.1.0
-  one_command (Quiet from to) (p ∷ []) clear = one_given (Ok (HyperOf p.target (run_scale turns p) (quiet_joint turns p from to)))
-  one_command Blame (p ∷ []) clear = one_given (Ok (BlameOf turns p))
-  one_command command ps clear = one_given (Err Usage)
+  one_command (Make count) has tables [] clear = made_are_one count turns
+  one_command (Leak g) has tables (p ∷ []) clear =
+      one_after (GainIn p.target g tables) (ReportIn (run_scale turns p) (joint_of turns p)) (one_gain tables_are_one p.target g tables)
+      (λ t _. one_report_in hypers_are_one averages_are_one reports_are_one (run_scale turns p) (joint_of turns p) t)
+  one_command (Attack g) has tables (p ∷ []) clear =
+      one_after (GainIn p.target g tables) (AttackIn p.target (run_scale turns p) (joint_of turns p)) (one_gain tables_are_one p.target g tables)
+      (λ t _. one_attack_in hypers_are_one averages_are_one attacks_are_one p.target (run_scale turns p) (joint_of turns p) (shaped are_proper turns p clear.0) t)
+  one_command (Reach num den) has tables (p ∷ []) clear =
+      one_reach hypers_are_one reaches_are_one num den (run_scale turns p) (joint_of turns p) (omega (arith, has.0, has.1))
+  one_command (Refine json) has tables (p ∷ q ∷ []) clear = one_refine hypers_are_one verdicts_are_one are_proper json turns p q clear.0 clear.1.0
+  one_command (Check name) has (file ∷ []) (p ∷ q ∷ []) clear =
+      one_after (CertIn file) (MarkOn turns p q) (one_cert file) (λ c _. one_mark_on hypers_are_one marks_are_one turns p q c)
+  one_command Covers has tables (p ∷ q ∷ []) clear = one_refine hypers_are_one verdicts_are_one are_proper false turns p q clear.0 clear.1.0
+  one_command (Quiet from to) has tables (p ∷ []) clear = one_hyper hypers_are_one p.target (run_scale turns p) (quiet_joint turns p from to)
+  one_command Blame has tables (p ∷ []) clear = one_blame blames_are_one turns p
+  one_command command has tables ps clear = one_given (Err usage)
 
 -- ---- texts
+
+-- an error with a fault isn't want of memory
+some_syntax : (e : ParseError) (f : Fault) → syntax_fault e ≡ Some f → e ≢ parsing.Mem
+some_syntax e f has mem = let none : None ≡ Some f = ap syntax_fault (sym mem) ∙ has in absurd (cc)
 
 -- the laws of tokens, of the grammar and of the type rules
 module _ (reading : IsOneReading) (one : OneProgram) (both : NotBoth) (refusal : OneRefusal) (judgement : OneJudgement) (typed : OneTyped) where
@@ -358,21 +397,20 @@ module _ (reading : IsOneReading) (one : OneProgram) (both : NotBoth) (refusal :
   one_with name bytes tree =
       one_after (ProgramOf name bytes tree) (λ p. Gives (Ok (text name bytes tree p))) (one_checked name bytes tree) (λ p _. one_given (Ok (text name bytes tree p)))
 
-  one_typed : (name bytes : List ℕ) → HasOne (TypedOf name bytes)
+  pub one_typed : (name bytes : List ℕ) → HasOne (TypedOf name bytes)
   unfolding TypedOf
   one_typed name bytes = one_after (TokensOf name bytes) (λ tokens. After (SourceOf name bytes tokens) (TextWith name bytes)) (one_tokens name bytes)
       (λ tokens _. one_after (SourceOf name bytes tokens) (TextWith name bytes) (one_source name bytes tokens) (λ tree _. one_with name bytes tree))
 
-  one_made : (count turns : ℕ) → HasOne (MadeOutcome count turns)
-  one_made count turns =
-      one_after (TypedOf [] (make_source count)) (λ t. After (Gives (cleared turns t)) (λ q. Gives (Ok (MadeOf count (run_scale turns q) (joint_of turns q)))))
+  one_made : HypersAreOne → (count turns : ℕ) → HasOne (MadeOutcome count turns)
+  one_made hypers_are_one count turns =
+      one_after (TypedOf [] (make_source count)) (λ t. After (Gives (cleared turns t)) (λ q. MadeOf count (run_scale turns q) (joint_of turns q)))
       (one_typed [] (make_source count))
-      (λ t _. one_after (Gives (cleared turns t)) (λ q. Gives (Ok (MadeOf count (run_scale turns q) (joint_of turns q))))
-      (one_given (cleared turns t)) (λ q _. one_given (Ok (MadeOf count (run_scale turns q) (joint_of turns q)))))
+      (λ t _. one_after (Gives (cleared turns t)) (λ q. MadeOf count (run_scale turns q) (joint_of turns q)) (one_given (cleared turns t))
+      (λ q _. one_made_hyper hypers_are_one count (run_scale turns q) (joint_of turns q)))
 
-  pub one_read : (contents : List ℕ → List ℕ) (name : List ℕ) → HasOne (TextOf contents name)
-  one_read contents name =
-      one_after (Gives (source_of contents name)) (TypedOf name) (one_given (source_of contents name)) (λ bytes _. one_typed name bytes)
+  one_read : (file : File) → HasOne (TextOf file)
+  one_read file = one_after (Gives (source_of file)) (TypedOf file.name) (one_given (source_of file)) (λ bytes _. one_typed file.name bytes)
 
   one_full : (ts : List Text) → HasOne (FullTexts ts)
   one_full ts =
@@ -389,28 +427,24 @@ module _ (reading : IsOneReading) (one : OneProgram) (both : NotBoth) (refusal :
   one_ready (Quiet from to) turns ts = one_each (LongCleared turns to) (one_long turns to) ts
   one_ready command turns ts = one_each (λ t. Gives (cleared turns t)) (λ t. one_given (cleared turns t)) ts
 
-  pub one_cleared : (contents : List ℕ → List ℕ) (task : Task) → HasOne (ClearedOf contents task)
-  one_cleared contents task =
-      one_after (Each (TextOf contents) task.files) (ReadyOf task.command task.turns)
-      (one_each (TextOf contents) (one_read contents) task.files) (λ ts _. one_ready task.command task.turns ts)
+  pub one_cleared : (command : Command) (turns : ℕ) (programs : List File) → HasOne (ClearedOf command turns programs)
+  one_cleared command turns programs =
+      one_after (Each TextOf programs) (ReadyOf command turns) (one_each TextOf one_read programs) (λ ts _. one_ready command turns ts)
 
   module _ (tables_are_one : OneTable) (rows_are_one : RowsAreOne) (hypers_are_one : HypersAreOne) (averages_are_one : OneAverage) (verdicts_are_one : OneVerdict) (marks_are_one : OneMark)
-      (are_clear : AreClear) (are_proper : AreProper) where
-    one_task : (contents : List ℕ → List ℕ) (task : Task) → HasOne (TaskOutcome contents task)
-    one_task contents task =
-        one_after (ClearedOf contents task) (CommandOutcome contents task.command task.turns) (one_cleared contents task)
-        (λ ps is. one_command one_made tables_are_one rows_are_one hypers_are_one averages_are_one verdicts_are_one marks_are_one are_proper contents task.turns task.command ps (are_clear contents task ps is))
+      (are_clear : AreClear) (are_proper : AreProper) (reports_are_one : OneReport) (trails_are_one : OnlyOneTrail) (attacks_are_one : OneAttacks) (reaches_are_one : OneReach)
+      (blames_are_one : OnlyOneBlames) (programs tables : List File) where
+    one_task : (task : Task) → IsInRange task.command → HasOne (TaskOutcome task programs tables)
+    one_task task has =
+        one_after (ClearedOf task.command task.turns programs) (CommandOutcome task.command task.turns tables) (one_cleared task.command task.turns programs)
+        (λ ps is. one_command (one_made hypers_are_one) tables_are_one rows_are_one hypers_are_one averages_are_one verdicts_are_one marks_are_one are_proper reports_are_one trails_are_one
+        attacks_are_one reaches_are_one blames_are_one task.turns task.command has tables ps (are_clear task.command task.turns programs ps is))
 
-    one_outcome : (contents : List ℕ → List ℕ) (task : Option Task) → HasOne (SomeOutcome contents task)
-    one_outcome contents None = one_given (Err Usage)
-    one_outcome contents (Some task) = one_task contents task
+    one_outcome : (task : Option Task) → ((t : Task) → task ≡ Some t → IsInRange t.command) → HasOne (SomeOutcome task programs tables)
+    one_outcome None has = one_given (Err usage)
+    one_outcome (Some task) has = one_task task (has task refl)
 
-    pub one_answer : OneReport → OnlyOneTrail → OneAttacks → OneReach → OnlyOneBlames → (words : List (List ℕ)) (contents : List ℕ → List ℕ)
-        → ((statement : Statement) → Outcome words contents (Ok statement) → HasText statement)
-        → (a b : Answer) → IsAnswer words contents a → IsAnswer words contents b → a ≡ b
-    one_answer reports_are_one trails_are_one attacks_are_one reaches_are_one blames_are_one words contents texts a b p q =
-        let results : p.result ≡ q.result = one_outcome contents (task_of words) p.result q.result p.outcome q.outcome in
-        let has : (statement : Statement) → q.result ≡ Ok statement → HasText statement =
-        λ statement is. texts statement (subst (λ (r : Result Statement Refused). Outcome words contents r) is q.outcome) in
-        one_settled rows_are_one hypers_are_one reports_are_one trails_are_one attacks_are_one reaches_are_one blames_are_one q.result has a b
-        (subst (λ (r : Result Statement Refused). Settled r a) results p.settled) q.settled
+    pub one_answer : TasksInRange → (words : List (List ℕ)) (a b : Answer) → IsAnswer words programs tables a → IsAnswer words programs tables b → a ≡ b
+    one_answer tasks_in_range words a b p q =
+        let results : p.result ≡ q.result = one_outcome (task_of words) (λ t asked. (tasks_in_range words t asked).0) p.result q.result p.outcome q.outcome in
+        p.settles ∙ ap settled results ∙ sym q.settles

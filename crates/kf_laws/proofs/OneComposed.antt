@@ -1,5 +1,5 @@
 -- What is put together of two channels: there is some, and only one.
-use Rattle.std.proofs.Common.{◌≡◌, ◌≢◌, ◌⊎◌, ℕ, ◌<◌, ◌≤◌, ◌*◌, min, nat_le, le-leb, List, [], ◌∷◌, length, Bool, true, false, Result, Ok, Err, refl, sym, ◌∙◌, ap, subst, arith, inl, inr, ⊎_elim, if◌then◌else◌}
+use Rattle.std.proofs.Common.{◌≡◌, ◌≢◌, ◌⊎◌, ℕ, ◌<◌, ◌≤◌, min, nat_le, le-leb, List, [], ◌∷◌, Bool, true, false, Result, Ok, Err, refl, sym, ◌∙◌, ap, subst, inl, inr, ⊎_elim, if◌then◌else◌}
 use Rattle.std.proofs.lemmas.Bool.{lt-leb, cases_eq, cases_lt}
 use Rattle.kf_frac.specs.Fractions.{limit}
 use Rattle.kf_refine.proofs.SomeTargets.{Decided, decided_by, decided_both, same_targets}
@@ -11,12 +11,15 @@ use Rattle.kf_capacity.specs.declared.error.ParallelFault.{ParallelFault}
 use Rattle.kf_capacity.specs.declared.error.ParallelFault.TheVariants as parallel
 use Rattle.kf_capacity.specs.declared.error.ChoiceFault.{ChoiceFault}
 use Rattle.kf_capacity.specs.declared.error.ChoiceFault.TheVariants as choice
-use Rattle.kf_top.specs.Answer.{Refused}
-use Rattle.kf_top.specs.Outcome.{Composed, cascade_told, parallel_told, choice_told}
+use Rattle.kf_load.specs.Steps.{Refused}
+use Rattle.kf_top.specs.Answer.{Composed, cascade_grid as cascade_shown, parallel_grid as parallel_shown, choice_grid as choice_shown}
 use Rattle.kf_words.specs.Task.{Composition, Cascade, Parallel, Choice}
-use Rattle.kf_top.proofs.Steps.{either_way}
 
 -- ---- secrets and targets
+
+either_way : (b : Bool) → (b ≡ true) ⊎ (b ≡ false)
+either_way true = inl refl
+either_way false = inr refl
 
 same_numbers : (xs ys : List ℕ) → Decided (xs ≡ ys)
 same_numbers [] [] = inl refl
@@ -185,12 +188,12 @@ same_told : {R : Type 0} (told : R → Result GridTree Refused) (only a b : R) (
 same_told told only a b r s p q x y = x ∙ ap told (p ∙ sym q) ∙ sym y
 
 pub one_composed : (way : Composition) (c d : ChannelTree) (r s : Result GridTree Refused) → Composed way c d r → Composed way c d s → r ≡ s
-one_composed Cascade c d r s h k = same_told cascade_told (cascade_result c d) h.0 k.0 r s (cascade_is c d h.0 h.1) (cascade_is c d k.0 k.1) h.2 k.2
-one_composed Parallel c d r s h k = same_told parallel_told (parallel_result c d) h.0 k.0 r s (parallel_is c d h.0 h.1) (parallel_is c d k.0 k.1) h.2 k.2
+one_composed Cascade c d r s h k = same_told cascade_shown (cascade_result c d) h.0 k.0 r s (cascade_is c d h.0 h.1) (cascade_is c d k.0 k.1) h.2 k.2
+one_composed Parallel c d r s h k = same_told parallel_shown (parallel_result c d) h.0 k.0 r s (parallel_is c d h.0 h.1) (parallel_is c d k.0 k.1) h.2 k.2
 one_composed (Choice num den) c d r s h k =
-    same_told choice_told (choice_result c d num den) h.0 k.0 r s (choice_is c d num den h.0 h.1) (choice_is c d num den k.0 k.1) h.2 k.2
+    same_told choice_shown (choice_result c d num den) h.0 k.0 r s (choice_is c d num den h.0 h.1) (choice_is c d num den k.0 k.1) h.2 k.2
 
 pub some_composed : (way : Composition) (c d : ChannelTree) → (r : Result GridTree Refused) × Composed way c d r
-some_composed Cascade c d = (cascade_told (cascade_result c d), (cascade_result c d, some_cascade c d, refl))
-some_composed Parallel c d = (parallel_told (parallel_result c d), (parallel_result c d, some_parallel c d, refl))
-some_composed (Choice num den) c d = (choice_told (choice_result c d num den), (choice_result c d num den, some_choice c d num den, refl))
+some_composed Cascade c d = (cascade_shown (cascade_result c d), (cascade_result c d, some_cascade c d, refl))
+some_composed Parallel c d = (parallel_shown (parallel_result c d), (parallel_result c d, some_parallel c d, refl))
+some_composed (Choice num den) c d = (choice_shown (choice_result c d num den), (choice_result c d num den, some_choice c d num den, refl))

@@ -1,5 +1,5 @@
 -- Words and files have some defined answer.
-use Rattle.std.proofs.Common.{◌≡◌, ◌≢◌, ◌⊎◌, ℕ, ◌≤◌, ◌*◌, ◌&&◌, nat_le, if◌then◌else◌, List, [], ◌∷◌, length, Bool, true, false, sym, ap, subst, None, Some, Option, Result, Ok, Err, codes, refl, ⊎_elim, inl, inr}
+use Rattle.std.proofs.Common.{◌≡◌, ◌⊎◌, ℕ, ◌≤◌, ◌*◌, nat_le, if◌then◌else◌, List, [], ◌∷◌, length, Bool, false, sym, ap, subst, None, Some, Option, Result, Ok, Err, codes, refl, ⊎_elim, inl, inr}
 use Rattle.std.specs.List.{AllByRecursion as Every}
 use Rattle.kf_lex.specs.declared.token.Token.{Token}
 use Rattle.kf_lex.specs.declared.token.LexError.{LexError}
@@ -18,15 +18,10 @@ use Rattle.kf_core.specs.JointLaws.{RowsExist, HypersExist}
 use Rattle.kf_channel.specs.Laws.{SomeSecrets}
 use Rattle.kf_core.specs.Programs.{ProgramTree}
 use Rattle.kf_core.specs.Joint.{Cell, joint_of}
-use Rattle.kf_core.specs.Rows.{IsHyperOf}
 use Rattle.kf_core.specs.Scale.{scale_of as run_scale}
-use Rattle.kf_channel.specs.Channels.{all_initial}
-use Rattle.kf_capacity.specs.Grids.{ChannelTree, GridTree, channel_grid}
+use Rattle.kf_capacity.specs.Grids.{ChannelTree, channel_grid}
 use Rattle.kf_frac.specs.Fractions.{limit}
-use Rattle.kf_value.specs.Numbers.{target_size}
 use Rattle.kf_value.specs.Targets.{Item}
-use Rattle.kf_hyper.specs.Hypers.{Inner}
-use Rattle.kf_hyper.specs.Shapes.{IsShape}
 use Rattle.kf_gain.specs.declared.error.TableError.{TableError}
 use Rattle.kf_gain.specs.Gains.{GainOf, Bayes, Tries, Guessing, Table, TableTree, over_of}
 use Rattle.kf_gain.specs.Laws.{HasActions, SomeAverage, SomeReport}
@@ -42,35 +37,33 @@ use Rattle.kf_quiet.specs.Laws.{SomeBlames}
 use Rattle.kf_quiet.specs.Quiet.{quiet_joint}
 use Rattle.kf_run.specs.Laws.{SomeTrail}
 use Rattle.kf_refine.specs.Refinements.{HyperTree}
-use Rattle.kf_refine.specs.Verdicts.{VerdictTree, IsVerdict, Proves}
+use Rattle.kf_refine.specs.Verdicts.{VerdictTree, IsVerdict}
 use Rattle.kf_refine.specs.Laws.{SomeVerdict, VerdictsProve}
 use Rattle.kf_refine.specs.Views.{IsProper}
 use Rattle.kf_refine.specs.declared.verdict.RefineError.{RefineError}
-use Rattle.kf_refine.specs.declared.verdict.RefineError.TheVariants as refine
 use Rattle.kf_refine.proofs.SomeTargets.{same_targets}
 use Rattle.kf_cert.specs.Certificates.{CertTree, cert_of}
 use Rattle.kf_cert.specs.CertTexts.{cert_text}
 use Rattle.kf_cert.specs.Laws.{ReadSound, SomeMark}
 use Rattle.kf_cert.specs.Views.{IsSound}
 use Rattle.kf_cert.specs.declared.cert.CertError.{CertError}
-use Rattle.kf_cert.specs.declared.mark.Mark.{Mark}
-use Rattle.kf_cert.specs.declared.mark.CheckError.{CheckError}
-use Rattle.kf_cert.specs.declared.mark.CheckError.TheVariants as check
-use Rattle.kf_top.specs.Answer.{Statement, HyperOf, TracesOf, ChannelOf, ReportOf, AttackOf, ReachOf, TrailOf, MadeOf, VerdictOn, MarkOf, CapacityOf, AlgebraOf, BlameOf, IsText, says_yes, Shown, Refused, Usage, NotInitial, BadTable, WideGain, OtherTarget, WideChannel}
-use Rattle.kf_top.specs.Ends.{Answer, Settled, IsAnswer, showing, refusing}
-use Rattle.kf_top.specs.Outcome.{Step, After, Gives, Each, Text, Fault, fault, bad_text, token_fault, syntax_fault, type_fault, IsBad, TokensOf, SourceOf, ProgramOf, TextWith, TypedOf, TextOf, cleared, few_stores, FullOf, FullTexts, long_enough, LongCleared, ReadyOf, ClearedOf, table_word, TableOf, TableIn, GainIn, HasWidth, ReportIn, AttackIn, channel_statement, IsChannelTree, initial, is_narrow, CapacityIn, Composed, algebra_stated, ComposedIn, IsHyperTree, AreHypers, most_pivots, verdict_stated, RefineOutcome, cert_read, CertIn, mark_stated, MarkIn, CheckOutcome, MadeOutcome, CommandOutcome, TaskOutcome, SomeOutcome, Outcome, source_of}
+use Rattle.kf_load.specs.Steps.{Refused, Step, After, Each, Gives, refusal}
+use Rattle.kf_load.specs.Texts.{File, Text, Fault, fault, bad_text, token_fault, syntax_fault, type_fault, IsBad, TokensOf, SourceOf, ProgramOf, TextWith, TypedOf, TextOf, cleared, long_enough, LongCleared, source_of}
+use Rattle.kf_top.specs.Answer.{usage, prints, shows, other_target, wide_channel, HyperOf, TracesOf, TrailOf, MadeOf, MadeOutcome, BlameOf, initial, ChannelOf, IsChannelTree, is_narrow, CapacityIn, Composed, algebra_shown, ComposedIn, table_word, bad_file, TableOf, TableIn, GainIn, NarrowGain, ReportOf, ReportIn, AttackOf, AttackIn, ReachOf, IsHyperTree, most_pivots, verdict_refusal, is_yes, VerdictShown, RefineOutcome, cert_read, CertIn, mark_shown, MarkIn, MarkOn, CommandOutcome}
+use Rattle.kf_top.specs.Outcome.{few_stores, FullOf, FullTexts, ReadyOf, ClearedOf, TaskOutcome, SomeOutcome}
+use Rattle.kf_top.specs.Ends.{Answer, IsAnswer, settled}
 use Rattle.kf_words.specs.Jobs.{IsInRange}
 use Rattle.kf_words.specs.Laws.{TasksInRange}
 use Rattle.kf_words.specs.Task.{Command, Composition, Hyper, Traces, Channel, Trail, Capacity, Compose, Leak, Attack, Reach, Make, Refine, Check, Covers, Quiet, Blame, Task, task_of}
 use Rattle.kf_laws.proofs.ClearedPrograms.{AreClear, IsTyped, every_done, every_one, few_typed, texts_typed}
 use Rattle.kf_laws.proofs.OneComposed.{some_composed}
-use Rattle.kf_laws.proofs.ProperHypers.{AreProper, IsClear}
-use Rattle.kf_text.specs.Texts.{line, hyper_text, trace_text, channel_text, trail_text, make_text}
-use Rattle.kf_text.specs.CapacityTexts.{capacity_text, algebra_text}
+use Rattle.kf_laws.proofs.ProperHypers.{AreProper, IsClear, IsShaped, shaped}
+use Rattle.kf_text.specs.Texts.{hyper_text, trace_text, channel_text, trail_text, make_text}
+use Rattle.kf_text.specs.CapacityTexts.{capacity_text}
 use Rattle.kf_text.specs.ReportTexts.{report_text}
 use Rattle.kf_text.specs.AttackTexts.{attack_text, reach_text}
 use Rattle.kf_text.specs.BlameTexts.{blame_text}
-use Rattle.kf_text.specs.VerdictTexts.{verdict_text, mark_text}
+use Rattle.kf_text.specs.VerdictTexts.{verdict_text}
 
 -- ---- steps
 
@@ -142,89 +135,101 @@ module _ (name bytes : List ℕ) where
 abbrev text : List ℕ → List ℕ → SourceTree → ProgramTree → Text
 text name bytes tree p = record { name = name; bytes = bytes; source = tree; program = p }
 
--- ---- what is stated
+-- ---- what is shown
 
--- the hyper of a joint has a shape
-abbrev IsShaped : ℕ → List Cell → Type 0
-IsShaped scale joint = (size : ℕ) × ((inners : List Inner) → IsHyperOf joint inners → IsShape size scale inners)
+-- the laws of hypers
+module _ (hypers_exist : HypersExist) where
+  some_hyper : (target : List Item) (scale : ℕ) (joint : List Cell) → HasSome (HyperOf target scale joint)
+  some_hyper target scale joint = let h = hypers_exist joint in (prints (hyper_text target scale h.0), (h.0, h.1, refl))
 
--- where it is a report or an attack, its gain has an action; where it is of a number of tries, its threshold is above 0 and at most 1; where it is a
--- verdict, it proves itself
-abbrev pub HasText : Statement → Type 0
-HasText (ReportOf g scale joint) = HasActions g
-HasText (AttackOf g target scale joint) = HasActions g × IsShaped scale joint
-HasText (ReachOf num den scale joint) = (1 ≤ num) × (num ≤ den) × IsShaped scale joint
-HasText (VerdictOn json a b v) = Proves a b v
-HasText statement = Unit {0}
+  some_made_hyper : (count scale : ℕ) (joint : List Cell) → HasSome (MadeOf count scale joint)
+  some_made_hyper count scale joint = let h = hypers_exist joint in (prints (make_text count scale h.0), (h.0, h.1, refl))
 
-module _ (rows_exist : RowsExist) (hypers_exist : HypersExist) (secrets_exist : SomeSecrets) (reports_exist : SomeReport) (trails_exist : SomeTrail)
-    (attacks_exist : SomeAttacks) (reaches_exist : SomeReach) (blames_exist : SomeBlames) where
-  some_text : (statement : Statement) → HasText statement → (bytes : List ℕ) × IsText statement bytes
-  some_text (HyperOf target scale joint) has = let h = hypers_exist joint in (hyper_text target scale h.0, (h.0, h.1, refl))
-  some_text (TracesOf target scale joint) has = let rows = rows_exist joint in (trace_text target scale rows.0, (rows.0, rows.1, refl))
-  some_text (ChannelOf target joint) has =
-      let rows = rows_exist joint in
-      let secrets = secrets_exist rows.0 in
-      (channel_text target rows.0 secrets.0, (rows.0, rows.1, (secrets.0, secrets.1, refl)))
-  some_text (ReportOf g scale joint) has =
+  some_report : SomeReport → (scale : ℕ) (joint : List Cell) (g : GainOf TableTree) → HasActions g → HasSome (ReportOf scale joint g)
+  some_report reports_exist scale joint g has =
       let h = hypers_exist joint in
       let r = reports_exist g h.0 has in
       let l : Leakage = record { prior = r.0.0; posterior = r.1.0; whole = scale * over_of g } in
-      (report_text g l, (h.0, h.1, (l, record { prior = r.0.1; posterior = r.1.1; whole = refl }, refl)))
-  some_text (AttackOf g target scale joint) has =
-      let h = hypers_exist joint in
-      let attacks = attacks_exist has.1.0 scale g h.0 (has.1.1 h.0 h.1) has.0 in
-      (attack_text g target scale h.0 attacks.0, (h.0, h.1, (attacks.0, attacks.1, refl)))
-  some_text (ReachOf num den scale joint) has =
-      let h = hypers_exist joint in
-      let r = reaches_exist has.2.0 scale num den h.0 (has.2.1 h.0 h.1) has.0 has.1 in
-      (reach_text scale r.0, (h.0, h.1, (r.0, r.1, refl)))
-  some_text (MadeOf count scale joint) has = let h = hypers_exist joint in (make_text count scale h.0, (h.0, h.1, refl))
-  some_text (TrailOf turns p) has = let counts = trails_exist turns p in (trail_text counts.0, (counts.0, counts.1, refl))
-  some_text (BlameOf turns p) has = let blames = blames_exist turns p in (blame_text (run_scale turns p) blames.0, (blames.0, blames.1, refl))
-  some_text (VerdictOn json a b v) has = ((if json then cert_text a.target v else verdict_text a.target v), (has, refl))
-  some_text (MarkOf mark) has = (line (mark_text mark), refl)
-  some_text (CapacityOf g) has = (capacity_text g, refl)
-  some_text (AlgebraOf first second both) has = (algebra_text first second both, refl)
+      (prints (report_text g l), (h.0, h.1, (l, record { prior = r.0.1; posterior = r.1.1; whole = refl }, refl)))
 
-  -- each result whose statement has a text is that of some answer
-  settled : (r : Result Statement Refused) → ((statement : Statement) → r ≡ Ok statement → HasText statement) → (answer : Answer) × Settled r answer
-  settled (Ok statement) has =
-      let text = some_text statement (has statement refl) in
-      let shown : Shown = record { yes = says_yes statement; bytes = text.0 } in
-      (showing shown, (shown, record { text = text.1; yes = refl }, refl))
-  settled (Err r) has = (refusing r, refl)
+  some_attack : SomeAttacks → (target : List Item) (scale : ℕ) (joint : List Cell) (g : GainOf TableTree) → HasActions g → IsShaped scale joint → HasSome (AttackOf target scale joint g)
+  some_attack attacks_exist target scale joint g has is =
+      let h = hypers_exist joint in
+      let attacks = attacks_exist is.0 scale g h.0 (is.1 h.0 h.1) has in
+      (prints (attack_text g target scale h.0 attacks.0), (h.0, h.1, (attacks.0, attacks.1, refl)))
+
+  some_reach : SomeReach → (num den scale : ℕ) (joint : List Cell) → 1 ≤ num → num ≤ den → IsShaped scale joint → HasSome (ReachOf num den scale joint)
+  some_reach reaches_exist num den scale joint some few is =
+      let h = hypers_exist joint in
+      let r = reaches_exist is.0 scale num den h.0 (is.1 h.0 h.1) some few in
+      (prints (reach_text scale r.0), (h.0, h.1, (r.0, r.1, refl)))
+
+some_traces : RowsExist → (target : List Item) (scale : ℕ) (joint : List Cell) → HasSome (TracesOf target scale joint)
+some_traces rows_exist target scale joint = let rows = rows_exist joint in (prints (trace_text target scale rows.0), (rows.0, rows.1, refl))
+
+some_channel_shown : RowsExist → SomeSecrets → (target : List Item) (joint : List Cell) → HasSome (ChannelOf target joint)
+some_channel_shown rows_exist secrets_exist target joint =
+    let rows = rows_exist joint in
+    let secrets = secrets_exist rows.0 in
+    (prints (channel_text target rows.0 secrets.0), (rows.0, rows.1, (secrets.0, secrets.1, refl)))
+
+some_trail : SomeTrail → (turns : ℕ) (p : ProgramTree) → HasSome (TrailOf turns p)
+some_trail trails_exist turns p = let counts = trails_exist turns p in (prints (trail_text counts.0), (counts.0, counts.1, refl))
+
+some_blame : SomeBlames → (turns : ℕ) (p : ProgramTree) → HasSome (BlameOf turns p)
+some_blame blames_exist turns p = let blames = blames_exist turns p in (prints (blame_text (run_scale turns p) blames.0), (blames.0, blames.1, refl))
 
 -- ---- gains
+
+-- a gain that was given has an action
+same_gain : (given g : GainOf TableTree) → HasActions given → Gives {A = GainOf TableTree} (Ok given) (Ok g) → HasActions g
+same_gain given g has is = let same : g ≡ given = cc in subst HasActions (sym same) has
+
+-- so has one that was read
+read_gain : TablesHaveActions → (target : List Item) (word : GainOf (List ℕ)) (tables : List File) (g : GainOf TableTree) → GainIn target word tables (Ok g) → HasActions g
+read_gain have target Bayes tables g is = same_gain Bayes g tt is
+read_gain have target (Tries k) tables g is = same_gain (Tries k) g tt is
+read_gain have target Guessing tables g is = same_gain Guessing g tt is
+read_gain have target (Table name) (file ∷ []) g is = same_gain (Table is.0) g (have target is.1.0 is.0 is.1.2) is.2
+read_gain have target (Table name) tables g is = absurd (cc)
 
 -- the law of gain tables
 module _ (tables_exist : SomeTable) where
   told_table : (target : List Item) (name bytes : List ℕ) (r : Result TableTree TableError) → IsTable target bytes r → HasSome (TableOf target name bytes)
   told_table target name bytes (Ok t) is = (Ok t, is)
-  told_table target name bytes (Err e) is = (Err (BadTable name (table_word e)), (e, is, refl))
+  told_table target name bytes (Err e) is = (Err (bad_file name (table_word e)), (e, is, refl))
 
-  some_table : (contents : List ℕ → List ℕ) (target : List Item) (name : List ℕ) → HasSome (TableIn contents target name)
-  some_table contents target name =
-      some_after (Gives (source_of contents name)) (TableOf target name)
-      (λ bytes _. let t = tables_exist target bytes in told_table target name bytes t.0 t.1) (some_given (source_of contents name))
+  some_table : (target : List Item) (file : File) → HasSome (TableIn target file)
+  some_table target file =
+      some_after (Gives (source_of file)) (TableOf target file.name)
+      (λ bytes _. let t = tables_exist target bytes in told_table target file.name bytes t.0 t.1) (some_given (source_of file))
 
-  some_gain : (contents : List ℕ → List ℕ) (target : List Item) (g : GainOf (List ℕ)) → HasSome (GainIn contents target g)
-  some_gain contents target Bayes = some_given (Ok Bayes)
-  some_gain contents target (Tries k) = some_given (Ok (Tries k))
-  some_gain contents target Guessing = some_given (Ok Guessing)
-  some_gain contents target (Table name) =
-      some_after (TableIn contents target name) (λ t. Gives (Ok (Table t))) (λ t _. some_given (Ok (Table t))) (some_table contents target name)
+  some_gain : (target : List Item) (g : GainOf (List ℕ)) (tables : List File) → HasSome (GainIn target g tables)
+  some_gain target Bayes tables = some_given (Ok Bayes)
+  some_gain target (Tries k) tables = some_given (Ok (Tries k))
+  some_gain target Guessing tables = some_given (Ok Guessing)
+  some_gain target (Table name) (file ∷ []) =
+      some_after (TableIn target file) (λ t. Gives (Ok (Table t))) (λ t _. some_given (Ok (Table t))) (some_table target file)
+  some_gain target (Table name) tables = some_given (Err usage)
 
--- the laws of hypers and of their sums: what is stated where the width of a gain fits
-some_narrow : HypersExist → SomeAverage → (scale : ℕ) (joint : List Cell) (g : GainOf TableTree) (statement : Statement)
-    → HasSome (λ result. (m : ℕ) × HasWidth joint g m × (result ≡ (if nat_le (scale * m) limit then Ok statement else Err WideGain)))
-some_narrow hypers_exist averages_exist scale joint g statement =
-    let h = hypers_exist joint in
-    let a = averages_exist h.0 in
-    let m = width g (length a.0) in (
-      (if nat_le (scale * m) limit then Ok statement else Err WideGain),
-      (m, record { inners = h.0; is_hyper = h.1; is_width = record { average = a.0; is_average = a.1; is = refl } }, refl),
-    )
+-- the laws of hypers and of their sums: the width of a gain, where it fits
+module _ (hypers_exist : HypersExist) (averages_exist : SomeAverage) where
+  some_narrow : (scale : ℕ) (joint : List Cell) (g : GainOf TableTree) → HasSome (NarrowGain scale joint g)
+  some_narrow scale joint g =
+      let h = hypers_exist joint in
+      let a = averages_exist h.0 in
+      let m = width g (length a.0) in (
+        (if nat_le (scale * m) limit then Ok m else Err (refusal 7 [] (codes "gain passes 2^127 - 1"))),
+        (m, record { inners = h.0; is_hyper = h.1; is_width = record { average = a.0; is_average = a.1; is = refl } }, refl),
+      )
+
+  some_report_in : SomeReport → (scale : ℕ) (joint : List Cell) (g : GainOf TableTree) → HasActions g → HasSome (ReportIn scale joint g)
+  some_report_in reports_exist scale joint g has =
+      some_after (NarrowGain scale joint g) (λ m. ReportOf scale joint g) (λ m _. some_report hypers_exist reports_exist scale joint g has) (some_narrow scale joint g)
+
+  some_attack_in : SomeAttacks → (target : List Item) (scale : ℕ) (joint : List Cell) → IsShaped scale joint → (g : GainOf TableTree) → HasActions g → HasSome (AttackIn target scale joint g)
+  some_attack_in attacks_exist target scale joint is g has =
+      some_after (NarrowGain scale joint g) (λ m. AttackOf target scale joint g) (λ m _. some_attack hypers_exist attacks_exist target scale joint g has is) (some_narrow scale joint g)
 
 -- ---- verdicts and certificates
 
@@ -235,17 +240,25 @@ some_tree hypers_exist turns p =
     let tree : HyperTree = record { target = p.target; scale = run_scale turns p; inners = h.0 } in
     (tree, record { target = refl; scale = refl; is_hyper = h.1 })
 
-some_refine : HypersExist → SomeVerdict → AreProper → (json : Bool) (turns : ℕ) (p q : ProgramTree) → IsClear turns p → IsClear turns q → HasSome (RefineOutcome json turns p q)
-some_refine hypers_exist verdicts_exist are_proper json turns p q clear clear' =
+some_verdict_shown : VerdictsProve → (json : Bool) (a b : HyperTree) → IsProper a → IsProper b → (r : Result VerdictTree RefineError) → IsVerdict a b most_pivots r → HasSome (VerdictShown json a b r)
+some_verdict_shown verdicts_prove json a b proper proper' (Ok v) is =
+    (shows (is_yes v) (if json then cert_text a.target v else verdict_text a.target v), (verdicts_prove a b most_pivots v proper proper' is, refl))
+some_verdict_shown verdicts_prove json a b proper proper' (Err e) is = (Err (verdict_refusal e), refl)
+
+some_refine : HypersExist → SomeVerdict → VerdictsProve → AreProper → (json : Bool) (turns : ℕ) (p q : ProgramTree) → IsClear turns p → IsClear turns q → HasSome (RefineOutcome json turns p q)
+some_refine hypers_exist verdicts_exist verdicts_prove are_proper json turns p q clear clear' =
     let a = some_tree hypers_exist turns p in
     let b = some_tree hypers_exist turns q in
-    let v = verdicts_exist a.0 b.0 most_pivots (are_proper turns p a.0 clear a.1) (are_proper turns q b.0 clear' b.1) in
-    (verdict_stated json a.0 b.0 v.0, (a.0, b.0, record { first = a.1; second = b.1 }, (v.0, v.1, refl)))
+    let proper = are_proper turns p a.0 clear a.1 in
+    let proper' = are_proper turns q b.0 clear' b.1 in
+    let v = verdicts_exist a.0 b.0 most_pivots proper proper' in
+    let s = some_verdict_shown verdicts_prove json a.0 b.0 proper proper' v.0 v.1 in
+    (s.0, (a.0, b.0, record { first = a.1; second = b.1 }, (v.0, v.1, s.1)))
 
-some_cert : (contents : List ℕ → List ℕ) (name : List ℕ) → HasSome (CertIn contents name)
-some_cert contents name =
-    some_after (Gives (source_of contents name)) (λ bytes. Gives (cert_read name (cert_of bytes)))
-    (λ bytes _. some_given (cert_read name (cert_of bytes))) (some_given (source_of contents name))
+some_cert : (file : File) → HasSome (CertIn file)
+some_cert file =
+    some_after (Gives (source_of file)) (λ bytes. Gives (cert_read file.name (cert_of bytes)))
+    (λ bytes _. some_given (cert_read file.name (cert_of bytes))) (some_given (source_of file))
 
 -- what is read is a certificate
 pub reads : (name : List ℕ) (r : Result CertTree CertError) (c : CertTree) → Ok c ≡ cert_read name r → r ≡ Ok c
@@ -256,23 +269,23 @@ module _ (marks_exist : SomeMark) (a b : HyperTree) (c : CertTree) where
   some_mark : IsProper a → IsProper b → IsSound c → HasSome (MarkIn a b c)
   some_mark proper proper' sound =
       ⊎_elim
-      (λ (same : a.target ≡ b.target). let m = marks_exist a b c proper proper' same sound in (mark_stated m.0, inr (same, (m.0, m.1, refl))))
-      (λ other. (Err OtherTarget, inl (other, refl)))
+      (λ (same : a.target ≡ b.target). let m = marks_exist a b c proper proper' same sound in (mark_shown m.0, inr (same, (m.0, m.1, refl))))
+      (λ other. (Err other_target, inl (other, refl)))
       (same_targets a.target b.target)
 
 -- the laws of hypers, of what is read and of marks
 module _ (hypers_exist : HypersExist) (read_sound : ReadSound) (marks_exist : SomeMark) (are_proper : AreProper) where
-  some_marked : (turns : ℕ) (p q : ProgramTree) → IsClear turns p → IsClear turns q → (c : CertTree) → IsSound c → HasSome (λ result. (a b : HyperTree) × AreHypers turns p q a b × MarkIn a b c result)
-  some_marked turns p q clear clear' c sound =
+  some_mark_on : (turns : ℕ) (p q : ProgramTree) → IsClear turns p → IsClear turns q → (c : CertTree) → IsSound c → HasSome (MarkOn turns p q c)
+  some_mark_on turns p q clear clear' c sound =
       let a = some_tree hypers_exist turns p in
       let b = some_tree hypers_exist turns q in
       let m = some_mark marks_exist a.0 b.0 c (are_proper turns p a.0 clear a.1) (are_proper turns q b.0 clear' b.1) sound in
       (m.0, (a.0, b.0, record { first = a.1; second = b.1 }, m.1))
 
-  some_check : (contents : List ℕ → List ℕ) (name : List ℕ) (turns : ℕ) (p q : ProgramTree) → IsClear turns p → IsClear turns q → HasSome (CheckOutcome contents name turns p q)
-  some_check contents name turns p q clear clear' =
-      some_after (CertIn contents name) (λ c result. (a b : HyperTree) × AreHypers turns p q a b × MarkIn a b c result)
-      (λ c is. some_marked turns p q clear clear' c (read_sound is.0 c (reads name (cert_of is.0) c is.2))) (some_cert contents name)
+  some_check : (file : File) (turns : ℕ) (p q : ProgramTree) → IsClear turns p → IsClear turns q → HasSome (After (CertIn file) (MarkOn turns p q))
+  some_check file turns p q clear clear' =
+      some_after (CertIn file) (MarkOn turns p q)
+      (λ c is. some_mark_on turns p q clear clear' c (read_sound is.0 c (reads file.name (cert_of is.0) c is.2))) (some_cert file)
 
 -- ---- capacities
 
@@ -289,138 +302,53 @@ module _ (rows_exist : RowsExist) (secrets_exist : SomeSecrets) where
   some_capacity : (turns : ℕ) (p : ProgramTree) → HasSome (CapacityIn turns p)
   some_capacity turns p =
       let c = some_channel turns p in
-      ((if is_narrow (channel_grid c.0) then Ok (CapacityOf (channel_grid c.0)) else Err WideChannel), (c.0, c.1, refl))
+      ((if is_narrow (channel_grid c.0) then prints (capacity_text (channel_grid c.0)) else Err wide_channel), (c.0, c.1, refl))
 
   some_composition : (way : Composition) (turns : ℕ) (p q : ProgramTree) → HasSome (ComposedIn way turns p q)
   some_composition way turns p q =
       let c = some_channel turns p in
       let d = some_channel turns q in
       let algebra =
-      some_after (Composed way c.0 d.0) (λ g. Gives (algebra_stated (channel_grid c.0) (channel_grid d.0) g))
-      (λ g _. some_given (algebra_stated (channel_grid c.0) (channel_grid d.0) g)) (some_composed way c.0 d.0) in
+      some_after (Composed way c.0 d.0) (λ g. Gives (algebra_shown (channel_grid c.0) (channel_grid d.0) g))
+      (λ g _. some_given (algebra_shown (channel_grid c.0) (channel_grid d.0) g)) (some_composed way c.0 d.0) in
       (algebra.0, (c.0, d.0, c.1, d.1, algebra.1))
 
 -- ---- commands
 
-module _ (made_exist : (count turns : ℕ) → HasSome (MadeOutcome count turns)) (tables_exist : SomeTable) (rows_exist : RowsExist) (secrets_exist : SomeSecrets) (hypers_exist : HypersExist)
-    (averages_exist : SomeAverage) (verdicts_exist : SomeVerdict) (read_sound : ReadSound) (marks_exist : SomeMark) (are_proper : AreProper) (contents : List ℕ → List ℕ) (turns : ℕ) where
-  some_command : (command : Command) (ps : List ProgramTree) → Every (IsClear turns) ps → HasSome (CommandOutcome contents command turns ps)
-  some_command Hyper (p ∷ []) clear = some_given (Ok (HyperOf p.target (run_scale turns p) (joint_of turns p)))
-  some_command Traces (p ∷ []) clear = some_given (Ok (TracesOf p.target (run_scale turns p) (joint_of turns p)))
-  some_command Channel (p ∷ []) clear = some_given (channel_statement turns p)
-  some_command (Make count) [] clear = made_exist count turns
-  some_command Trail (p ∷ []) clear = some_given (Ok (TrailOf turns p))
-  some_command Capacity (p ∷ []) clear =
-      some_after (Gives (initial p)) (CapacityIn turns) (λ read _. some_capacity rows_exist secrets_exist turns read) (some_given (initial p))
-  some_command (Compose way) (p ∷ q ∷ []) clear =
+module _ (made_exist : (count turns : ℕ) → HasSome (MadeOutcome count turns)) (tables_exist : SomeTable) (tables_have_actions : TablesHaveActions) (rows_exist : RowsExist) (secrets_exist : SomeSecrets)
+    (hypers_exist : HypersExist) (averages_exist : SomeAverage) (verdicts_exist : SomeVerdict) (verdicts_prove : VerdictsProve) (read_sound : ReadSound) (marks_exist : SomeMark)
+    (are_proper : AreProper) (reports_exist : SomeReport) (trails_exist : SomeTrail) (attacks_exist : SomeAttacks) (reaches_exist : SomeReach) (blames_exist : SomeBlames) (turns : ℕ) where
+  some_command : (command : Command) → IsInRange command → (tables : List File) (ps : List ProgramTree) → Every (IsClear turns) ps → HasSome (CommandOutcome command turns tables ps)
+  some_command Hyper has tables (p ∷ []) clear = some_hyper hypers_exist p.target (run_scale turns p) (joint_of turns p)
+  some_command Traces has tables (p ∷ []) clear = some_traces rows_exist p.target (run_scale turns p) (joint_of turns p)
+  some_command Channel has tables (p ∷ []) clear =
+      some_after (Gives (initial p)) (λ p. ChannelOf p.target (joint_of turns p)) (λ q _. some_channel_shown rows_exist secrets_exist q.target (joint_of turns q)) (some_given (initial p))
+  some_command Trail has tables (p ∷ []) clear = some_trail trails_exist turns p
+  some_command Capacity has tables (p ∷ []) clear =
+      some_after (Gives (initial p)) (CapacityIn turns) (λ q _. some_capacity rows_exist secrets_exist turns q) (some_given (initial p))
+  some_command (Compose way) has tables (p ∷ q ∷ []) clear =
       some_after (Gives (initial p)) (λ p. After (Gives (initial q)) (λ q. ComposedIn way turns p q))
       (λ first _. some_after (Gives (initial q)) (λ q. ComposedIn way turns first q)
       (λ second _. some_composition rows_exist secrets_exist way turns first second) (some_given (initial q)))
       (some_given (initial p))
-  some_command (Leak g) (p ∷ []) clear =
-      some_after (GainIn contents p.target g) (ReportIn (run_scale turns p) (joint_of turns p))
-      (λ read _. some_narrow hypers_exist averages_exist (run_scale turns p) (joint_of turns p) read (ReportOf read (run_scale turns p) (joint_of turns p))) (some_gain tables_exist contents p.target g)
-  some_command (Attack g) (p ∷ []) clear =
-      some_after (GainIn contents p.target g) (AttackIn p.target (run_scale turns p) (joint_of turns p))
-      (λ read _. some_narrow hypers_exist averages_exist (run_scale turns p) (joint_of turns p) read (AttackOf read p.target (run_scale turns p) (joint_of turns p)))
-      (some_gain tables_exist contents p.target g)
-  some_command (Reach num den) (p ∷ []) clear = some_given (Ok (ReachOf num den (run_scale turns p) (joint_of turns p)))
-  some_command (Refine json) (p ∷ q ∷ []) clear = some_refine hypers_exist verdicts_exist are_proper json turns p q clear.0 clear.1.0
-  some_command (Check name) (p ∷ q ∷ []) clear = some_check hypers_exist read_sound marks_exist are_proper contents name turns p q clear.0 clear.1.0
-  some_command Covers (p ∷ q ∷ []) clear = some_refine hypers_exist verdicts_exist are_proper false turns p q clear.0 clear.1.0
-  some_command (Quiet from to) (p ∷ []) clear = some_given (Ok (HyperOf p.target (run_scale turns p) (quiet_joint turns p from to)))
-  some_command Blame (p ∷ []) clear = some_given (Ok (BlameOf turns p))
-  some_command command ps clear = some_given (Err Usage)
-
--- what is stated where a test holds
-stated : (b : Bool) (given statement : Statement) (r : Refused) → HasText given → Ok statement ≡ (if b then Ok given else Err r) → HasText statement
-stated true given statement r has is = let same : statement ≡ given = cc in subst HasText (sym same) has
-stated false given statement r has is = absurd (cc)
-
-same_gain : (given g : GainOf TableTree) → HasActions given → Gives {A = GainOf TableTree} (Ok given) (Ok g) → HasActions g
-same_gain given g has is = let same : g ≡ given = cc in subst HasActions (sym same) has
-
--- what is stated of a verdict is one
-pub verdict_of : (json : Bool) (a b : HyperTree) (r : Result VerdictTree RefineError) (statement : Statement) → Ok statement ≡ verdict_stated json a b r
-    → (v : VerdictTree) × (r ≡ Ok v) × (statement ≡ VerdictOn json a b v)
-verdict_of json a b (Ok v) statement is = (v, refl, (cc))
-verdict_of json a b (Err refine.Targets) statement is = absurd (cc)
-verdict_of json a b (Err (refine.Cells cells)) statement is = absurd (cc)
-verdict_of json a b (Err (refine.Wide pivots)) statement is = absurd (cc)
-verdict_of json a b (Err refine.Budget) statement is = absurd (cc)
-verdict_of json a b (Err refine.Mem) statement is = absurd (cc)
-
-mark_text_has : (r : Result Mark CheckError) (statement : Statement) → Ok statement ≡ mark_stated r → HasText statement
-mark_text_has (Ok mark) statement is = stated true (MarkOf mark) statement Usage tt is
-mark_text_has (Err check.Wide) statement is = absurd (cc)
-mark_text_has (Err check.Mem) statement is = absurd (cc)
-
-marked_text : (a b : HyperTree) (c : CertTree) (statement : Statement) → MarkIn a b c (Ok statement) → HasText statement
-marked_text a b c statement is =
-    ⊎_elim (λ (other : (a.target ≢ b.target) × (Ok statement ≡ Err OtherTarget)). let never : Ok statement ≡ Err OtherTarget = other.1 in absurd (cc))
-    (λ marked. mark_text_has marked.1.0 statement marked.1.2) is
-
-algebra_text_has : (c d : ChannelTree) (g : GridTree) (statement : Statement) → Ok statement ≡ algebra_stated (channel_grid c) (channel_grid d) g → HasText statement
-algebra_text_has c d g statement is =
-    stated (is_narrow (channel_grid c) && (is_narrow (channel_grid d) && is_narrow g)) (AlgebraOf (channel_grid c) (channel_grid d) g) statement WideChannel tt is
-
--- the laws of gain tables and of verdicts
-module _ (tasks_in_range : TasksInRange) (tables_have_actions : TablesHaveActions) (verdicts_prove : VerdictsProve) (are_proper : AreProper) (contents : List ℕ → List ℕ) where
-  -- a gain that was read has an action
-  read_gain : (target : List Item) (word : GainOf (List ℕ)) (g : GainOf TableTree) → GainIn contents target word (Ok g) → HasActions g
-  read_gain target Bayes g is = same_gain Bayes g tt is
-  read_gain target (Tries k) g is = same_gain (Tries k) g tt is
-  read_gain target Guessing g is = same_gain Guessing g tt is
-  read_gain target (Table name) g is = same_gain (Table is.0) g (tables_have_actions target is.1.0 is.0 is.1.2) is.2
-
-  refine_text : (json : Bool) (turns : ℕ) (p q : ProgramTree) → IsClear turns p → IsClear turns q → (statement : Statement) → RefineOutcome json turns p q (Ok statement) → HasText statement
-  refine_text json turns p q clear clear' statement is =
-      let v = verdict_of json is.0 is.1 is.3.0 statement is.3.2 in
-      let verdict = subst (λ (r : Result VerdictTree RefineError). IsVerdict is.0 is.1 most_pivots r) v.1 is.3.1 in
-      subst HasText (sym v.2) (verdicts_prove is.0 is.1 most_pivots v.0 (are_proper turns p is.0 clear is.2.first) (are_proper turns q is.1 clear' is.2.second) verdict)
-
-  -- the hyper of a clear program has a shape
-  shaped : (turns : ℕ) (p : ProgramTree) → IsClear turns p → IsShaped (run_scale turns p) (joint_of turns p)
-  shaped turns p clear = (
-    target_size p.target,
-    λ inners is. are_proper turns p (record { target = p.target; scale = run_scale turns p; inners = inners }) clear
-        (record { target = refl; scale = refl; is_hyper = is }),
-  )
-
-  -- what a command states has a text
-  command_text : (command : Command) → IsInRange command → (turns : ℕ) (ps : List ProgramTree) → Every (IsClear turns) ps → (statement : Statement) → CommandOutcome contents command turns ps (Ok statement) → HasText statement
-  command_text Hyper has turns (p ∷ []) clear statement is = stated true (HyperOf p.target (run_scale turns p) (joint_of turns p)) statement Usage tt is
-  command_text Traces has turns (p ∷ []) clear statement is = stated true (TracesOf p.target (run_scale turns p) (joint_of turns p)) statement Usage tt is
-  command_text Channel has turns (p ∷ []) clear statement is = stated (all_initial p.target) (ChannelOf p.target (joint_of turns p)) statement NotInitial tt is
-  command_text (Make count) has turns [] clear statement is = stated true (MadeOf count (run_scale turns is.2.0) (joint_of turns is.2.0)) statement Usage tt is.2.2
-  command_text Trail has turns (p ∷ []) clear statement is = stated true (TrailOf turns p) statement Usage tt is
-  command_text Capacity has turns (p ∷ []) clear statement is =
-      stated (is_narrow (channel_grid is.2.0)) (CapacityOf (channel_grid is.2.0)) statement WideChannel tt is.2.2
-  command_text (Compose way) has turns (p ∷ q ∷ []) clear statement is = algebra_text_has is.2.2.0 is.2.2.1 is.2.2.4.0 statement is.2.2.4.2
-  command_text (Leak word) has turns (p ∷ []) clear statement is =
-      stated (nat_le (run_scale turns p * is.2.0) limit) (ReportOf is.0 (run_scale turns p) (joint_of turns p)) statement WideGain
-      (read_gain p.target word is.0 is.1) is.2.2
-  command_text (Attack word) has turns (p ∷ []) clear statement is =
-      stated (nat_le (run_scale turns p * is.2.0) limit) (AttackOf is.0 p.target (run_scale turns p) (joint_of turns p)) statement WideGain
-      (read_gain p.target word is.0 is.1, shaped turns p clear.0) is.2.2
-  command_text (Reach num den) has turns (p ∷ []) clear statement is =
-      stated true (ReachOf num den (run_scale turns p) (joint_of turns p)) statement Usage (has.0, has.1, shaped turns p clear.0) is
-  command_text (Refine json) has turns (p ∷ q ∷ []) clear statement is = refine_text json turns p q clear.0 clear.1.0 statement is
-  command_text (Check name) has turns (p ∷ q ∷ []) clear statement is = marked_text is.2.0 is.2.1 is.0 statement is.2.3
-  command_text Covers has turns (p ∷ q ∷ []) clear statement is = refine_text false turns p q clear.0 clear.1.0 statement is
-  command_text (Quiet from to) has turns (p ∷ []) clear statement is = stated true (HyperOf p.target (run_scale turns p) (quiet_joint turns p from to)) statement Usage tt is
-  command_text Blame has turns (p ∷ []) clear statement is = stated true (BlameOf turns p) statement Usage tt is
-  command_text command has turns ps clear statement is = absurd (cc)
-
-  task_text : AreClear → (task : Option Task) → ((t : Task) → task ≡ Some t → IsInRange t.command) → (statement : Statement)
-      → SomeOutcome contents task (Ok statement) → HasText statement
-  task_text are_clear None has statement is = absurd (cc)
-  task_text are_clear (Some task) has statement is =
-      command_text task.command (has task refl) task.turns is.0 (are_clear contents task is.0 is.1) statement is.2
-
-  -- what words state has one
-  pub stated_text : AreClear → (words : List (List ℕ)) (statement : Statement) → Outcome words contents (Ok statement) → HasText statement
-  stated_text are_clear words statement is = task_text are_clear (task_of words) (λ t asked. (tasks_in_range words t asked).0) statement is
+  some_command (Make count) has tables [] clear = made_exist count turns
+  some_command (Leak g) has tables (p ∷ []) clear =
+      some_after (GainIn p.target g tables) (ReportIn (run_scale turns p) (joint_of turns p))
+      (λ t is. some_report_in hypers_exist averages_exist reports_exist (run_scale turns p) (joint_of turns p) t (read_gain tables_have_actions p.target g tables t is))
+      (some_gain tables_exist p.target g tables)
+  some_command (Attack g) has tables (p ∷ []) clear =
+      some_after (GainIn p.target g tables) (AttackIn p.target (run_scale turns p) (joint_of turns p))
+      (λ t is. some_attack_in hypers_exist averages_exist attacks_exist p.target (run_scale turns p) (joint_of turns p) (shaped are_proper turns p clear.0) t
+      (read_gain tables_have_actions p.target g tables t is))
+      (some_gain tables_exist p.target g tables)
+  some_command (Reach num den) has tables (p ∷ []) clear =
+      some_reach hypers_exist reaches_exist num den (run_scale turns p) (joint_of turns p) has.0 has.1 (shaped are_proper turns p clear.0)
+  some_command (Refine json) has tables (p ∷ q ∷ []) clear = some_refine hypers_exist verdicts_exist verdicts_prove are_proper json turns p q clear.0 clear.1.0
+  some_command (Check name) has (file ∷ []) (p ∷ q ∷ []) clear = some_check hypers_exist read_sound marks_exist are_proper file turns p q clear.0 clear.1.0
+  some_command Covers has tables (p ∷ q ∷ []) clear = some_refine hypers_exist verdicts_exist verdicts_prove are_proper false turns p q clear.0 clear.1.0
+  some_command (Quiet from to) has tables (p ∷ []) clear = some_hyper hypers_exist p.target (run_scale turns p) (quiet_joint turns p from to)
+  some_command Blame has tables (p ∷ []) clear = some_blame blames_exist turns p
+  some_command command has tables ps clear = some_given (Err usage)
 
 -- ---- outcomes
 
@@ -447,16 +375,15 @@ module _ (read : (src : List ℕ) → ((ts : List Token) × IsTokens src ts) ⊎
       (λ tree is. some_with name bytes tree (built bytes tokens tree is.program)) (some_source name bytes tokens))
       (some_tokens name bytes)
 
-  some_made : (count turns : ℕ) → HasSome (MadeOutcome count turns)
-  some_made count turns =
-      some_after (TypedOf [] (make_source count)) (λ t. After (Gives (cleared turns t)) (λ q. Gives (Ok (MadeOf count (run_scale turns q) (joint_of turns q)))))
-      (λ t _. some_after (Gives (cleared turns t)) (λ q. Gives (Ok (MadeOf count (run_scale turns q) (joint_of turns q))))
-      (λ q _. some_given (Ok (MadeOf count (run_scale turns q) (joint_of turns q)))) (some_given (cleared turns t)))
+  some_made : HypersExist → (count turns : ℕ) → HasSome (MadeOutcome count turns)
+  some_made hypers_exist count turns =
+      some_after (TypedOf [] (make_source count)) (λ t. After (Gives (cleared turns t)) (λ q. MadeOf count (run_scale turns q) (joint_of turns q)))
+      (λ t _. some_after (Gives (cleared turns t)) (λ q. MadeOf count (run_scale turns q) (joint_of turns q))
+      (λ q _. some_made_hyper hypers_exist count (run_scale turns q) (joint_of turns q)) (some_given (cleared turns t)))
       (some_typed [] (make_source count))
 
-  some_read : (contents : List ℕ → List ℕ) (name : List ℕ) → HasSome (TextOf contents name)
-  some_read contents name =
-      some_after (Gives (source_of contents name)) (TypedOf name) (λ bytes _. some_typed name bytes) (some_given (source_of contents name))
+  some_read : (file : File) → HasSome (TextOf file)
+  some_read file = some_after (Gives (source_of file)) (TypedOf file.name) (λ bytes _. some_typed file.name bytes) (some_given (source_of file))
 
   some_full : (t : Text) → IsTyped t → HasSome (FullOf t)
   some_full t has = some_with t.name t.bytes (full_source t.program.types t.source) (full_built t.source t.program has.built has.typed)
@@ -475,28 +402,26 @@ module _ (read : (src : List ℕ) → ((ts : List Token) × IsTokens src ts) ⊎
   some_ready (Quiet from to) turns ts all = some_each (LongCleared turns to) (λ t. Unit {0}) (λ t any. some_long turns to t) ts (every_one ts)
   some_ready command turns ts all = all_given (cleared turns) ts
 
-  some_cleared : (contents : List ℕ → List ℕ) (task : Task) → HasSome (ClearedOf contents task)
-  some_cleared contents task =
-      some_after (Each (TextOf contents) task.files) (ReadyOf task.command task.turns)
-      (λ ts is. some_ready task.command task.turns ts (texts_typed built contents task.files ts is))
-      (some_each (TextOf contents) (λ name. Unit {0}) (λ name any. some_read contents name) task.files (every_one task.files))
+  some_cleared : (command : Command) (turns : ℕ) (programs : List File) → HasSome (ClearedOf command turns programs)
+  some_cleared command turns programs =
+      some_after (Each TextOf programs) (ReadyOf command turns) (λ ts is. some_ready command turns ts (texts_typed built programs ts is))
+      (some_each TextOf (λ file. Unit {0}) (λ file any. some_read file) programs (every_one programs))
 
-  module _ (tables_exist : SomeTable) (rows_exist : RowsExist) (secrets_exist : SomeSecrets) (hypers_exist : HypersExist) (averages_exist : SomeAverage) (verdicts_exist : SomeVerdict) (read_sound : ReadSound)
-      (marks_exist : SomeMark) (are_clear : AreClear) (are_proper : AreProper) where
-    some_task : (contents : List ℕ → List ℕ) (task : Task) → HasSome (TaskOutcome contents task)
-    some_task contents task =
-        some_after (ClearedOf contents task) (CommandOutcome contents task.command task.turns)
-        (λ ps is. some_command some_made tables_exist rows_exist secrets_exist hypers_exist averages_exist verdicts_exist read_sound marks_exist are_proper contents task.turns task.command ps (are_clear contents task ps is))
-        (some_cleared contents task)
+  module _ (tables_exist : SomeTable) (tables_have_actions : TablesHaveActions) (rows_exist : RowsExist) (secrets_exist : SomeSecrets) (hypers_exist : HypersExist) (averages_exist : SomeAverage)
+      (verdicts_exist : SomeVerdict) (verdicts_prove : VerdictsProve) (read_sound : ReadSound) (marks_exist : SomeMark) (are_clear : AreClear) (are_proper : AreProper)
+      (reports_exist : SomeReport) (trails_exist : SomeTrail) (attacks_exist : SomeAttacks) (reaches_exist : SomeReach) (blames_exist : SomeBlames) (programs tables : List File) where
+    some_task : (task : Task) → IsInRange task.command → HasSome (TaskOutcome task programs tables)
+    some_task task has =
+        some_after (ClearedOf task.command task.turns programs) (CommandOutcome task.command task.turns tables)
+        (λ ps is. some_command (some_made hypers_exist) tables_exist tables_have_actions rows_exist secrets_exist hypers_exist averages_exist verdicts_exist verdicts_prove read_sound marks_exist
+        are_proper reports_exist trails_exist attacks_exist reaches_exist blames_exist task.turns task.command has tables ps (are_clear task.command task.turns programs ps is))
+        (some_cleared task.command task.turns programs)
 
-    some_outcome : (contents : List ℕ → List ℕ) (task : Option Task) → HasSome (SomeOutcome contents task)
-    some_outcome contents None = some_given (Err Usage)
-    some_outcome contents (Some task) = some_task contents task
+    some_outcome : (task : Option Task) → ((t : Task) → task ≡ Some t → IsInRange t.command) → HasSome (SomeOutcome task programs tables)
+    some_outcome None has = some_given (Err usage)
+    some_outcome (Some task) has = some_task task (has task refl)
 
-    pub some_answer : TasksInRange → TablesHaveActions → VerdictsProve → SomeReport → SomeTrail → SomeAttacks → SomeReach → SomeBlames
-        → (words : List (List ℕ)) (contents : List ℕ → List ℕ) → (answer : Answer) × IsAnswer words contents answer
-    some_answer tasks_in_range tables_have_actions verdicts_prove reports_exist trails_exist attacks_exist reaches_exist blames_exist words contents =
-        let r = some_outcome contents (task_of words) in
-        let s = settled rows_exist hypers_exist secrets_exist reports_exist trails_exist attacks_exist reaches_exist blames_exist r.0
-        (λ statement is. stated_text tasks_in_range tables_have_actions verdicts_prove are_proper contents are_clear words statement (subst (λ (o : Result Statement Refused). Outcome words contents o) is r.1)) in
-        (s.0, record { result = r.0; outcome = r.1; settled = s.1 })
+    pub some_answer : TasksInRange → (words : List (List ℕ)) → (answer : Answer) × IsAnswer words programs tables answer
+    some_answer tasks_in_range words =
+        let r = some_outcome (task_of words) (λ t asked. (tasks_in_range words t asked).0) in
+        (settled r.0, record { result = r.0; outcome = r.1; settles = refl })

@@ -13,15 +13,17 @@ use Rattle.kf_quiet.specs.Quiet.{quiet_joint}
 use Rattle.kf_refine.specs.Verdicts.{No}
 use Rattle.kf_text.specs.Texts.{hyper_text}
 use Rattle.kf_text.specs.VerdictTexts.{verdict_text}
-use Rattle.kf_top.specs.Answer.{WideCert}
+use Rattle.kf_load.specs.Texts.{File}
+use Rattle.kf_top.specs.Answer.{wide_cert}
 use Rattle.kf_top.specs.Ends.{Answer, IsAnswer, showing, refusing}
 use Rattle.kf_top.specs.Outcome.{ClearedOf}
+use Rattle.kf_laws.specs.Held.{IsAnswerOver, held}
 use Rattle.kf_words.specs.Task.{Task, Hyper, Refine, Check, Covers, Quiet, on_file, on_files, task_of}
 
--- words over files have exactly one defined answer
+-- words over files, whatever their names and their readings, have exactly one defined answer
 abbrev pub ExactlyOneAnswer : Type 0
-ExactlyOneAnswer = (words : List (List ℕ)) (contents : List ℕ → List ℕ)
-    → (answer : Answer) × IsAnswer words contents answer × ((other : Answer) → IsAnswer words contents other → other ≡ answer)
+ExactlyOneAnswer = (words : List (List ℕ)) (programs tables : List File)
+    → (answer : Answer) × IsAnswer words programs tables answer × ((other : Answer) → IsAnswer words programs tables other → other ≡ answer)
 
 -- a task asks for the certificate of a verdict on the programs of two files, and another for the check of a certificate on them
 abbrev pub asks_certificate : List ℕ → List ℕ → ℕ → Task
@@ -35,10 +37,10 @@ asks_check cert first second turns = on_files (Check cert) (first ∷ second ∷
 abbrev pub CertificatesAccepted : Type 0
 CertificatesAccepted = (words others : List (List ℕ)) (contents later : List ℕ → List ℕ) (cert first second : List ℕ) (turns : ℕ)
     (written checked : Answer)
-    → task_of words ≡ Some (asks_certificate first second turns) → IsAnswer words contents written → written.status ≤ 1
-    → task_of others ≡ Some (asks_check cert first second turns) → IsAnswer others later checked
+    → task_of words ≡ Some (asks_certificate first second turns) → IsAnswerOver words contents written → written.status ≤ 1
+    → task_of others ≡ Some (asks_check cert first second turns) → IsAnswerOver others later checked
     → later first ≡ contents first → later second ≡ contents second → later cert ≡ written.out → length written.out ≤ 1048576
-    → (checked ≡ showing (record { yes = true; bytes = codes "accepted" ++ 10 ∷ [] })) ⊎ (checked ≡ refusing WideCert)
+    → (checked ≡ showing (record { yes = true; bytes = codes "accepted" ++ 10 ∷ [] })) ⊎ (checked ≡ refusing wide_cert)
 
 -- a task asks whether the program of the second file leaks no more than that of the first, whatever the prior
 abbrev pub asks_covers : List ℕ → List ℕ → ℕ → Task
@@ -48,8 +50,8 @@ asks_covers first second turns = on_files Covers (first ∷ second ∷ []) turns
 pub record IsCoversAnswer (contents : List ℕ → List ℕ) (first second : List ℕ) (turns : ℕ) (answer : Answer) (p q : ProgramTree) : Type 0 where
   pub words : List (List ℕ)
   pub asks : task_of words ≡ Some (asks_covers first second turns)
-  pub is_answer : IsAnswer words contents answer
-  pub are_cleared : ClearedOf contents (asks_covers first second turns) (Ok (p ∷ q ∷ []))
+  pub is_answer : IsAnswerOver words contents answer
+  pub are_cleared : ClearedOf Covers turns (held contents (first ∷ second ∷ [])) (Ok (p ∷ q ∷ []))
 
 -- where the answer is a yes, the second leaks no more at any prior and under any gain table: its posterior over its scale is at most that
 -- of the first over its own
@@ -79,7 +81,7 @@ pub record AreQuietAnswers (from to turns : ℕ) (hyper quiet : Answer) (p : Pro
 -- what `quiet` states is never worth more to an adversary than what `hyper` states of the same text
 abbrev pub QuietIsNoBetter : Type 0
 QuietIsNoBetter = (words others : List (List ℕ)) (contents : List ℕ → List ℕ) (name : List ℕ) (from to turns : ℕ) (hyper quiet : Answer)
-    → task_of words ≡ Some (on_file Hyper name turns) → IsAnswer words contents hyper → hyper.status ≡ 0
-    → task_of others ≡ Some (on_file (Quiet from to) name turns) → IsAnswer others contents quiet → quiet.status ≡ 0 → from ≤ to
+    → task_of words ≡ Some (on_file Hyper name turns) → IsAnswerOver words contents hyper → hyper.status ≡ 0
+    → task_of others ≡ Some (on_file (Quiet from to) name turns) → IsAnswerOver others contents quiet → quiet.status ≡ 0 → from ≤ to
     → (p : ProgramTree) × (all hushed : List Inner) × AreQuietAnswers from to turns hyper quiet p all hushed
     × ((g : GainOf TableTree) (y z : ℤ) → IsPosterior g hushed y → IsPosterior g all z → NoBetter g y z)

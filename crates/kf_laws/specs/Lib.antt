@@ -1,4 +1,8 @@
+-- Believed by a caller from C
+pub mod Held
 -- For bodies
+pub mod EndsOver
 pub mod Laws
+pub mod Refusals
 pub mod Rooms
 pub mod Written

@@ -1,6 +1,7 @@
 -- For bodies: a certificate that one run wrote and another is to check.
 use Rattle.std.specs.Prelude.{◌≡◌, ℕ, ◌≤◌, List, length, Some}
-use Rattle.kf_top.specs.Ends.{Answer, IsAnswer}
+use Rattle.kf_top.specs.Ends.{Answer}
+use Rattle.kf_laws.specs.Held.{IsAnswerOver}
 use Rattle.kf_laws.specs.Laws.{asks_certificate, asks_check}
 use Rattle.kf_words.specs.Task.{task_of}
 
@@ -15,7 +16,7 @@ pub record ChecksWritten (words : List (List ℕ)) (contents : List ℕ → List
   pub turns : ℕ
   pub written : Answer
   pub asked : task_of others ≡ Some (asks_certificate first second turns)
-  pub is_answer : IsAnswer others earlier written
+  pub is_answer : IsAnswerOver others earlier written
   pub shown : written.status ≤ 1
   pub asks : task_of words ≡ Some (asks_check cert first second turns)
   pub same_first : contents first ≡ earlier first

@@ -1,4 +1,6 @@
+ghost use Rattle.kf_laws.specs.EndsOver.{CausesEndOver};
 ghost use Rattle.kf_laws.specs.Laws.{CertificatesAccepted, CoversAllPriors, ExactlyOneAnswer, NoIsSeparated, QuietIsNoBetter};
+ghost use Rattle.kf_laws.specs.Refusals.{RefusalsAreReasoned, RunsAreRefusedAs};
 
 use kf_attack::{attack_laws, reach_laws};
 use kf_cert::{cert_laws, mark_laws};
@@ -7,6 +9,7 @@ use kf_check::type_laws;
 use kf_core::{joint_laws, run_laws};
 use kf_gain::{average_laws, gain_laws, table_laws};
 use kf_lex::one_reading;
+use kf_make::made_laws;
 use kf_parse::{grammar, refusals};
 use kf_prior::{full_laws, prior_laws};
 use kf_quiet::{blame_laws, quiet_laws};
@@ -14,7 +17,7 @@ use kf_refine::{one_verdict, verdict_laws};
 use kf_run::trail_laws;
 use kf_words::tasks_in_range;
 
-/// A law of the definitions: whatever the words and whatever the files hold, there is exactly one defined answer. It does
+/// A law of the definitions: whatever the words and whatever files there are, read or not, there is exactly one defined answer. It does
 /// nothing when it runs.
 pub fn exactly_one_answer()
     ensures { ExactlyOneAnswer }
@@ -41,11 +44,33 @@ pub fn exactly_one_answer()
     mark_laws();
 }
 
+/// A law of `run`'s clauses: where files tell what they hold, a run ends with the defined answer over the files that the words name, or
+/// its status is that of a failed read or write or of want of memory; it does so for certain where nothing failed. It does nothing when it
+/// runs.
+pub fn told_answers()
+    ensures { CausesEndOver }
+{}
+
+/// Laws of the definitions and of `run`'s clauses: the table of which refusals each command can have, with their status and line, over any
+/// files and for any run. They do nothing when they run.
+pub fn reasoned_refusals()
+    ensures tasks { RefusalsAreReasoned }
+    ensures runs { RunsAreRefusedAs }
+{
+    tasks_in_range();
+    one_reading();
+    grammar();
+    refusals();
+    type_laws();
+    made_laws();
+}
+
 /// A law of the definitions: a certificate that `refine --json` wrote is accepted by `check` for the same two texts and turns, or that check
 /// is too wide. It does nothing when it runs.
 pub fn certificates_accepted()
     ensures { CertificatesAccepted }
 {
+    reasoned_refusals();
     one_reading();
     grammar();
     refusals();
@@ -64,6 +89,7 @@ pub fn covers_all_priors()
     ensures all { CoversAllPriors }
     ensures separated { NoIsSeparated }
 {
+    reasoned_refusals();
     one_reading();
     grammar();
     refusals();
@@ -71,11 +97,12 @@ pub fn covers_all_priors()
     prior_laws();
 }
 
-/// A law of the definitions: whatever the adversary wants, the hyper that `quiet` states is worth no more than the one that `hyper` states
+/// A law of the definitions: whatever the adversary wants, the hyper that `quiet` shows is worth no more than the one that `hyper` shows
 /// of the same text. It does nothing when it runs.
 pub fn quiet_leaks_no_more()
     ensures { QuietIsNoBetter }
 {
+    reasoned_refusals();
     one_reading();
     grammar();
     refusals();

@@ -1,11 +1,12 @@
 ghost use Rattle.std.specs.Prelude.{◌≡◌, ◌≢◌, ◌⊎◌, ◌≤◌, [], map, string_bytes};
 ghost use Rattle.kf_io.specs.Entries.{bytes_of};
 ghost use Rattle.kf_io.specs.Sinks.{room_left};
-ghost use Rattle.kf_top.specs.Ends.{sunk, Answered};
+ghost use Rattle.kf_top.specs.Ends.{sunk};
+ghost use Rattle.kf_laws.specs.EndsOver.{AnsweredOver};
 ghost use Rattle.kf_laws.specs.Rooms.{HasRoom, IsWritten};
 ghost use Rattle.kf_laws.specs.Written.{ChecksWritten};
 
-use crate::definitions::certificates_accepted;
+use crate::definitions::{certificates_accepted, told_answers};
 use kf_io::{MemSink, Sink, SureFiles};
 use kf_top::run;
 use std::alloc::Global;
@@ -24,9 +25,10 @@ pub fn run_over_sure_files<O: Sink, E: Sink>(
     ensures no_fault { HasRoom (map string_bytes words.now) (bytes_of files.old.files) (O.room out.old)
         → O.faults out.new ≤ O.faults out.old }
     ensures answered { HasRoom (map string_bytes words.now) (bytes_of files.old.files) (O.room out.old) → result ≢ 12
-        → Answered (map string_bytes words.now) (bytes_of files.old.files)
+        → AnsweredOver (map string_bytes words.now) (bytes_of files.old.files)
         (sunk O.taken O.faults O.room out.old out.new) (sunk E.taken E.faults E.room err.old err.new) result }
 {
+    told_answers();
     run(alloc, words, files, out, err)
 }
 

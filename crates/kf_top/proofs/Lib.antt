@@ -1,11 +1,12 @@
-pub mod Ending
-pub mod Reporting
-pub mod Lines
-pub mod Placing
 pub mod Steps
-mod Making
-mod Comparing
-mod Filling
-mod Hushing
-mod Measuring
-mod Reaching
+mod Blocks
+mod Capacities
+mod Commands
+mod Ends
+mod FullTexts
+mod Leakage
+mod Lines
+mod Made
+mod Reach
+mod Readings
+mod Verdicts

@@ -1,189 +1,353 @@
--- Believed: what an answer states, and the words of a refusal.
-use Rattle.std.specs.Prelude.{◌≡◌, ℕ, List, [], ◌∷◌, ◌++◌, Bool, true, false, codes, if◌then◌else◌}
+-- Believed: the defined answer to a command on programs: the first refusal, or what is printed.
+use Rattle.std.specs.Prelude.{◌≡◌, ◌≢◌, ◌⊎◌, ℕ, Bool, true, false, ◌&&◌, ◌*◌, List, [], ◌∷◌, ◌++◌, length, nat_le, codes, if◌then◌else◌, Ok, Err}
 use Rattle.std.specs.Fmt.{decimal}
+use Rattle.std.specs.declared.result.Result.{Result}
+use Rattle.kf_frac.specs.Fractions.{limit}
 use Rattle.kf_value.specs.Targets.{Item}
-use Rattle.kf_core.specs.Joint.{Cell}
+use Rattle.kf_core.specs.Joint.{Cell, joint_of}
 use Rattle.kf_core.specs.Programs.{ProgramTree}
 use Rattle.kf_core.specs.Pushing.{IsTrail}
 use Rattle.kf_core.specs.Rows.{AreRowsOf, IsHyperOf}
 use Rattle.kf_core.specs.Scale.{scale_of}
 use Rattle.kf_hyper.specs.Hypers.{Inner}
 use Rattle.kf_hyper.specs.Traces.{Row}
-use Rattle.kf_channel.specs.Channels.{AreSecrets}
-use Rattle.kf_capacity.specs.Grids.{GridTree}
-use Rattle.kf_gain.specs.Gains.{GainOf, TableTree}
+use Rattle.kf_channel.specs.Channels.{AreSecrets, all_initial}
+use Rattle.kf_capacity.specs.Grids.{ChannelTree, GridTree, channel_grid, capacity_of}
+use Rattle.kf_capacity.specs.Compositions.{IsCascade, IsParallel, IsChoice}
+use Rattle.kf_capacity.specs.declared.error.CascadeFault.{CascadeFault}
+use Rattle.kf_capacity.specs.declared.error.CascadeFault.TheVariants as cascade
+use Rattle.kf_capacity.specs.declared.error.ParallelFault.{ParallelFault}
+use Rattle.kf_capacity.specs.declared.error.ParallelFault.TheVariants as parallel
+use Rattle.kf_capacity.specs.declared.error.ChoiceFault.{ChoiceFault}
+use Rattle.kf_capacity.specs.declared.error.ChoiceFault.TheVariants as choice
+use Rattle.kf_gain.specs.declared.error.TableError.{TableError}
+use Rattle.kf_gain.specs.declared.error.TableError.TheVariants as table
+use Rattle.kf_gain.specs.Gains.{GainOf, Bayes, Tries, Guessing, Table, TableTree}
+use Rattle.kf_gain.specs.Tables.{IsTable}
+use Rattle.kf_gain.specs.Vulnerabilities.{IsWidth}
 use Rattle.kf_report.specs.Reports.{Leakage, IsLeakage}
 use Rattle.kf_attack.specs.Attacks.{AttackTree, AreAttacks, ReachTree, IsReach}
+use Rattle.kf_load.specs.Steps.{Refused, Step, After, Gives, refusal}
+use Rattle.kf_load.specs.Texts.{File, TypedOf, cleared, source_of}
+use Rattle.kf_make.specs.Making.{make_source}
 use Rattle.kf_quiet.specs.Blames.{BlameTree, AreBlames}
+use Rattle.kf_quiet.specs.Quiet.{quiet_joint}
 use Rattle.kf_refine.specs.Refinements.{HyperTree}
-use Rattle.kf_refine.specs.Verdicts.{VerdictTree, No, Proves}
+use Rattle.kf_refine.specs.Verdicts.{VerdictTree, Yes, No, IsVerdict, Proves}
+use Rattle.kf_refine.specs.declared.verdict.RefineError.{RefineError}
+use Rattle.kf_refine.specs.declared.verdict.RefineError.TheVariants as refine
 use Rattle.kf_cert.specs.CertTexts.{cert_text}
+use Rattle.kf_cert.specs.Certificates.{CertTree, cert_of}
+use Rattle.kf_cert.specs.Marks.{IsMarked}
+use Rattle.kf_cert.specs.declared.cert.CertError.{CertError}
+use Rattle.kf_cert.specs.declared.cert.CertError.TheVariants as cert
 use Rattle.kf_cert.specs.declared.mark.Mark.{Mark}
-use Rattle.kf_cert.specs.declared.mark.Mark.TheVariants.{Rejected}
+use Rattle.kf_cert.specs.declared.mark.Mark.TheVariants.{Accepted, Rejected}
+use Rattle.kf_cert.specs.declared.mark.CheckError.{CheckError}
+use Rattle.kf_cert.specs.declared.mark.CheckError.TheVariants as check
 use Rattle.kf_text.specs.Texts.{line, hyper_text, trace_text, channel_text, trail_text, make_text}
 use Rattle.kf_text.specs.AttackTexts.{attack_text, reach_text}
 use Rattle.kf_text.specs.BlameTexts.{blame_text}
 use Rattle.kf_text.specs.CapacityTexts.{capacity_text, algebra_text}
 use Rattle.kf_text.specs.ReportTexts.{report_text}
 use Rattle.kf_text.specs.VerdictTexts.{verdict_text, mark_text}
+use Rattle.kf_words.specs.Task.{Command, Hyper, Traces, Channel, Trail, Capacity, Compose, Leak, Attack, Reach, Make, Refine, Check, Covers, Quiet, Blame}
+use Rattle.kf_words.specs.Task.{Composition, Cascade, Parallel, Choice}
 
--- what the bytes of an answer state
-pub data Statement : Type 0 where
-  -- the hyper of a joint over a scale, for a target
-  HyperOf : List Item → ℕ → List Cell → Statement
-  -- its traces, each with its column
-  TracesOf : List Item → ℕ → List Cell → Statement
-  -- the channel from its values to its traces
-  ChannelOf : List Item → List Cell → Statement
-  -- how much a gain's best action gains by what is shown
-  ReportOf : GainOf TableTree → ℕ → List Cell → Statement
-  -- what is best done at each of its inners, under a gain
-  AttackOf : GainOf TableTree → List Item → ℕ → List Cell → Statement
-  -- the least number of tries with which its posterior is at least num / den
-  ReachOf : ℕ → ℕ → ℕ → List Cell → Statement
-  -- how many beliefs stand behind each statement of a program, whose loops turn at most so often
-  TrailOf : ℕ → ProgramTree → Statement
-  -- the hyper of so many noisy observations, by its scale and joint
-  MadeOf : ℕ → ℕ → List Cell → Statement
-  -- whether the second of two hypers leaks no more than the first, maybe as a certificate
-  VerdictOn : Bool → HyperTree → HyperTree → VerdictTree → Statement
-  -- what a check says of a certificate
-  MarkOf : Mark → Statement
-  -- the Bayes capacity of a channel, by its grid
-  CapacityOf : GridTree → Statement
-  -- the capacities of two channels, and of what was put together of them
-  AlgebraOf : GridTree → GridTree → GridTree → Statement
-  -- how much is seen of a program, whose loops turn at most so often, and how much where each outermost statement in turn is quiet
-  BlameOf : ℕ → ProgramTree → Statement
-
--- the bytes are the statement's text
-abbrev pub IsText : Statement → List ℕ → Type 0
-IsText (HyperOf target scale joint) bytes =
-    (inners : List Inner) × IsHyperOf joint inners × (bytes ≡ hyper_text target scale inners)
-IsText (TracesOf target scale joint) bytes =
-    (rows : List Row) × AreRowsOf joint rows × (bytes ≡ trace_text target scale rows)
-IsText (ChannelOf target joint) bytes =
-    (rows : List Row) × AreRowsOf joint rows
-    × ((secrets : List ℕ) × AreSecrets rows secrets × (bytes ≡ channel_text target rows secrets))
-IsText (ReportOf g scale joint) bytes =
-    (inners : List Inner) × IsHyperOf joint inners × ((l : Leakage) × IsLeakage g scale inners l × (bytes ≡ report_text g l))
-IsText (MadeOf count scale joint) bytes = (inners : List Inner) × IsHyperOf joint inners × (bytes ≡ make_text count scale inners)
-IsText (VerdictOn json a b v) bytes = Proves a b v × (bytes ≡ (if json then cert_text a.target v else verdict_text a.target v))
-IsText (MarkOf mark) bytes = bytes ≡ line (mark_text mark)
-IsText (AttackOf g target scale joint) bytes =
-    (inners : List Inner) × IsHyperOf joint inners
-    × ((attacks : List AttackTree) × AreAttacks g inners attacks × (bytes ≡ attack_text g target scale inners attacks))
-IsText (ReachOf num den scale joint) bytes =
-    (inners : List Inner) × IsHyperOf joint inners × ((r : ReachTree) × IsReach scale inners num den r × (bytes ≡ reach_text scale r))
-IsText (CapacityOf g) bytes = bytes ≡ capacity_text g
-IsText (AlgebraOf first second both) bytes = bytes ≡ algebra_text first second both
-IsText (TrailOf turns p) bytes = (counts : List ℕ) × IsTrail turns p counts × (bytes ≡ trail_text counts)
-IsText (BlameOf turns p) bytes = (blames : List BlameTree) × AreBlames turns p blames × (bytes ≡ blame_text (scale_of turns p) blames)
-
--- whether it is a yes: only a verdict may be a no, and a certificate rejected
-abbrev pub says_yes : Statement → Bool
-says_yes (VerdictOn json a b (No t)) = false
-says_yes (MarkOf (Rejected rule)) = false
-says_yes statement = true
-
--- the bytes for out, and whether the answer is yes
+-- the bytes for standard output, and whether the answer is yes: only a verdict may be a no, and a certificate rejected
 pub record Shown : Type 0 where
   pub yes : Bool
   pub bytes : List ℕ
 
--- what is shown states this
-pub record States (shown : Shown) (statement : Statement) : Type 0 where
-  pub text : IsText statement shown.bytes
-  pub yes : shown.yes ≡ says_yes statement
+abbrev pub shows : Bool → List ℕ → Result Shown Refused
+shows verdict bytes = Ok (record { yes = verdict; bytes = bytes })
 
--- why there is no such answer, from the words and the files' bytes alone
-pub data Refused : Type 0 where
-  Usage : Refused
-  TooLong : List ℕ → Refused
-  -- a file's name, the line and the column, and the fault's word
-  BadText : List ℕ → ℕ → ℕ → List ℕ → Refused
-  -- the same of a fault at which a run stops
-  BadRun : List ℕ → ℕ → ℕ → List ℕ → Refused
-  WideScale : List ℕ → Refused
-  -- some item of the target isn't read before the statements
-  NotInitial : Refused
-  -- a gain table's file, and the word of the rule that it breaks
-  BadTable : List ℕ → List ℕ → Refused
-  -- the scale times the gain's width passes 2^127 - 1
-  WideGain : Refused
-  -- two programs have different targets
-  OtherTarget : Refused
-  -- the tableau of a refinement has so many cells
-  ManyCells : ℕ → Refused
-  -- after so many pivots a number of it passes 2^62
-  WideTableau : ℕ → Refused
-  -- its run needs more pivots than there are
-  ManyPivots : Refused
-  -- a certificate's file, and the word of the rule that it breaks
-  BadCert : List ℕ → List ℕ → Refused
-  -- a scale times the certificate's denominator, or its width, passes 2^127 - 1
-  WideCert : Refused
-  -- two channels have different secrets
-  OtherRows : Refused
-  -- what one channel shows is no secret of the next
-  NoFit : Refused
-  -- two channels side by side have so many cells
-  ManyChannelCells : ℕ → Refused
-  -- a channel's denominator or its capacity passes 2^127 - 1
-  WideChannel : Refused
-  -- the declared variables of a file's program have so many stores
-  ManyStores : List ℕ → ℕ → Refused
-  -- a file's program has only so many outermost statements
-  FewStatements : List ℕ → ℕ → Refused
+abbrev pub prints : List ℕ → Result Shown Refused
+prints bytes = shows true bytes
 
--- a line on standard error; `name` is the file's, or empty
-abbrev pub said : List ℕ → List ℕ → List ℕ
-said name what = codes "kuifje: " ++ (name ++ (what ++ 10 ∷ []))
+-- the refusal of words that ask for nothing
+abbrev pub usage : Refused
+usage = refusal 2 [] (codes "usage: kuifje COMMAND [FILES] [--gain G] [--turns N] [--json]")
 
--- where a fault stands in a file, and its word
-abbrev pub placed : List ℕ → ℕ → ℕ → List ℕ → List ℕ
-placed name line column word = said name (58 ∷ decimal line ++ 58 ∷ decimal column ++ codes ": " ++ word)
+-- two programs have different targets
+abbrev pub other_target : Refused
+other_target = refusal 10 [] (codes "targets differ")
 
-abbrev pub status_of : Refused → ℕ
-status_of Usage = 2
-status_of (TooLong name) = 11
-status_of (BadText name line column word) = 5
-status_of (BadRun name line column word) = 6
-status_of (WideScale name) = 7
-status_of NotInitial = 10
-status_of (BadTable name word) = 9
-status_of WideGain = 7
-status_of OtherTarget = 10
-status_of (ManyCells cells) = 8
-status_of (WideTableau pivots) = 7
-status_of ManyPivots = 8
-status_of (BadCert name word) = 9
-status_of WideCert = 7
-status_of OtherRows = 10
-status_of NoFit = 10
-status_of (ManyChannelCells cells) = 8
-status_of WideChannel = 7
-status_of (ManyStores name count) = 8
-status_of (FewStatements name count) = 13
+-- a channel's denominator or its capacity passes 2^127 - 1
+abbrev pub wide_channel : Refused
+wide_channel = refusal 7 [] (codes "channel passes 2^127 - 1")
 
-abbrev pub line_of : Refused → List ℕ
-line_of Usage = said [] (codes "usage: kuifje COMMAND [FILES] [--gain G] [--turns N] [--json]")
-line_of (TooLong name) = said name (codes ": longer than 1048576 bytes")
-line_of (BadText name line column word) = placed name line column word
-line_of (BadRun name line column word) = placed name line column word
-line_of (WideScale name) = said name (codes ": scale passes 2^127 - 1")
-line_of NotInitial = said [] (codes "target is not initial")
-line_of (BadTable name word) = said name (codes ": " ++ word)
-line_of WideGain = said [] (codes "gain passes 2^127 - 1")
-line_of OtherTarget = said [] (codes "targets differ")
-line_of (ManyCells cells) = said [] (codes "tableau has " ++ (decimal cells ++ codes " cells"))
-line_of (WideTableau pivots) = said [] (codes "tableau passes 2^62 after " ++ (decimal pivots ++ codes " pivots"))
-line_of ManyPivots = said [] (codes "more than 20000 pivots")
-line_of (BadCert name word) = said name (codes ": " ++ word)
-line_of WideCert = said [] (codes "certificate passes 2^127 - 1")
-line_of OtherRows = said [] (codes "rows differ")
-line_of NoFit = said [] (codes "channels do not fit")
-line_of (ManyChannelCells cells) = said [] (codes "channel has " ++ (decimal cells ++ codes " cells"))
-line_of WideChannel = said [] (codes "channel passes 2^127 - 1")
-line_of (ManyStores name count) = said name (codes ": " ++ (decimal count ++ codes " stores"))
-line_of (FewStatements name count) = said name (codes ": " ++ (decimal count ++ codes " statements"))
+-- ---- hypers and traces
+
+-- the hyper of a joint over a scale, for a target
+abbrev pub HyperOf : List Item → ℕ → List Cell → Step Shown
+HyperOf target scale joint result = (inners : List Inner) × IsHyperOf joint inners × (result ≡ prints (hyper_text target scale inners))
+
+-- its traces, each with its column
+abbrev pub TracesOf : List Item → ℕ → List Cell → Step Shown
+TracesOf target scale joint result = (rows : List Row) × AreRowsOf joint rows × (result ≡ prints (trace_text target scale rows))
+
+-- how many posteriors there are after each statement of a program, whose loops turn at most so often
+abbrev pub TrailOf : ℕ → ProgramTree → Step Shown
+TrailOf turns p result = (counts : List ℕ) × IsTrail turns p counts × (result ≡ prints (trail_text counts))
+
+-- the hyper of a number of noisy observations, by its scale and joint
+abbrev pub MadeOf : ℕ → ℕ → List Cell → Step Shown
+MadeOf count scale joint result = (inners : List Inner) × IsHyperOf joint inners × (result ≡ prints (make_text count scale inners))
+
+-- the made text is typed and cleared as any other, and stands in no file
+abbrev pub MadeOutcome : ℕ → ℕ → Step Shown
+MadeOutcome count turns =
+    After (TypedOf [] (make_source count)) (λ t.
+    After (Gives (cleared turns t)) (λ p. MadeOf count (scale_of turns p) (joint_of turns p)))
+
+-- how much is seen of a program, whose loops turn at most so often, and how much where each statement in turn is quiet
+abbrev pub BlameOf : ℕ → ProgramTree → Step Shown
+BlameOf turns p result = (blames : List BlameTree) × AreBlames turns p blames × (result ≡ prints (blame_text (scale_of turns p) blames))
+
+-- ---- channels
+
+-- a channel leads from values before the statements
+abbrev pub initial : ProgramTree → Result ProgramTree Refused
+initial p = if all_initial p.target then Ok p else Err (refusal 10 [] (codes "target is not initial"))
+
+-- the channel from the values of a target to the traces of a joint
+abbrev pub ChannelOf : List Item → List Cell → Step Shown
+ChannelOf target joint result =
+    (rows : List Row) × AreRowsOf joint rows
+    × ((secrets : List ℕ) × AreSecrets rows secrets × (result ≡ prints (channel_text target rows secrets)))
+
+-- the channel of a program
+pub record IsChannelTree (turns : ℕ) (p : ProgramTree) (c : ChannelTree) : Type 0 where
+  pub target : c.target ≡ p.target
+  pub rows : AreRowsOf (joint_of turns p) c.rows
+  pub secrets : AreSecrets c.rows c.secrets
+
+-- whether a grid's denominator and its capacity are at most 2^127 - 1
+abbrev pub is_narrow : GridTree → Bool
+is_narrow g = nat_le g.over limit && nat_le (capacity_of g) limit
+
+-- the Bayes capacity of a program's channel
+abbrev pub CapacityIn : ℕ → ProgramTree → Step Shown
+CapacityIn turns p result =
+    (c : ChannelTree) × IsChannelTree turns p c
+    × (result ≡ (if is_narrow (channel_grid c) then prints (capacity_text (channel_grid c)) else Err wide_channel))
+
+-- what is put together of two channels, or why there is nothing; want of memory is none of the causes
+abbrev pub cascade_grid : Result GridTree CascadeFault → Result GridTree Refused
+cascade_grid (Ok g) = Ok g
+cascade_grid (Err cascade.Fit) = Err (refusal 10 [] (codes "channels do not fit"))
+cascade_grid (Err cascade.Wide) = Err wide_channel
+cascade_grid (Err cascade.Mem) = Err usage
+
+abbrev pub other_rows : Refused
+other_rows = refusal 10 [] (codes "rows differ")
+
+abbrev pub parallel_grid : Result GridTree ParallelFault → Result GridTree Refused
+parallel_grid (Ok g) = Ok g
+parallel_grid (Err parallel.Targets) = Err other_target
+parallel_grid (Err parallel.Rows) = Err other_rows
+parallel_grid (Err (parallel.Cells count)) = Err (refusal 8 [] (codes "channel has " ++ (decimal count ++ codes " cells")))
+parallel_grid (Err parallel.Wide) = Err wide_channel
+parallel_grid (Err parallel.Mem) = Err usage
+
+abbrev pub choice_grid : Result GridTree ChoiceFault → Result GridTree Refused
+choice_grid (Ok g) = Ok g
+choice_grid (Err choice.Targets) = Err other_target
+choice_grid (Err choice.Rows) = Err other_rows
+choice_grid (Err choice.Wide) = Err wide_channel
+choice_grid (Err choice.Mem) = Err usage
+
+abbrev pub Composed : Composition → ChannelTree → ChannelTree → Step GridTree
+Composed Cascade c d result = (r : Result GridTree CascadeFault) × IsCascade c d r × (result ≡ cascade_grid r)
+Composed Parallel c d result = (r : Result GridTree ParallelFault) × IsParallel c d r × (result ≡ parallel_grid r)
+Composed (Choice num den) c d result = (r : Result GridTree ChoiceFault) × IsChoice num den c d r × (result ≡ choice_grid r)
+
+-- the capacities of two channels and of what was put together of them, where none is too wide
+abbrev pub algebra_shown : GridTree → GridTree → GridTree → Result Shown Refused
+algebra_shown first second both =
+    if is_narrow first && (is_narrow second && is_narrow both) then prints (algebra_text first second both) else Err wide_channel
+
+-- what is put together of the channels of two programs
+abbrev pub ComposedIn : Composition → ℕ → ProgramTree → ProgramTree → Step Shown
+ComposedIn way turns p q result =
+    (c d : ChannelTree) × IsChannelTree turns p c × IsChannelTree turns q d
+    × After (Composed way c d) (λ g. Gives (algebra_shown (channel_grid c) (channel_grid d) g)) result
+
+-- ---- gains
+
+-- the word of the first rule that a gain table breaks; want of memory is none
+abbrev pub table_word : TableError → List ℕ
+table_word table.Json = codes "Json"
+table_word (table.Form rule) = codes "Form " ++ decimal rule
+table_word table.Wide = codes "Wide"
+table_word table.Unknown = codes "Unknown"
+table_word table.Twice = codes "Twice"
+table_word table.Empty = codes "Empty"
+table_word table.Mem = []
+
+-- a file that breaks a rule
+abbrev pub bad_file : List ℕ → List ℕ → Refused
+bad_file name word = refusal 9 name (codes ": " ++ word)
+
+-- the gain table that bytes are, about a target's values, or the first rule that they break
+abbrev pub TableOf : List Item → List ℕ → List ℕ → Step TableTree
+TableOf target name bytes (Ok t) = IsTable target bytes (Ok t)
+TableOf target name bytes (Err r) = (e : TableError) × IsTable target bytes (Err e) × (r ≡ bad_file name (table_word e))
+
+-- the gain table in a file
+abbrev pub TableIn : List Item → File → Step TableTree
+TableIn target file = After (Gives (source_of file)) (TableOf target file.name)
+
+-- a gain, and the table that its file holds
+abbrev pub GainIn : List Item → GainOf (List ℕ) → List File → Step (GainOf TableTree)
+GainIn target Bayes tables = Gives (Ok Bayes)
+GainIn target (Tries k) tables = Gives (Ok (Tries k))
+GainIn target Guessing tables = Gives (Ok Guessing)
+GainIn target (Table name) (file ∷ []) = After (TableIn target file) (λ t. Gives (Ok (Table t)))
+GainIn target (Table name) tables = Gives (Err usage)
+
+-- how wide a gain is on the hyper of a joint
+pub record HasWidth (joint : List Cell) (g : GainOf TableTree) (m : ℕ) : Type 0 where
+  pub inners : List Inner
+  pub is_hyper : IsHyperOf joint inners
+  pub is_width : IsWidth g inners m
+
+-- the scale times a gain's width is at most 2^127 - 1
+abbrev pub NarrowGain : ℕ → List Cell → GainOf TableTree → Step ℕ
+NarrowGain scale joint g result =
+    (m : ℕ) × HasWidth joint g m
+    × (result ≡ (if nat_le (scale * m) limit then Ok m else Err (refusal 7 [] (codes "gain passes 2^127 - 1"))))
+
+-- how much a gain's best action gains by what is shown
+abbrev pub ReportOf : ℕ → List Cell → GainOf TableTree → Step Shown
+ReportOf scale joint g result =
+    (inners : List Inner) × IsHyperOf joint inners × ((l : Leakage) × IsLeakage g scale inners l × (result ≡ prints (report_text g l)))
+
+-- a report; no number of it passes 2^127 - 1
+abbrev pub ReportIn : ℕ → List Cell → GainOf TableTree → Step Shown
+ReportIn scale joint g = After (NarrowGain scale joint g) (λ m. ReportOf scale joint g)
+
+-- what is best done at each inner of a hyper, under a gain
+abbrev pub AttackOf : List Item → ℕ → List Cell → GainOf TableTree → Step Shown
+AttackOf target scale joint g result =
+    (inners : List Inner) × IsHyperOf joint inners
+    × ((attacks : List AttackTree) × AreAttacks g inners attacks × (result ≡ prints (attack_text g target scale inners attacks)))
+
+-- an attack; no number of it passes 2^127 - 1
+abbrev pub AttackIn : List Item → ℕ → List Cell → GainOf TableTree → Step Shown
+AttackIn target scale joint g = After (NarrowGain scale joint g) (λ m. AttackOf target scale joint g)
+
+-- the least number of tries with which the posterior vulnerability is at least num / den
+abbrev pub ReachOf : ℕ → ℕ → ℕ → List Cell → Step Shown
+ReachOf num den scale joint result =
+    (inners : List Inner) × IsHyperOf joint inners
+    × ((r : ReachTree) × IsReach scale inners num den r × (result ≡ prints (reach_text scale r)))
+
+-- ---- verdicts
+
+-- the hyper of a program
+pub record IsHyperTree (turns : ℕ) (p : ProgramTree) (h : HyperTree) : Type 0 where
+  pub target : h.target ≡ p.target
+  pub scale : h.scale ≡ scale_of turns p
+  pub is_hyper : IsHyperOf (joint_of turns p) h.inners
+
+-- the hypers of two programs
+pub record AreHypers (turns : ℕ) (p q : ProgramTree) (a b : HyperTree) : Type 0 where
+  pub first : IsHyperTree turns p a
+  pub second : IsHyperTree turns q b
+
+-- how many pivots a run may have
+abbrev pub most_pivots : ℕ
+most_pivots = 20000
+
+-- why there is no verdict; want of memory is none of the causes
+abbrev pub verdict_refusal : RefineError → Refused
+verdict_refusal refine.Targets = other_target
+verdict_refusal (refine.Cells cells) = refusal 8 [] (codes "tableau has " ++ (decimal cells ++ codes " cells"))
+verdict_refusal (refine.Wide pivots) = refusal 7 [] (codes "tableau passes 2^62 after " ++ (decimal pivots ++ codes " pivots"))
+verdict_refusal refine.Budget = refusal 8 [] (codes "more than 20000 pivots")
+verdict_refusal refine.Mem = usage
+
+abbrev pub is_yes : VerdictTree → Bool
+is_yes (Yes m) = true
+is_yes (No t) = false
+
+-- a verdict on two hypers, which proves what it says, maybe as a certificate
+abbrev pub VerdictShown : Bool → HyperTree → HyperTree → Result VerdictTree RefineError → Step Shown
+VerdictShown json a b (Ok v) result =
+    Proves a b v × (result ≡ shows (is_yes v) (if json then cert_text a.target v else verdict_text a.target v))
+VerdictShown json a b (Err e) result = result ≡ Err (verdict_refusal e)
+
+-- the verdict on two hypers: whether the second leaks no more than the first
+abbrev pub VerdictOn : Bool → HyperTree → HyperTree → Step Shown
+VerdictOn json a b result = (r : Result VerdictTree RefineError) × IsVerdict a b most_pivots r × VerdictShown json a b r result
+
+-- the verdict on the hypers of two programs
+abbrev pub RefineOutcome : Bool → ℕ → ProgramTree → ProgramTree → Step Shown
+RefineOutcome json turns p q result = (a b : HyperTree) × AreHypers turns p q a b × VerdictOn json a b result
+
+-- ---- certificates
+
+-- the word of the first rule that a certificate breaks; want of memory is none
+abbrev pub cert_word : CertError → List ℕ
+cert_word cert.Json = codes "Json"
+cert_word (cert.Form rule) = codes "Form " ++ decimal rule
+cert_word cert.Wide = codes "Wide"
+cert_word cert.Mem = []
+
+-- the certificate that bytes are, or the first rule that they break
+abbrev pub cert_read : List ℕ → Result CertTree CertError → Result CertTree Refused
+cert_read name (Ok c) = Ok c
+cert_read name (Err e) = Err (bad_file name (cert_word e))
+
+-- the certificate in a file
+abbrev pub CertIn : File → Step CertTree
+CertIn file = After (Gives (source_of file)) (λ bytes. Gives (cert_read file.name (cert_of bytes)))
+
+-- a scale times the certificate's denominator, or its width, passes 2^127 - 1
+abbrev pub wide_cert : Refused
+wide_cert = refusal 7 [] (codes "certificate passes 2^127 - 1")
+
+abbrev pub is_accepted : Mark → Bool
+is_accepted Accepted = true
+is_accepted (Rejected rule) = false
+
+-- what is printed of a certificate; want of memory is no cause why nothing is
+abbrev pub mark_shown : Result Mark CheckError → Result Shown Refused
+mark_shown (Ok mark) = shows (is_accepted mark) (line (mark_text mark))
+mark_shown (Err check.Wide) = Err wide_cert
+mark_shown (Err check.Mem) = Err usage
+
+-- the mark of a certificate on two hypers, which must be about one target
+abbrev pub MarkIn : HyperTree → HyperTree → CertTree → Step Shown
+MarkIn a b c result =
+    ((a.target ≢ b.target) × (result ≡ Err other_target))
+    ⊎ ((a.target ≡ b.target) × ((r : Result Mark CheckError) × IsMarked a b c r × (result ≡ mark_shown r)))
+
+-- the mark of a certificate on the hypers of two programs
+abbrev pub MarkOn : ℕ → ProgramTree → ProgramTree → CertTree → Step Shown
+MarkOn turns p q c result = (a b : HyperTree) × AreHypers turns p q a b × MarkIn a b c result
+
+-- ---- commands
+
+-- what a command comes to for its programs, and for the files that it reads beside them; `task_of` gives each command as many of both as it
+-- has here
+abbrev pub CommandOutcome : Command → ℕ → List File → List ProgramTree → Step Shown
+CommandOutcome Hyper turns tables (p ∷ []) = HyperOf p.target (scale_of turns p) (joint_of turns p)
+CommandOutcome Traces turns tables (p ∷ []) = TracesOf p.target (scale_of turns p) (joint_of turns p)
+CommandOutcome Channel turns tables (p ∷ []) = After (Gives (initial p)) (λ p. ChannelOf p.target (joint_of turns p))
+CommandOutcome Trail turns tables (p ∷ []) = TrailOf turns p
+CommandOutcome Capacity turns tables (p ∷ []) = After (Gives (initial p)) (CapacityIn turns)
+CommandOutcome (Compose way) turns tables (p ∷ q ∷ []) =
+    After (Gives (initial p)) (λ p. After (Gives (initial q)) (λ q. ComposedIn way turns p q))
+CommandOutcome (Make count) turns tables [] = MadeOutcome count turns
+CommandOutcome (Leak g) turns tables (p ∷ []) = After (GainIn p.target g tables) (ReportIn (scale_of turns p) (joint_of turns p))
+CommandOutcome (Attack g) turns tables (p ∷ []) = After (GainIn p.target g tables) (AttackIn p.target (scale_of turns p) (joint_of turns p))
+CommandOutcome (Reach num den) turns tables (p ∷ []) = ReachOf num den (scale_of turns p) (joint_of turns p)
+CommandOutcome (Refine json) turns tables (p ∷ q ∷ []) = RefineOutcome json turns p q
+CommandOutcome (Check name) turns (file ∷ []) (p ∷ q ∷ []) = After (CertIn file) (MarkOn turns p q)
+CommandOutcome Covers turns tables (p ∷ q ∷ []) = RefineOutcome false turns p q
+CommandOutcome (Quiet from to) turns tables (p ∷ []) = HyperOf p.target (scale_of turns p) (quiet_joint turns p from to)
+CommandOutcome Blame turns tables (p ∷ []) = BlameOf turns p
+CommandOutcome command turns tables ps = Gives (Err usage)

@@ -2,8 +2,8 @@
 pub mod Ends
 pub mod Outcome
 pub mod Answer
-pub mod Place
 -- For bodies
 pub mod Stops
+pub mod TaskAnswers
 pub mod CapacityViews
 pub mod Views

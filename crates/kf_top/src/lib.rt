@@ -1,21 +1,22 @@
 //! The top call: from words and files to bytes and a status.
 #![tactic(auto)]
 
-mod attacking;
-mod capacities;
-mod clearing;
-mod covering;
-mod full_files;
-mod gains;
-mod leaking;
-mod places;
-mod quieting;
-mod refining;
-mod stops;
-mod telling;
+mod about;
+mod attack;
+mod capacity;
+mod covers;
+mod full;
+mod gain;
+mod hyper;
+mod leak;
+mod quiet;
+mod refusal;
+mod stderr;
 mod top;
+mod verdict;
 mod work;
 
+pub use kf_load::place;
+pub use kf_make::make_source;
 pub use kf_words::{GainWord, Job, WordsError, read_words};
-pub use places::place;
 pub use top::run;

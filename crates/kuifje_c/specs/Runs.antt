@@ -1,8 +1,9 @@
 -- Believed by a caller from C: what a call did.
 use Rattle.std.specs.Prelude.{◌≡◌, ◌≢◌, ℕ, List, [], ◌++◌, Some, length, take, drop, codes, Contains}
 use Rattle.kf_io.specs.declared.lists.FileEntry.{FileEntry}
-use Rattle.kf_top.specs.Answer.{said}
-use Rattle.kf_top.specs.Ends.{Sunk, Completes, HasCauses, IsQuiet, IsAnswer}
+use Rattle.kf_laws.specs.Held.{IsAnswerOver}
+use Rattle.kf_load.specs.Steps.{message}
+use Rattle.kf_top.specs.Ends.{Sunk, HasCauses, IsQuiet}
 use Rattle.kf_words.specs.Task.{files_of as files_named}
 use Rattle.kuifje_c.specs.Contents.{IsMissing, contents_of}
 
@@ -14,7 +15,6 @@ took_all bytes = record { bytes_before = Some []; bytes = Some bytes; faults_bef
 pub record HasRun (words : List (List ℕ)) (files : List FileEntry) (missing out err : List ℕ) (status : ℕ) : Type 0 where
   -- how often a read of each name has failed
   pub unread : List ℕ → ℕ
-  pub complete : Completes words (Some (contents_of files missing)) (λ name. 0) unread (took_all out) (took_all err) status
   pub causes : HasCauses words (Some (contents_of files missing)) (λ name. 0) unread (took_all out) (took_all err) status
   pub quiet : IsQuiet (took_all out) (took_all err) status
 
@@ -24,12 +24,12 @@ pub record IsUnread (words : List (List ℕ)) (files : List FileEntry) (out err 
   pub named : Contains (files_named words) name
   pub missing : IsMissing files name
   pub out_is : out ≡ []
-  pub err_is : err ≡ said name (codes ": read failed")
+  pub err_is : err ≡ message name (codes ": read failed")
 
 -- The call's answer: the defined one, whatever a missing file might hold, or else that a file is missing.
 pub record Answers (words : List (List ℕ)) (files : List FileEntry) (missing out err : List ℕ) (status : ℕ) : Type 0 where
   pub run : HasRun words files missing out err status
-  pub decided : status ≢ 3 → IsAnswer words (contents_of files missing) (record { status = status; out = out; err = err })
+  pub decided : status ≢ 3 → IsAnswerOver words (contents_of files missing) (record { status = status; out = out; err = err })
   pub unread : status ≡ 3 → IsUnread words files out err
 
 -- a buffer got the front of these bytes, of which there are so many, and kept the rest of what it held

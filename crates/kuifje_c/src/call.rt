@@ -9,6 +9,7 @@ use crate::memory::Refused;
 use crate::sink::GrowingSink;
 use crate::spans::{FileSpans, Span, files_of, is_call, words_of};
 use kf_io::FileList;
+use kf_laws::{reasoned_refusals, told_answers};
 use kf_top::run;
 use std::alloc::Global;
 
@@ -37,7 +38,7 @@ struct Answer {
     err: GrowingSink,
 }
 
-// The program's run over these files.
+// The program's run over these files. The law is there for the proof alone.
 fn answer_over(alloc: Global, words: &[String], files: FileList) -> Result<Answer, Refused>
     ghost missing: { List ℕ }
     ensures run { IfOk result (λ a. HasRun (map string_bytes words.now) files missing a.out.bytes a.err.bytes a.status) }
@@ -45,6 +46,7 @@ fn answer_over(alloc: Global, words: &[String], files: FileList) -> Result<Answe
     ensures memory { IfOk result (λ a. a.status ≢ 12) }
     ensures called { IfOk result (λ a. a.status ≢ 64) }
 {
+    reasoned_refusals();
     let mut files = CallFiles::new(alloc, files)?;
     let mut out = GrowingSink::new(alloc);
     let mut err = GrowingSink::new(alloc);
@@ -55,8 +57,8 @@ fn answer_over(alloc: Global, words: &[String], files: FileList) -> Result<Answe
     Ok(Answer { status, out, err })
 }
 
-// The answer to a call. That a file that can't be read isn't among the files is looked at for the proof alone: `run` says that its read
-// failed, and not why.
+// The answer to a call. The law is there for the proof alone, and so is the look whether a file that can't be read isn't among the files:
+// `run` says that its read failed, and not why.
 fn called(
     alloc: Global,
     bytes: &[u8],
@@ -70,6 +72,7 @@ fn called(
     ensures memory { IfOk result (λ a. a.status ≢ 12) }
     ensures called { IfOk result (λ a. a.status ≢ 64) }
 {
+    told_answers();
     let texts = words_of(alloc, bytes, words)?;
     let answer = answer_over(alloc, &texts, files_of(alloc, bytes, files)?)?;
     if answer.status == READ_FAILED && !is_of_missing(answer.err.bytes(), bytes, files) {

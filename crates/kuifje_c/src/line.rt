@@ -1,6 +1,6 @@
 ghost use Rattle.std.specs.Prelude.{◌≡◌, ℕ, List, IfSome, IsTrue, codes};
 ghost use Rattle.std.specs.Str.{bytes_eq};
-ghost use Rattle.kf_top.specs.Answer.{said};
+ghost use Rattle.kf_load.specs.Steps.{message};
 ghost use Rattle.kuifje_c.specs.Calls.{piece, IsText, AreFiles, files_in};
 ghost use Rattle.kuifje_c.specs.Contents.{IsMissing};
 
@@ -8,7 +8,7 @@ use crate::spans::{FileSpans, Span};
 
 // The name in the line on a file that can't be read.
 fn unread_name(line: &[u8]) -> Option<&str>
-    ensures { IfSome result (λ name. line.now ≡ said name.now (codes ": read failed")) }
+    ensures { IfSome result (λ name. line.now ≡ message name.now (codes ": read failed")) }
 {
     let name = line
         .strip_prefix(b"kuifje: ")?
@@ -41,7 +41,7 @@ fn is_missing(bytes: &[u8], files: &[FileSpans], name: &str) -> bool
 /// Whether the line says that a file can't be read which isn't among the files.
 pub(crate) fn is_of_missing(line: &[u8], bytes: &[u8], files: &[FileSpans]) -> bool
     requires { AreFiles bytes.now files.now }
-    ensures { IsTrue result → (name : List ℕ) × (line.now ≡ said name (codes ": read failed")) × IsMissing (files_in bytes.now files.now) name }
+    ensures { IsTrue result → (name : List ℕ) × (line.now ≡ message name (codes ": read failed")) × IsMissing (files_in bytes.now files.now) name }
 {
     match unread_name(line) {
         Some(name) => is_missing(bytes, files, name),

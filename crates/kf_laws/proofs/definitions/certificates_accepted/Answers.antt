@@ -12,5 +12,6 @@ returns c =
     let joint = c.joint_laws.ensures in
     let run = c.run_laws.ensures in
     let cert = c.cert_laws.ensures in
-    certificates_accepted (one_cleared c.one_reading.ensures program.one refused.both refused.refusal typed.one typed.typed) (are_clear c.full_laws.ensures.built typed.checked typed.sizes program.built) joint.one_hyper
+    certificates_accepted (one_cleared c.one_reading.ensures program.one refused.both refused.refusal typed.one typed.typed)
+    c.reasoned_refusals.ensures.tasks (are_clear c.full_laws.ensures.built typed.checked typed.sizes program.built) joint.one_hyper
     (are_proper joint.whole run.positive run.least) c.verdict_laws.ensures.prove cert.reads_back cert.written

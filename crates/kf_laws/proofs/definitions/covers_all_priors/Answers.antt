@@ -8,4 +8,5 @@ returns c =
     let refused = c.refusals.ensures in
     let typed = c.type_laws.ensures in
     let cleared = one_cleared c.one_reading.ensures program.one refused.both refused.refusal typed.one typed.typed in
-    record { all = covers_all cleared program.built c.prior_laws.ensures.carries; separated = no_is_separated cleared program.built c.prior_laws.ensures.separates }
+    let reasoned = c.reasoned_refusals.ensures.tasks in
+    record { all = covers_all cleared reasoned program.built c.prior_laws.ensures.carries; separated = no_is_separated cleared reasoned program.built c.prior_laws.ensures.separates }

@@ -1,11 +1,11 @@
 use Rattle.kf_laws.proofs.ClearedPrograms.{AreClear, are_clear}
 use Rattle.kf_laws.proofs.OneAnswer.{one_answer}
 use Rattle.kf_laws.proofs.ProperHypers.{AreProper, are_proper}
-use Rattle.kf_laws.proofs.SomeAnswer.{some_answer, stated_text}
+use Rattle.kf_laws.proofs.SomeAnswer.{some_answer}
 use Rattle.kf_laws.proofs.definitions.exactly_one_answer.Goals as goal
 
 pub returns : goal.returns
-returns c words contents =
+returns c words programs tables =
     let read = c.one_reading.ensures in
     let program = c.grammar.ensures in
     let refused = c.refusals.ensures in
@@ -24,7 +24,7 @@ returns c words contents =
     let clear : AreClear = are_clear c.full_laws.ensures.built typed.checked typed.sizes program.built in
     let proper : AreProper = are_proper joint.whole run.positive run.least in
     let one = one_answer read program.one refused.both refused.refusal typed.one typed.typed table.one joint.one_rows joint.one_hyper average.one verdict.one mark.one clear proper
-    gain.one trail.only attack.one reach.one blame.only words contents (stated_text c.tasks_in_range.ensures table.actions c.verdict_laws.ensures.prove proper contents clear words) in
-    let some = some_answer read.read refused.either program.built typed.either typed.told c.full_laws.ensures.built table.some joint.rows c.some_secrets.ensures joint.hyper average.some verdict.some c.cert_laws.ensures.read_sound mark.some clear proper
-    c.tasks_in_range.ensures table.actions c.verdict_laws.ensures.prove gain.some trail.some attack.some reach.some blame.some words contents in
+    gain.one trail.only attack.one reach.one blame.only programs tables c.tasks_in_range.ensures words in
+    let some = some_answer read.read refused.either program.built typed.either typed.told c.full_laws.ensures.built table.some table.actions joint.rows c.some_secrets.ensures joint.hyper average.some
+    verdict.some c.verdict_laws.ensures.prove c.cert_laws.ensures.read_sound mark.some clear proper gain.some trail.some attack.some reach.some blame.some programs tables c.tasks_in_range.ensures words in
     (some.0, some.1, λ other is. one other some.0 is some.1)

@@ -7,4 +7,5 @@ returns c =
     let program = c.grammar.ensures in
     let refused = c.refusals.ensures in
     let typed = c.type_laws.ensures in
-    quiet_no_better (one_cleared c.one_reading.ensures program.one refused.both refused.refusal typed.one typed.typed) c.quiet_laws.ensures.no_more
+    quiet_no_better (one_cleared c.one_reading.ensures program.one refused.both refused.refusal typed.one typed.typed)
+    c.reasoned_refusals.ensures.tasks c.quiet_laws.ensures.no_more

@@ -1,108 +1,106 @@
-use Rattle.std.proofs.Common.{[]}
-use Rattle.kf_words.specs.Task.{Make, Task, on_files}
-use Rattle.kf_top.proofs.Steps.{made_answers}
+use Rattle.std.proofs.Common.{refl, []}
+use Rattle.kf_top.proofs.Commands.{made_answer}
+use Rattle.kf_top.proofs.Readings.{counts_next}
 use Rattle.kf_top.proofs.work.work.Goals as goal
 
 pub returns-in-Hyper-clause-answer : goal.returns-in-Hyper-clause-answer
-returns-in-Hyper-clause-answer g c x e = rw c.in-Hyper.is (c.hyper.ensures.answer x e)
+returns-in-Hyper-clause-answer g c = rw c.in-Hyper.is c.about_one.ensures.answer
 
-pub returns-in-Hyper-clause-causes : goal.returns-in-Hyper-clause-causes
-returns-in-Hyper-clause-causes g c = rw c.in-Hyper.is c.hyper.ensures.causes
+pub returns-in-Hyper-clause-counts : goal.returns-in-Hyper-clause-counts
+returns-in-Hyper-clause-counts g c = rw c.in-Hyper.is c.about_one.ensures.counts
 
 pub returns-in-Traces-clause-answer : goal.returns-in-Traces-clause-answer
-returns-in-Traces-clause-answer g c x e = rw c.in-Traces.is (c.traces.ensures.answer x e)
+returns-in-Traces-clause-answer g c = rw c.in-Traces.is c.about_one-in-Traces.ensures.answer
 
-pub returns-in-Traces-clause-causes : goal.returns-in-Traces-clause-causes
-returns-in-Traces-clause-causes g c = rw c.in-Traces.is c.traces.ensures.causes
+pub returns-in-Traces-clause-counts : goal.returns-in-Traces-clause-counts
+returns-in-Traces-clause-counts g c = rw c.in-Traces.is c.about_one-in-Traces.ensures.counts
 
 pub returns-in-Channel-clause-answer : goal.returns-in-Channel-clause-answer
-returns-in-Channel-clause-answer g c x e = rw c.in-Channel.is (c.channel.ensures.answer x e)
+returns-in-Channel-clause-answer g c = rw c.in-Channel.is c.about_one-in-Channel.ensures.answer
 
-pub returns-in-Channel-clause-causes : goal.returns-in-Channel-clause-causes
-returns-in-Channel-clause-causes g c = rw c.in-Channel.is c.channel.ensures.causes
+pub returns-in-Channel-clause-counts : goal.returns-in-Channel-clause-counts
+returns-in-Channel-clause-counts g c = rw c.in-Channel.is c.about_one-in-Channel.ensures.counts
 
 pub returns-in-Trail-clause-answer : goal.returns-in-Trail-clause-answer
-returns-in-Trail-clause-answer g c x e = rw c.in-Trail.is (c.trail.ensures.answer x e)
+returns-in-Trail-clause-answer g c = rw c.in-Trail.is c.about_one-in-Trail.ensures.answer
 
-pub returns-in-Trail-clause-causes : goal.returns-in-Trail-clause-causes
-returns-in-Trail-clause-causes g c = rw c.in-Trail.is c.trail.ensures.causes
+pub returns-in-Trail-clause-counts : goal.returns-in-Trail-clause-counts
+returns-in-Trail-clause-counts g c = rw c.in-Trail.is c.about_one-in-Trail.ensures.counts
 
 pub returns-in-Leak-clause-answer : goal.returns-in-Leak-clause-answer
-returns-in-Leak-clause-answer g c x e = rw c.in-Leak.is (c.leak.ensures.answer x e)
+returns-in-Leak-clause-answer g c = rw c.in-Leak.is c.about_one-in-Leak.ensures.answer
 
-pub returns-in-Leak-clause-causes : goal.returns-in-Leak-clause-causes
-returns-in-Leak-clause-causes g c = rw c.in-Leak.is c.leak.ensures.causes
-
-pub returns-in-Refine-clause-answer : goal.returns-in-Refine-clause-answer
-returns-in-Refine-clause-answer g c x e = rw c.in-Refine.is (c.refine.ensures.answer x e)
-
-pub returns-in-Refine-clause-causes : goal.returns-in-Refine-clause-causes
-returns-in-Refine-clause-causes g c = rw c.in-Refine.is c.refine.ensures.causes
-
-pub returns-in-Check-clause-answer : goal.returns-in-Check-clause-answer
-returns-in-Check-clause-answer g c x e = rw c.in-Check.is (c.check.ensures.answer x e)
-
-pub returns-in-Check-clause-causes : goal.returns-in-Check-clause-causes
-returns-in-Check-clause-causes g c = rw c.in-Check.is c.check.ensures.causes
-
-pub returns-in-Make-clause-answer : goal.returns-in-Make-clause-answer
-returns-in-Make-clause-answer g c x e = rw c.in-Make.is (made_answers x c.in-Make.n c.in-Make.turns c.make.result c.make.ensures.answer)
-
-pub returns-in-Make-clause-causes : goal.returns-in-Make-clause-causes
-returns-in-Make-clause-causes g c =
-    let task : Task = on_files (Make c.in-Make.n) [] c.in-Make.turns in
-    rw c.in-Make.is (c.make.ensures.causes task (g.F.Files.faults c.args.files.now))
-
-pub returns-in-Capacity-clause-answer : goal.returns-in-Capacity-clause-answer
-returns-in-Capacity-clause-answer g c x e = rw c.in-Capacity.is (c.capacity.ensures.answer x e)
-
-pub returns-in-Capacity-clause-causes : goal.returns-in-Capacity-clause-causes
-returns-in-Capacity-clause-causes g c = rw c.in-Capacity.is c.capacity.ensures.causes
-
-pub returns-in-Cascade-clause-answer : goal.returns-in-Cascade-clause-answer
-returns-in-Cascade-clause-answer g c x e = rw c.in-Cascade.is (c.compose.ensures.answer x e)
-
-pub returns-in-Cascade-clause-causes : goal.returns-in-Cascade-clause-causes
-returns-in-Cascade-clause-causes g c = rw c.in-Cascade.is c.compose.ensures.causes
-
-pub returns-in-Parallel-clause-answer : goal.returns-in-Parallel-clause-answer
-returns-in-Parallel-clause-answer g c x e = rw c.in-Parallel.is (c.compose-in-Parallel.ensures.answer x e)
-
-pub returns-in-Parallel-clause-causes : goal.returns-in-Parallel-clause-causes
-returns-in-Parallel-clause-causes g c = rw c.in-Parallel.is c.compose-in-Parallel.ensures.causes
-
-pub returns-in-Choice-clause-answer : goal.returns-in-Choice-clause-answer
-returns-in-Choice-clause-answer g c x e = rw c.in-Choice.is (c.compose-in-Choice.ensures.answer x e)
-
-pub returns-in-Choice-clause-causes : goal.returns-in-Choice-clause-causes
-returns-in-Choice-clause-causes g c = rw c.in-Choice.is c.compose-in-Choice.ensures.causes
+pub returns-in-Leak-clause-counts : goal.returns-in-Leak-clause-counts
+returns-in-Leak-clause-counts g c = rw c.in-Leak.is c.about_one-in-Leak.ensures.counts
 
 pub returns-in-Attack-clause-answer : goal.returns-in-Attack-clause-answer
-returns-in-Attack-clause-answer g c x e = rw c.in-Attack.is (c.attack.ensures.answer x e)
+returns-in-Attack-clause-answer g c = rw c.in-Attack.is c.about_one-in-Attack.ensures.answer
 
-pub returns-in-Attack-clause-causes : goal.returns-in-Attack-clause-causes
-returns-in-Attack-clause-causes g c = rw c.in-Attack.is c.attack.ensures.causes
+pub returns-in-Attack-clause-counts : goal.returns-in-Attack-clause-counts
+returns-in-Attack-clause-counts g c = rw c.in-Attack.is c.about_one-in-Attack.ensures.counts
 
 pub returns-in-Reach-clause-answer : goal.returns-in-Reach-clause-answer
-returns-in-Reach-clause-answer g c x e = rw c.in-Reach.is (c.reach.ensures.answer x e)
+returns-in-Reach-clause-answer g c = rw c.in-Reach.is c.about_one-in-Reach.ensures.answer
 
-pub returns-in-Reach-clause-causes : goal.returns-in-Reach-clause-causes
-returns-in-Reach-clause-causes g c = rw c.in-Reach.is c.reach.ensures.causes
+pub returns-in-Reach-clause-counts : goal.returns-in-Reach-clause-counts
+returns-in-Reach-clause-counts g c = rw c.in-Reach.is c.about_one-in-Reach.ensures.counts
 
-pub returns-in-Covers-clause-answer : goal.returns-in-Covers-clause-answer
-returns-in-Covers-clause-answer g c x e = rw c.in-Covers.is (c.covers.ensures.answer x e)
+pub returns-in-Capacity-clause-answer : goal.returns-in-Capacity-clause-answer
+returns-in-Capacity-clause-answer g c = rw c.in-Capacity.is c.about_one-in-Capacity.ensures.answer
 
-pub returns-in-Covers-clause-causes : goal.returns-in-Covers-clause-causes
-returns-in-Covers-clause-causes g c = rw c.in-Covers.is c.covers.ensures.causes
+pub returns-in-Capacity-clause-counts : goal.returns-in-Capacity-clause-counts
+returns-in-Capacity-clause-counts g c = rw c.in-Capacity.is c.about_one-in-Capacity.ensures.counts
 
 pub returns-in-Quiet-clause-answer : goal.returns-in-Quiet-clause-answer
-returns-in-Quiet-clause-answer g c x e = rw c.in-Quiet.is (c.quiet.ensures.answer x e)
+returns-in-Quiet-clause-answer g c = rw c.in-Quiet.is c.about_one-in-Quiet.ensures.answer
 
-pub returns-in-Quiet-clause-causes : goal.returns-in-Quiet-clause-causes
-returns-in-Quiet-clause-causes g c = rw c.in-Quiet.is c.quiet.ensures.causes
+pub returns-in-Quiet-clause-counts : goal.returns-in-Quiet-clause-counts
+returns-in-Quiet-clause-counts g c = rw c.in-Quiet.is c.about_one-in-Quiet.ensures.counts
 
 pub returns-in-Blame-clause-answer : goal.returns-in-Blame-clause-answer
-returns-in-Blame-clause-answer g c x e = rw c.in-Blame.is (c.blame.ensures.answer x e)
+returns-in-Blame-clause-answer g c = rw c.in-Blame.is c.about_one-in-Blame.ensures.answer
 
-pub returns-in-Blame-clause-causes : goal.returns-in-Blame-clause-causes
-returns-in-Blame-clause-causes g c = rw c.in-Blame.is c.blame.ensures.causes
+pub returns-in-Blame-clause-counts : goal.returns-in-Blame-clause-counts
+returns-in-Blame-clause-counts g c = rw c.in-Blame.is c.about_one-in-Blame.ensures.counts
+
+pub returns-in-Refine-clause-answer : goal.returns-in-Refine-clause-answer
+returns-in-Refine-clause-answer g c = rw c.in-Refine.is c.about_two.ensures.answer
+
+pub returns-in-Refine-clause-counts : goal.returns-in-Refine-clause-counts
+returns-in-Refine-clause-counts g c = rw c.in-Refine.is c.about_two.ensures.counts
+
+pub returns-in-Check-clause-answer : goal.returns-in-Check-clause-answer
+returns-in-Check-clause-answer g c = rw c.in-Check.is c.about_two-in-Check.ensures.answer
+
+pub returns-in-Check-clause-counts : goal.returns-in-Check-clause-counts
+returns-in-Check-clause-counts g c = rw c.in-Check.is c.about_two-in-Check.ensures.counts
+
+pub returns-in-Cascade-clause-answer : goal.returns-in-Cascade-clause-answer
+returns-in-Cascade-clause-answer g c = rw c.in-Cascade.is c.about_two-in-Cascade.ensures.answer
+
+pub returns-in-Cascade-clause-counts : goal.returns-in-Cascade-clause-counts
+returns-in-Cascade-clause-counts g c = rw c.in-Cascade.is c.about_two-in-Cascade.ensures.counts
+
+pub returns-in-Parallel-clause-answer : goal.returns-in-Parallel-clause-answer
+returns-in-Parallel-clause-answer g c = rw c.in-Parallel.is c.about_two-in-Parallel.ensures.answer
+
+pub returns-in-Parallel-clause-counts : goal.returns-in-Parallel-clause-counts
+returns-in-Parallel-clause-counts g c = rw c.in-Parallel.is c.about_two-in-Parallel.ensures.counts
+
+pub returns-in-Choice-clause-answer : goal.returns-in-Choice-clause-answer
+returns-in-Choice-clause-answer g c = rw c.in-Choice.is c.about_two-in-Choice.ensures.answer
+
+pub returns-in-Choice-clause-counts : goal.returns-in-Choice-clause-counts
+returns-in-Choice-clause-counts g c = rw c.in-Choice.is c.about_two-in-Choice.ensures.counts
+
+pub returns-in-Covers-clause-answer : goal.returns-in-Covers-clause-answer
+returns-in-Covers-clause-answer g c = rw c.in-Covers.is c.covers.ensures.answer
+
+pub returns-in-Covers-clause-counts : goal.returns-in-Covers-clause-counts
+returns-in-Covers-clause-counts g c = rw c.in-Covers.is c.covers.ensures.counts
+
+pub returns-in-Make-clause-answer : goal.returns-in-Make-clause-answer
+returns-in-Make-clause-answer g c = rw c.in-Make.is (made_answer _ _ _ c.in-Make.n c.in-Make.turns c.made_hyper.result c.made_hyper.ensures.answer)
+
+pub returns-in-Make-clause-counts : goal.returns-in-Make-clause-counts
+returns-in-Make-clause-counts g c = rw c.in-Make.is (counts_next [] _ _ c.made_hyper.result refl c.made_hyper.ensures.read)

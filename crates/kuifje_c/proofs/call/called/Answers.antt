@@ -16,7 +16,7 @@ returns-clause-answers g c =
     (ap (λ ts. map string_bytes ts) c.deref.ensures.value ∙ c.in_ok-texts.ensures)
     (subst (λ (fs : List FileEntry). HasRun (map string_bytes c.deref.result.now) fs g.missing a.out.bytes a.err.bytes a.status)
     c.in_ok-files_of.ensures c.in_ok-answer.ensures.run) in
-    answers words files g.missing a.out.bytes a.err.bytes a.status run c.in_ok-answer.ensures.memory (λ three.
+    answers c.told_answers.ensures words files g.missing a.out.bytes a.err.bytes a.status run c.in_ok-answer.ensures.memory (λ three.
     elim c.else-answer-eq-READ_FAILED.branch [
       | else-answer-eq-READ_FAILED-via-then-answer-eq-READ_FAILED+else-not-is_of_missing w ↦
           let told = w.is_of_missing.ensures (search rules) in (told.0, sym w.bytes.ensures ∙ told.1, told.2)

@@ -1,0 +1,4 @@
+pub mod Faults
+pub mod Stepwise
+mod Lines
+mod Readings

@@ -1,0 +1,8 @@
+-- Believed
+pub mod Steps
+pub mod Place
+pub mod Texts
+pub mod Readings
+-- For bodies
+pub mod Stops
+pub mod Views

@@ -1,0 +1,9 @@
+use Rattle.std.proofs.Common.{List, ℕ, subst}
+use Rattle.kf_top.specs.Ends.{sunk, TookLine}
+use Rattle.kf_top.proofs.Lines.{stores_line}
+use Rattle.kf_top.proofs.stderr.write_stores.Goals as goal
+
+pub returns : goal.returns
+returns g c =
+    subst (λ (line : List ℕ). TookLine (sunk g.E.Sink.taken g.E.Sink.faults g.E.Sink.room c.args.err.now c.write_line.new.err) line)
+    (stores_line c.args.name.now c.format-stores.result.now c.args.stores c.format-stores.ensures.text) c.write_line.ensures

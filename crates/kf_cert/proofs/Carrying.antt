@@ -1,7 +1,7 @@
--- What a matrix makes of joint weights, gathered in a map.
-use Rattle.std.proofs.Common.{◌≡◌, ℕ, ◌+◌, ◌*◌, ◌/◌, ◌<◌, ◌≤◌, List, [], ◌∷◌, sum_by, take, length, get_or, sym, ◌∙◌, ap, arith}
-use Rattle.std.proofs.Math.IntN.{ℤ, pos, ◌+ℤ◌, ◌*ℤ◌}
-use Rattle.std.proofs.Math.Nat.{mul-le-mul_left, mul-le-mul_right}
+-- What shares make of joint weights, gathered in a map.
+use Rattle.std.proofs.Common.{◌≡◌, ℕ, ◌+◌, ◌*◌, ◌/◌, ◌<◌, ◌≤◌, List, [], ◌∷◌, All, sum_by, take, length, get_or, sym, ◌∙◌, ap, subst, arith}
+use Rattle.std.proofs.Math.Nat.{mul-le-mul_left}
+use Rattle.std.proofs.lemmas.List.{take_all}
 use Rattle.std.proofs.lemmas.List.Sums.{sum_by_more, sum_by_more_le}
 use Rattle.std.specs.Ordering.{nat_cmp}
 use Rattle.std.specs.Map.{keys_of}
@@ -13,10 +13,9 @@ use Rattle.kf_hyper.specs.Hypers.{Inner}
 use Rattle.kf_hyper.specs.Sums.{summed, ArePositive, Gains}
 use Rattle.kf_hyper.proofs.Scaling.{total-cons}
 use Rattle.kf_hyper.proofs.Summing.{summed_column}
-use Rattle.kf_simplex.specs.Base.{total as sum_to}
-use Rattle.kf_refine.specs.Refinements.{HyperTree, Fraction, joint}
-use Rattle.kf_cert.specs.Cells.{AreAscending, at_over}
-use Rattle.kf_cert.proofs.RowSums.{total_step}
+use Rattle.kf_refine.specs.Refinements.{HyperTree, joint}
+use Rattle.kf_cert.specs.Cells.{AreAscending, share_total, share_weight, total_at}
+use Rattle.kf_cert.specs.declared.matrix_rules.shares.Share.{Share}
 use Rattle.std.proofs.lemmas.List.Elements.{All-head}
 
 pub summed_ascending : (es : List (ℕ × ℕ)) → IsStrictlySortedBy nat_cmp (keys_of es) → ArePositive (summed es) → AreAscending (summed es)
@@ -51,30 +50,24 @@ module _ (inner : Inner) (part times : ℕ) (entries old new : List Entry) where
         had.total ∙ ap (λ (n : ℕ). total old + n) (product times (total entries) inner.total part 0 0 all);
   }
 
--- ---- one inner after the other
+-- ---- one share after the other
 
-module _ (a : HyperTree) (d : ℕ) (rows : List (List Fraction)) (j : ℕ) where
-  -- what the first so many inners give
-  abbrev pub carried_by : ℕ → ℕ → ℤ
-  carried_by i x = sum_to i (λ i. pos (joint a x i) *ℤ at_over d rows i j)
+module _ (a : HyperTree) (column : List Share) (k : ℕ) (s : Share) (within : k < length column) (is : s ≡ get_or column k s) where
+  one_more : (f : Share → ℕ) → sum_by f (take (k + 1) column) ≡ sum_by f (take k column) + f s
+  one_more f = sum_by_more f column k s within ∙ ap (λ (t : Share). sum_by f (take k column) + f t) (sym is)
 
-  pub carried_more : (i part x before after : ℕ) → pos part ≡ at_over d rows i j → pos before ≡ carried_by i x → after ≡ before + joint a x i * part → pos after ≡ carried_by (i + 1) x
-  carried_more i part x before after value had is =
-      ap pos is ∙ (λ k. had k +ℤ (pos (joint a x i) *ℤ value k)) ∙ sym (total_step i (λ i. pos (joint a x i) *ℤ at_over d rows i j))
+  pub weight_more : (x before after : ℕ) → before ≡ share_weight a (take k column) x → after ≡ before + joint a x s.row * s.amount
+      → after ≡ share_weight a (take (k + 1) column) x
+  weight_more x before after had more = omega (arith, had, more, one_more (λ s. joint a x s.row * s.amount))
 
-module _ (inners : List Inner) (scale over part i before after : ℕ) (none : Inner) (inside : i < length inners) (small : part ≤ over)
-    (had : before ≤ sum_by (λ inner. inner.total) (take i inners) * over) where
-  grown : sum_by (λ (inner : Inner). inner.total) (take i inners) * over + (get_or inners i none).total * part ≤ sum_by (λ (inner : Inner). inner.total) (take (i + 1) inners) * over
-  grown =
-      let more : sum_by (λ (inner : Inner). inner.total) (take (i + 1) inners) ≡ sum_by (λ (inner : Inner). inner.total) (take i inners) + (get_or inners i none).total =
-      sum_by_more (λ (inner : Inner). inner.total) inners i none inside in
-      omega (arith, ap (λ (n : ℕ). n * over) more, mul-le-mul_left (get_or inners i none).total small)
+  pub total_more : (before after : ℕ) → before ≡ share_total a (take k column) → after ≡ before + total_at a s.row * s.amount
+      → after ≡ share_total a (take (k + 1) column)
+  total_more before after had more = omega (arith, had, more, one_more (λ s. total_at a s.row * s.amount))
 
-  pub bounded_more : after ≡ before + (get_or inners i none).total * part → after ≤ sum_by (λ (inner : Inner). inner.total) (take (i + 1) inners) * over
-  bounded_more is = omega (arith, is, had, grown)
+  pub more_fits : (before most : ℕ) → before ≡ share_total a (take k column) → share_total a column ≤ most → before + total_at a s.row * s.amount ≤ most
+  more_fits before most had fits =
+      let least = sum_by_more_le (λ s. total_at a s.row * s.amount) column k s within in
+      omega (arith, had, fits, least, ap (λ (t : Share). total_at a t.row * t.amount) is)
 
-  pub more_fits : (most : ℕ) → sum_by (λ (inner : Inner). inner.total) inners ≡ scale → scale * over ≤ most → before + (get_or inners i none).total * part ≤ most
-  more_fits most whole fits =
-      let part_of : sum_by (λ (inner : Inner). inner.total) (take (i + 1) inners) ≤ scale =
-      omega (arith, whole, sum_by_more (λ (inner : Inner). inner.total) inners i none inside, sum_by_more_le (λ (inner : Inner). inner.total) inners i none inside) in
-      omega (arith, had, grown, fits, mul-le-mul_right over part_of)
+  pub row_inside : (count : ℕ) → All (λ s. s.row < count) column → s.row < count
+  row_inside count all = subst (λ (t : Share). t.row < count) (sym is) (all k s within)

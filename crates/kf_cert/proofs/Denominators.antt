@@ -36,7 +36,7 @@ abbrev dens : List (List Fraction) → List ℕ
 dens rows = flat_map (λ row. map (λ f. f.den) row) rows
 
 module _ (Q : ℕ → Type 0) where
-  to_dens : (rows : List (List Fraction)) → All (λ row. All (λ f. Q f.den) row) rows → All Q (dens rows)
+  pub to_dens : (rows : List (List Fraction)) → All (λ row. All (λ f. Q f.den) row) rows → All Q (dens rows)
   to_dens [] all = All-nil Q
   to_dens (row ∷ rows) all =
       All-append Q (map (λ f. f.den) row) (dens rows) (All-map Q (λ (f : Fraction). f.den) row (All-head (λ row. All (λ f. Q f.den) row) row rows all))
@@ -63,7 +63,7 @@ module _ (rows : List (List Fraction)) (sound : All (λ row. All (λ f. 0 < f.de
   denominator_positive = common_positive (dens rows) (to_dens (λ d. 0 < d) rows sound)
 
   -- every denominator divides it
-  denominator_divided : All (λ row. All (λ f. f.den ∣ denominator rows) row) rows
+  pub denominator_divided : All (λ row. All (λ f. f.den ∣ denominator rows) row) rows
   denominator_divided = of_dens (λ d. d ∣ denominator rows) rows (common_divided (dens rows) (to_dens (λ d. 0 < d) rows sound))
 
   -- an entry over it is the entry

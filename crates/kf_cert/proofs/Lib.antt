@@ -1,11 +1,13 @@
 pub mod Accepting
 pub mod Carrying
+pub mod ColumnShares
 pub mod Decimals
 pub mod Denominators
 pub mod Digits
 pub mod Each
 pub mod EndsInLf
-pub mod Entries
+pub mod EntryRules
+pub mod EntrySums
 pub mod Formed
 pub mod Gathered
 pub mod Greatest
@@ -24,8 +26,7 @@ pub mod Printable
 pub mod Proclaiming
 pub mod ReadingBack
 pub mod Rejecting
-pub mod RowSums
-pub mod RowsMade
+pub mod RowShares
 pub mod SaidBack
 pub mod Separating
 pub mod Standing

@@ -1,63 +1,44 @@
 -- The least common multiple of all denominators, gathered one after the other.
-use Rattle.std.proofs.Common.{◌≡◌, ℕ, zero, suc, ◌+◌, ◌*◌, length, get_or, drop, ◌<◌, ◌≤◌, List, [], ◌∷◌, sym, ◌∙◌, ap, arith}
+use Rattle.std.proofs.Common.{◌≡◌, ℕ, zero, suc, ◌+◌, ◌*◌, length, get_or, map, drop, All, ◌<◌, ◌≤◌, List, [], ◌∷◌, sym, ◌∙◌, ap, arith}
 use Rattle.std.proofs.lemmas.List.{drop_more}
-use Rattle.kf_frac.specs.Divisors.{lcm_of}
+use Rattle.std.proofs.lemmas.List.Elements.{All-nil, All-cons}
+use Rattle.kf_frac.specs.Divisors.{lcm_of, common_multiple}
 use Rattle.kf_frac.specs.Laws.{multiple_from}
-use Rattle.kf_frac.specs.declared.frac.Frac.{Frac}
 use Rattle.kf_frac.proofs.CommonMultiples.{lcm_is}
-use Rattle.kf_frac.proofs.Multiples.{ArePositive, growing, positive_from, positive_both, from_both, from_one}
-use Rattle.kf_cert.specs.Marks.{denominator}
-use Rattle.kf_cert.specs.Rows.{row_tree, rows_tree, row_dens, dens}
+use Rattle.kf_frac.proofs.Multiples.{ArePositive, growing, from_one}
+use Rattle.kf_cert.specs.Certificates.{EntryTree}
+use Rattle.kf_cert.specs.Rows.{dens}
+use Rattle.kf_cert.specs.Views.{entry_tree}
+use Rattle.kf_cert.specs.declared.cert.NamedEntry.{NamedEntry}
 
-pub row_positive : (row : List Frac) → ArePositive (row_dens (row_tree row))
-row_positive [] = tt
-row_positive (f ∷ row) = (f.positive, row_positive row)
+pub entries_positive : (es : List NamedEntry) → ArePositive (dens (map entry_tree es))
+entries_positive [] = tt
+entries_positive (e ∷ es) = (e.value.positive, entries_positive es)
 
-pub rows_positive : (rows : List (List Frac)) → ArePositive (dens (rows_tree rows))
-rows_positive [] = tt
-rows_positive (row ∷ rows) = positive_both (row_dens (row_tree row)) (dens (rows_tree rows)) (row_positive row) (rows_positive rows)
+pub are_fractions : (es : List NamedEntry) → All (λ e. 0 < e.value.den) (map entry_tree es)
+are_fractions [] = All-nil (λ (e : EntryTree). 0 < e.value.den)
+are_fractions (e ∷ es) = All-cons (λ (e : EntryTree). 0 < e.value.den) (entry_tree e) (map entry_tree es) e.value.positive (are_fractions es)
 
-pub denominator_is : (rows : List (List Frac)) → multiple_from 1 (dens (rows_tree rows)) ≡ denominator (rows_tree rows)
-denominator_is rows = from_one (dens (rows_tree rows)) (rows_positive rows)
+pub denominator_is : (es : List NamedEntry) → multiple_from 1 (dens (map entry_tree es)) ≡ common_multiple (dens (map entry_tree es))
+denominator_is es = from_one (dens (map entry_tree es)) (entries_positive es)
 
 -- ---- one step of a loop
 
--- at an entry
-pub row_more : (row : List Frac) (i multiple : ℕ) (f : Frac) → i < length row → f ≡ get_or row i f
-    → multiple_from multiple (row_dens (row_tree (drop i row))) ≡ multiple_from (lcm_of f.den multiple) (row_dens (row_tree (drop (i + 1) row)))
-row_more row i multiple f within is =
-    let rest : drop i row ≡ f ∷ drop (i + 1) row = drop_more row i f within ∙ ap (λ (g : Frac). g ∷ drop (i + 1) row) (sym is) in
-    ap (λ (l : List Frac). multiple_from multiple (row_dens (row_tree l))) rest
+module _ (es : List NamedEntry) (i multiple : ℕ) (e : NamedEntry) (within : i < length es) (is : e ≡ get_or es i e) where
+  pub entry_more : multiple_from multiple (dens (map entry_tree (drop i es))) ≡ multiple_from (lcm_of e.value.den multiple) (dens (map entry_tree (drop (i + 1) es)))
+  entry_more =
+      let rest : drop i es ≡ e ∷ drop (i + 1) es = drop_more es i e within ∙ ap (λ (f : NamedEntry). f ∷ drop (i + 1) es) (sym is) in
+      ap (λ (l : List NamedEntry). multiple_from multiple (dens (map entry_tree l))) rest
 
--- where it passes the limit there, it does at the end
-pub row_wide : (row : List Frac) (i multiple most : ℕ) (f : Frac) → i < length row → f ≡ get_or row i f → 0 < multiple
-    → multiple_from multiple (row_dens (row_tree (drop i row))) ≤ most → lcm_of f.den multiple ≤ most
-row_wide row i multiple most f within is some small =
-    omega (
-      arith,
-      small,
-      row_more row i multiple f within is,
-      growing (lcm_of f.den multiple) (row_dens (row_tree (drop (i + 1) row))) (lcm_is f.den multiple f.positive some).positive (row_positive (drop (i + 1) row)),
-    )
-
--- at a row
-pub rows_more : (rows : List (List Frac)) (i multiple : ℕ) (row : List Frac) → i < length rows → row ≡ get_or rows i row
-    → multiple_from multiple (dens (rows_tree (drop i rows))) ≡ multiple_from (multiple_from multiple (row_dens (row_tree row))) (dens (rows_tree (drop (i + 1) rows)))
-rows_more rows i multiple row within is =
-    let rest : drop i rows ≡ row ∷ drop (i + 1) rows = drop_more rows i row within ∙ ap (λ (r : List Frac). r ∷ drop (i + 1) rows) (sym is) in
-    ap (λ (l : List (List Frac)). multiple_from multiple (dens (rows_tree l))) rest
-    ∙ from_both multiple (row_dens (row_tree row)) (dens (rows_tree (drop (i + 1) rows)))
-
-pub rows_wide : (rows : List (List Frac)) (i multiple most : ℕ) (row : List Frac) → i < length rows → row ≡ get_or rows i row → 0 < multiple
-    → multiple_from multiple (dens (rows_tree (drop i rows))) ≤ most → multiple_from multiple (row_dens (row_tree row)) ≤ most
-rows_wide rows i multiple most row within is some small =
-    omega (
-      arith,
-      small,
-      rows_more rows i multiple row within is,
-      growing (multiple_from multiple (row_dens (row_tree row))) (dens (rows_tree (drop (i + 1) rows)))
-          (positive_from multiple (row_dens (row_tree row)) some (row_positive row)) (rows_positive (drop (i + 1) rows)),
-    )
+  -- where it passes the limit there, it does at the end
+  pub entry_wide : (most : ℕ) → 0 < multiple → multiple_from multiple (dens (map entry_tree (drop i es))) ≤ most → lcm_of e.value.den multiple ≤ most
+  entry_wide most some small =
+      omega (
+        arith,
+        small,
+        entry_more,
+        growing (lcm_of e.value.den multiple) (dens (map entry_tree (drop (i + 1) es))) (lcm_is e.value.den multiple e.value.positive some).positive (entries_positive (drop (i + 1) es)),
+      )
 
 pub at_least_itself : (m n : ℕ) → 0 < m → n ≤ m * n
 at_least_itself zero n some = absurd (omega arith)

@@ -9,9 +9,12 @@ use Rattle.std.proofs.lemmas.List.{ext_get_or}
 use Rattle.std.proofs.lemmas.List.Elements.{All-head, All-tail, All-nil, All-cons, All-append}
 use Rattle.kf_frac.specs.Divisors.{gcd_of}
 use Rattle.kf_frac.proofs.CommonDivisors.{gcd_is_the, gcd_swap}
-use Rattle.kf_frac.proofs.LowestTerms.{reduced_den_is}
+use Rattle.kf_frac.proofs.LowestTerms.{reduced_den_is, reduced_num_same, reduced_den_same}
+use Rattle.kf_frac.specs.declared.frac.Frac.{Frac}
 use Rattle.std.proofs.lemmas.Nat.Gcd.{IsGcd-from_zero}
 use Rattle.kf_refine.specs.Refinements.{Fraction, entry, IsShaped}
+use Rattle.kf_refine.specs.Views.{fraction_of}
+use Rattle.kf_cert.specs.Rows.{row_tree, rows_tree}
 use Rattle.kf_refine.proofs.Matrices.{rows_shaped, entry_is}
 use Rattle.kf_cert.specs.Certificates.{EntryTree, NamedTree, stands_at, value_at, matrix_of, is_inside, is_in_order}
 use Rattle.kf_cert.specs.CertTexts.{widest, row_entries, rows_entries, named_of}
@@ -217,11 +220,43 @@ names_all m n (row ∷ rows) shape low =
     same_matrix (length (row ∷ rows)) (widest (row ∷ rows)) (matrix_of (named_of (row ∷ rows))) (row ∷ rows) (matrix_shaped (named_of (row ∷ rows))) shaped
     (λ i j l k. matrix_entry (named_of (row ∷ rows)) i j l k ∙ rows_found 0 i i j (row ∷ rows) (omega arith) low)
 
+-- the same for rows that have a shape
+pub shaped_order : (m n : ℕ) (rows : List (List Fraction)) → IsShaped m n rows → All (λ row. All IsLowest row) rows
+    → is_in_order (record { rows = m; columns = n; entries = rows_entries 0 rows }) ≡ true
+shaped_order m n rows shape low =
+    ap₂ (λ (a b : Bool). a && b) (above_ascends 0 0 (rows_entries 0 rows) (above_rows 0 rows))
+    (all_inside m n (rows_entries 0 rows) (good_rows m n 0 rows (omega (arith, shape.many)) (widest_most n rows shape.each) low))
+
+pub shaped_names : (m n : ℕ) (rows : List (List Fraction)) → IsShaped m n rows → All (λ row. All IsLowest row) rows
+    → matrix_of (record { rows = m; columns = n; entries = rows_entries 0 rows }) ≡ rows
+shaped_names m n rows shape low =
+    same_matrix m n (matrix_of (record { rows = m; columns = n; entries = rows_entries 0 rows })) rows
+    (matrix_shaped (record { rows = m; columns = n; entries = rows_entries 0 rows })) shape
+    (λ i j l k. matrix_entry (record { rows = m; columns = n; entries = rows_entries 0 rows }) i j l k ∙ rows_found 0 i i j rows (omega arith) low)
+
+-- fractions of the code are in lowest terms
+pub frac_lowest : (f : Frac) → IsLowest (fraction_of f)
+frac_lowest f = record {
+  positive = f.positive;
+  num = sym (reduced_num_same f.num f.den f.reduced);
+  den = sym (reduced_den_same f.num f.den f.reduced);
+  narrow_num = f.num_fits;
+  narrow_den = f.den_fits;
+}
+
+pub rows_lowest : (rows : List (List Frac)) → All (λ row. All IsLowest row) (rows_tree rows)
+rows_lowest [] = All-nil (λ row. All IsLowest row)
+rows_lowest (row ∷ rows) = All-cons (λ row. All IsLowest row) (row_tree row) (rows_tree rows) (of row) (rows_lowest rows)
+  where
+    of : (row : List Frac) → All IsLowest (row_tree row)
+    of [] = All-nil IsLowest
+    of (f ∷ row) = All-cons IsLowest (fraction_of f) (row_tree row) (frac_lowest f) (of row)
+
 -- ---- named entries with a property
 
 -- the values of a matrix by named entries have what 0 and all named values have
 module _ (P : Fraction → Type 0) (of_none : P none) where
-  value_has : (es : List EntryTree) → All (λ e. P e.value) es → (i j : ℕ) → P (value_at es i j)
+  pub value_has : (es : List EntryTree) → All (λ e. P e.value) es → (i j : ℕ) → P (value_at es i j)
   value_has [] all i j = of_none
   value_has (e ∷ es) all i j = by (stands_at i j e) (value_has es (All-tail (λ e. P e.value) e es all) i j)
     where

@@ -46,7 +46,7 @@ use Rattle.kf_cert.specs.Views.{IsLowest, IsPrintable, IsPrintableMatrix}
 use Rattle.kf_cert.proofs.Denominators.{from_entries}
 use Rattle.kf_cert.proofs.Marking.{no_weight}
 use Rattle.kf_cert.proofs.Named.{IsNamable}
-use Rattle.kf_cert.proofs.NamedRows.{widest_most}
+use Rattle.kf_cert.proofs.NamedRows.{frac_lowest, widest_most}
 
 -- ---- the fractions of a solution
 
@@ -62,13 +62,7 @@ lowest_at [] k = record {
   narrow_num = omega arith;
   narrow_den = omega arith;
 }
-lowest_at (x ∷ xs) zero = record {
-  positive = x.positive;
-  num = sym (reduced_num_same x.num x.den x.reduced);
-  den = sym (reduced_den_same x.num x.den x.reduced);
-  narrow_num = x.num_fits;
-  narrow_den = x.den_fits;
-}
+lowest_at (x ∷ xs) zero = frac_lowest x
 lowest_at (x ∷ xs) (suc k) = lowest_at xs k
 
 pub matrix_lowest : (m n : ℕ) (solution : List Frac) (rows : List (List Fraction)) → IsMatrixOf m n solution rows → All (λ row. All IsLowest row) rows

@@ -1,5 +1,5 @@
 -- The marks of a certificate, by the first rule that it breaks.
-use Rattle.std.proofs.Common.{◌≡◌, ◌≢◌, ◌*◌, ◌≤◌, ℕ, List, Result, Ok, Err, inl, inr, refl, sym, ◌∙◌, subst}
+use Rattle.std.proofs.Common.{◌≡◌, ◌≢◌, ◌*◌, ◌≤◌, ℕ, List, All, Result, Ok, Err, true, inl, inr, refl, sym, ap, ◌∙◌, subst}
 use Rattle.std.specs.List.{AllZip}
 use Rattle.kf_frac.specs.Fractions.{limit}
 use Rattle.kf_gain.specs.declared.gain.GainFault.{GainFault}
@@ -7,46 +7,64 @@ use Rattle.kf_gain.specs.declared.gain.GainFault.TheVariants as fault
 use Rattle.kf_gain.specs.declared.table.Action.{Action}
 use Rattle.kf_gain.specs.Gains.{TableTree}
 use Rattle.kf_refine.specs.Refinements.{HyperTree, count, Fraction, IsShaped, CarriesWeights, Separates}
-use Rattle.kf_cert.specs.Certificates.{EntryTree, NamedTable, NamedTree, Yes, Named, No, matrix_of}
+use Rattle.kf_cert.specs.Certificates.{EntryTree, NamedTable, NamedTree, Yes, Named, No, is_in_order, matrix_of}
+use Rattle.kf_cert.specs.CertTexts.{rows_entries}
 use Rattle.kf_cert.specs.Marks.{IsMarked, MarkedByRules, IsInRange, SumToOne, StandsFor, denominator, over_one}
 use Rattle.kf_cert.specs.Naming.{IsMade, AreNarrow, BecomesFault}
+use Rattle.kf_cert.specs.Rows.{matrix_between}
+use Rattle.kf_cert.specs.Views.{IsLowest}
 use Rattle.kf_cert.specs.declared.mark.CheckError.{CheckError}
 use Rattle.kf_cert.specs.declared.mark.CheckError.TheVariants as error
 use Rattle.kf_cert.specs.declared.mark.Mark.{Mark}
 use Rattle.kf_cert.specs.declared.mark.Mark.TheVariants.{Accepted, Rejected}
 use Rattle.kf_cert.specs.declared.mark.Rule.TheVariants as rule
-use Rattle.kf_cert.proofs.NamedRows.{sized_shape}
+use Rattle.kf_cert.proofs.NamedRows.{shaped_order, shaped_names}
 use Rattle.kf_cert.proofs.Standing.{table_of, stands, names_values, same_width, one_table}
 
 -- ---- the marks of a matrix
 
-module _ (a b : HyperTree) (rows : List (List Fraction)) (range : IsInRange rows) (narrow : a.scale * denominator rows ≤ limit) where
-  pub sum_broken : (SumToOne (count a) (count b) rows → ⊥) → MarkedByRules a b rows (Ok (Rejected rule.Sum))
-  sum_broken broken = inr (range, inr (narrow, inl (broken, refl)))
+module _ (a b : HyperTree) (rows : List (List Fraction)) where
+  pub range_broken : (IsInRange rows → ⊥) → MarkedByRules a b rows (Ok (Rejected rule.Range))
+  range_broken broken = inl (broken, refl)
 
-  module _ (sums : SumToOne (count a) (count b) rows) where
-    pub cell_broken : (CarriesWeights a b (denominator rows) (over_one rows) → ⊥) → MarkedByRules a b rows (Ok (Rejected rule.Cell))
-    cell_broken broken = inr (range, inr (narrow, inr (sums, inl (broken, refl))))
+  module _ (range : IsInRange rows) where
+    pub too_wide : (a.scale * denominator rows ≤ limit → ⊥) → MarkedByRules a b rows (Err error.Wide)
+    too_wide wide = inr (range, inl (wide, refl))
 
-    pub none_broken : CarriesWeights a b (denominator rows) (over_one rows) → MarkedByRules a b rows (Ok Accepted)
-    none_broken carries = inr (range, inr (narrow, inr (sums, inr (carries, refl))))
+    module _ (narrow : a.scale * denominator rows ≤ limit) where
+      pub sum_broken : (SumToOne (count a) (count b) rows → ⊥) → MarkedByRules a b rows (Ok (Rejected rule.Sum))
+      sum_broken broken = inr (range, inr (narrow, inl (broken, refl)))
 
--- rows are read as the matrix that they are
-pub rows_marked : (a b : HyperTree) (rows matrix : List (List Fraction)) → rows ≡ matrix → IsShaped (count a) (count b) rows → (r : Result Mark CheckError)
-    → MarkedByRules a b rows r → IsMarked a b (Yes matrix) r
-rows_marked a b rows matrix is shaped r marked = subst (λ (m : List (List Fraction)). IsMarked a b (Yes m) r) is (inr (shaped, marked))
+      module _ (sums : SumToOne (count a) (count b) rows) where
+        pub cell_broken : (CarriesWeights a b (denominator rows) (over_one rows) → ⊥) → MarkedByRules a b rows (Ok (Rejected rule.Cell))
+        cell_broken broken = inr (range, inr (narrow, inr (sums, inl (broken, refl))))
 
--- rows that are filled in by named entries
-module _ (a b : HyperTree) (t : NamedTree) (m n : ℕ) (es : List EntryTree) (rows : List (List Fraction)) (first : m ≡ count a) (second : n ≡ count b) (many : t.rows ≡ m)
-    (wide : t.columns ≡ n) (entries : es ≡ t.entries) (is : rows ≡ matrix_of (record { rows = m; columns = n; entries = es })) where
-  filled_is : matrix_of t ≡ rows
-  filled_is = (λ i. matrix_of (record { rows = many i; columns = wide i; entries = sym entries i })) ∙ sym is
+        pub none_broken : CarriesWeights a b (denominator rows) (over_one rows) → MarkedByRules a b rows (Ok Accepted)
+        none_broken carries = inr (range, inr (narrow, inr (sums, inr (carries, refl))))
 
-  pub filled_shaped : IsShaped (count a) (count b) rows
-  filled_shaped = subst (IsShaped (count a) (count b)) filled_is (sized_shape (count a) (count b) t (many ∙ first) (wide ∙ second))
+-- rows are read as the matrix that they are, and checked by their entries that aren't 0
+module _ (a b : HyperTree) (rows : List (List Fraction)) (es : List EntryTree) (shaped : IsShaped (count a) (count b) rows)
+    (low : All (λ row. All IsLowest row) rows) (named : es ≡ rows_entries 0 rows) where
+  pub rows_ordered : is_in_order (matrix_between a b es) ≡ true
+  rows_ordered = ap (λ (es : List EntryTree). is_in_order (matrix_between a b es)) named ∙ shaped_order (count a) (count b) rows shaped low
 
-  pub filled_marked : (r : Result Mark CheckError) → MarkedByRules a b rows r → IsMarked a b (Named t) r
-  filled_marked r marked = inr ((many ∙ first, wide ∙ second), subst (λ (k : List (List Fraction)). MarkedByRules a b k r) (sym filled_is) marked)
+  pub rows_marked : (matrix : List (List Fraction)) → rows ≡ matrix → (r : Result Mark CheckError)
+      → MarkedByRules a b (matrix_of (matrix_between a b es)) r → IsMarked a b (Yes matrix) r
+  rows_marked matrix is r marked =
+      let whole : matrix_of (matrix_between a b es) ≡ rows =
+      ap (λ (es : List EntryTree). matrix_of (matrix_between a b es)) named ∙ shaped_names (count a) (count b) rows shaped low in
+      subst (λ (m : List (List Fraction)). IsMarked a b (Yes m) r) is (inr (shaped, subst (λ (m : List (List Fraction)). MarkedByRules a b m r) whole marked))
+
+-- a matrix by named entries that has the sizes of the hypers
+module _ (a b : HyperTree) (t : NamedTree) (es : List EntryTree) (rows : t.rows ≡ count a) (columns : t.columns ≡ count b) (entries : es ≡ t.entries) where
+  between_is : matrix_between a b es ≡ t
+  between_is = λ i. record { rows = sym rows i; columns = sym columns i; entries = entries i }
+
+  pub named_ordered : is_in_order t ≡ true → is_in_order (matrix_between a b es) ≡ true
+  named_ordered ordered = ap is_in_order between_is ∙ ordered
+
+  pub named_marked : (r : Result Mark CheckError) → MarkedByRules a b (matrix_of (matrix_between a b es)) r → IsMarked a b (Named t) r
+  named_marked r marked = inr ((rows, columns), subst (λ (u : NamedTree). MarkedByRules a b (matrix_of u) r) between_is marked)
 
 -- ---- the marks of a gain table
 

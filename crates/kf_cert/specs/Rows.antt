@@ -1,9 +1,10 @@
--- For bodies: the rules on a matrix, row by row.
-use Rattle.std.specs.Prelude.{◌≡◌, ℕ, ◌/◌, ℤ, pos, ◌*ℤ◌, ◌≤ℤ◌, List, map, flat_map, length, slice_index_or}
+-- For bodies: the rules on the entries of a matrix, and the entries as whole numbers over their one denominator.
+use Rattle.std.specs.Prelude.{◌≡◌, ℕ, ◌*◌, ◌/◌, ◌<◌, ◌==◌, All, ℤ, pos, ◌≤ℤ◌, unsigned_abs, List, map, sum_by, if◌then◌else◌}
 use Rattle.kf_frac.specs.declared.frac.Frac.{Frac}
-use Rattle.kf_simplex.specs.Base.{total}
-use Rattle.kf_refine.specs.Refinements.{Fraction}
+use Rattle.kf_refine.specs.Refinements.{HyperTree, Fraction, count}
 use Rattle.kf_refine.specs.Views.{fraction_of}
+use Rattle.kf_cert.specs.Certificates.{EntryTree, NamedTree}
+use Rattle.kf_cert.specs.declared.matrix_rules.shares.Share.{Share}
 
 -- what contracts see of a row, and of rows
 abbrev pub row_tree : List Frac → List Fraction
@@ -12,25 +13,34 @@ row_tree row = map fraction_of row
 abbrev pub rows_tree : List (List Frac) → List (List Fraction)
 rows_tree rows = map (λ row. map fraction_of row) rows
 
+-- the matrix from a's inners to b's that entries name
+abbrev pub matrix_between : HyperTree → HyperTree → List EntryTree → NamedTree
+matrix_between a b entries = record { rows = count a; columns = count b; entries = entries }
+
 -- from 0 to 1
 abbrev pub IsWithin : Fraction → Type 0
 IsWithin f = (pos 0 ≤ℤ f.num) × (f.num ≤ℤ pos f.den)
 
--- the denominators of a row, and those of rows, one after the other
-abbrev pub row_dens : List Fraction → List ℕ
-row_dens row = map (λ f. f.den) row
+-- the values of all entries are
+abbrev pub AreWithin : List EntryTree → Type 0
+AreWithin entries = All (λ e. IsWithin e.value) entries
 
-abbrev pub dens : List (List Fraction) → List ℕ
-dens rows = flat_map (λ row. map (λ f. f.den) row) rows
+-- their denominators, one after the other
+abbrev pub dens : List EntryTree → List ℕ
+dens entries = map (λ e. e.value.den) entries
 
--- a fraction as a whole number over d
-abbrev pub over_whole : ℕ → Fraction → ℤ
-over_whole d f = f.num *ℤ pos (d / f.den)
+-- a fraction from 0 to 1 as a whole number over d
+abbrev pub amount_of : ℕ → Fraction → ℕ
+amount_of d f = unsigned_abs f.num * (d / f.den)
 
--- the k-th entry of a row so; 0 past its end
-abbrev pub row_over : ℕ → List Fraction → ℕ → ℤ
-row_over d row k = over_whole d (slice_index_or row k (record { num = pos 0; den = 1 }))
+-- an entry so
+abbrev pub share_of : ℕ → EntryTree → Share
+share_of d e = record { row = e.row; column = e.column; amount = amount_of d e.value }
 
--- its entries sum to 1
-abbrev pub SumsToOne : ℕ → List Fraction → Type 0
-SumsToOne d row = total (length row) (row_over d row) ≡ pos d
+-- what the shares of row i come to
+abbrev pub row_amount : List Share → ℕ → ℕ
+row_amount shares i = sum_by (λ s. if s.row == i then s.amount else 0) shares
+
+-- those of each of so many rows come to d
+abbrev pub SumsToOne : ℕ → ℕ → List Share → Type 0
+SumsToOne d rows shares = (i : ℕ) → i < rows → row_amount shares i ≡ d

@@ -1,30 +1,30 @@
 //! The rules on a matrix.
 
-ghost use Rattle.std.specs.Prelude.{◌≡◌, ◌≢◌, ◌↔◌, ◌*◌, ◌≤◌, ◌<◌, All, Ok, Err, IfOk, IfErr, IsTrue, SomeIff, length};
+ghost use Rattle.std.specs.Prelude.{◌≡◌, ◌≢◌, ◌↔◌, Ok, Err, IfOk, IfErr, IsTrue, map, true};
 ghost use Rattle.kf_cert.specs.declared.mark.CheckError.TheVariants as error;
-ghost use Rattle.kf_cert.specs.Certificates.{Yes, Named};
-ghost use Rattle.kf_cert.specs.Marks.{IsMarked, MarkedByRules, IsInRange, denominator as denominator_of};
-ghost use Rattle.kf_cert.specs.Rows.{rows_tree, row_tree, IsWithin};
-ghost use Rattle.kf_cert.specs.Views.{IsSoundNamed, named_tree};
-ghost use Rattle.kf_frac.specs.Fractions.{limit};
-ghost use Rattle.kf_hyper.specs.Views.{inners_of};
+ghost use Rattle.kf_cert.specs.Certificates.{Yes, Named, is_in_order, matrix_of};
+ghost use Rattle.kf_cert.specs.Marks.{IsMarked, MarkedByRules};
+ghost use Rattle.kf_cert.specs.Rows.{rows_tree, matrix_between, IsWithin, AreWithin};
+ghost use Rattle.kf_cert.specs.Views.{IsSoundNamed, entry_tree, named_tree};
 ghost use Rattle.kf_refine.specs.Refinements.{IsShaped};
 ghost use Rattle.kf_refine.specs.Views.{hyper_tree, matrix_tree, fraction_of};
 
 mod cells;
-mod filling;
 mod gathering;
+mod naming;
+mod shares;
 mod sums;
 
-use crate::{CheckError, Mark, NamedMatrix, Rule};
+use crate::{CheckError, Mark, NamedEntry, NamedMatrix, Rule};
 use cells::carries;
-use filling::filled;
 use kf_frac::Frac;
 use kf_hyper::Hyper;
 use kf_refine::Matrix;
 use kf_simplex::FracList;
+use naming::named;
+use shares::{shares_over, sum_to_one};
 use std::alloc::Global;
-use sums::{denominator_within, sum_to_one};
+use sums::denominator_within;
 
 /// Whether a matrix that stands row by row carries the first hyper's joint weights to the second's.
 pub(crate) fn check_matrix(
@@ -40,7 +40,8 @@ pub(crate) fn check_matrix(
     if !is_shaped(rows, a.count(), b.count()) {
         return Ok(Mark::Rejected(Rule::Shape));
     }
-    let mark = check_rows(alloc, a, b, rows)?;
+    let entries = named(alloc, rows)?;
+    let mark = check_entries(alloc, a, b, entries.as_slice())?;
     Ok(mark)
 }
 
@@ -55,13 +56,10 @@ pub(crate) fn check_named(
     ensures is { IfOk result (λ mark. IsMarked (hyper_tree a.now) (hyper_tree b.now) (Named (named_tree matrix.now)) (Ok mark)) }
     ensures err { IfErr result (λ e. e ≢ error.Mem → IsMarked (hyper_tree a.now) (hyper_tree b.now) (Named (named_tree matrix.now)) (Err e)) }
 {
-    let count = a.count();
-    let width = b.count();
-    if !has_sizes(matrix, count, width) {
+    if !has_sizes(matrix, a.count(), b.count()) {
         return Ok(Mark::Rejected(Rule::Shape));
     }
-    let rows = filled(alloc, matrix.entries.as_slice(), count, width)?;
-    let mark = check_rows(alloc, a, b, rows.as_slice())?;
+    let mark = check_entries(alloc, a, b, matrix.entries.as_slice())?;
     Ok(mark)
 }
 
@@ -72,22 +70,30 @@ fn has_sizes(matrix: &NamedMatrix, rows: usize, columns: usize) -> bool
     matrix.rows == rows as u128 && matrix.columns == columns as u128
 }
 
-// The rules on the entries of a matrix that has its shape.
-fn check_rows(alloc: Global, a: &Hyper, b: &Hyper, rows: &[FracList]) -> Result<Mark, CheckError>
-    requires { IsShaped (length (inners_of a.now)) (length (inners_of b.now)) (rows_tree rows.now) }
-    ensures is { IfOk result (λ mark. MarkedByRules (hyper_tree a.now) (hyper_tree b.now) (rows_tree rows.now) (Ok mark)) }
-    ensures err { IfErr result (λ e. e ≢ error.Mem → MarkedByRules (hyper_tree a.now) (hyper_tree b.now) (rows_tree rows.now) (Err e)) }
+// The rules on the entries of a matrix that has its shape, along those that are named: every other is 0.
+fn check_entries(
+    alloc: Global,
+    a: &Hyper,
+    b: &Hyper,
+    entries: &[NamedEntry],
+) -> Result<Mark, CheckError>
+    requires { is_in_order (matrix_between (hyper_tree a.now) (hyper_tree b.now) (map entry_tree entries.now)) ≡ true }
+    ensures is { IfOk result (λ mark. MarkedByRules (hyper_tree a.now) (hyper_tree b.now)
+        (matrix_of (matrix_between (hyper_tree a.now) (hyper_tree b.now) (map entry_tree entries.now))) (Ok mark)) }
+    ensures err { IfErr result (λ e. e ≢ error.Mem → MarkedByRules (hyper_tree a.now) (hyper_tree b.now)
+        (matrix_of (matrix_between (hyper_tree a.now) (hyper_tree b.now) (map entry_tree entries.now))) (Err e)) }
 {
-    if !is_in_range(rows) {
+    if !are_within(entries) {
         return Ok(Mark::Rejected(Rule::Range));
     }
-    let Some(over) = denominator_within(rows, a.scale()) else {
+    let Some(over) = denominator_within(entries, a.scale()) else {
         return Err(CheckError::Wide);
     };
-    if !sum_to_one(rows, over) {
+    let shares = shares_over(alloc, entries, over)?;
+    if !sum_to_one(alloc, shares.as_slice(), a.count(), over)? {
         return Ok(Mark::Rejected(Rule::Sum));
     }
-    if !carries(alloc, a, b, rows, over)? {
+    if !carries(alloc, a, b, shares, over)? {
         return Ok(Mark::Rejected(Rule::Cell));
     }
     Ok(Mark::Accepted)
@@ -115,24 +121,12 @@ fn is_within(f: &Frac) -> bool
     0 <= f.num() && f.num().unsigned_abs() <= f.den()
 }
 
-// Whether all fractions of a row are.
-fn is_row_within(row: &[Frac]) -> bool
-    ensures { IsTrue result ↔ All IsWithin (row_tree row.now) }
+// Whether the values of all entries are.
+fn are_within(entries: &[NamedEntry]) -> bool
+    ensures { IsTrue result ↔ AreWithin (map entry_tree entries.now) }
 {
-    for f in row {
-        if !is_within(f) {
-            return false;
-        }
-    }
-    true
-}
-
-// Whether all entries are.
-fn is_in_range(rows: &[FracList]) -> bool
-    ensures { IsTrue result ↔ IsInRange (rows_tree rows.now) }
-{
-    for row in rows {
-        if !is_row_within(row.as_slice()) {
+    for entry in entries {
+        if !is_within(&entry.value) {
             return false;
         }
     }

@@ -88,7 +88,7 @@ fn entry_values(alloc: Global, rows: &[FracList]) -> Result<Vec<Value>, Mem>
 }
 
 /// Whether a fraction is 0.
-fn is_zero(value: &Frac) -> bool
+pub(crate) fn is_zero(value: &Frac) -> bool
     ensures { result ≡ (unsigned_abs (num_of value.now) == 0) }
 {
     value.num().unsigned_abs() == 0

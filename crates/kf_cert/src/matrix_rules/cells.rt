@@ -1,22 +1,19 @@
-//! Whether a matrix carries the joint weights of one hyper to those of another.
+//! Whether the entries of a matrix carry the joint weights of one hyper to those of another.
 
-ghost use Rattle.std.specs.Prelude.{◌≡◌, ◌↔◌, ◌+◌, ◌*◌, ◌/◌, ◌^◌, ◌≤◌, ◌<◌, ℕ, All, IfOk, OnOk, IsTrue, pos, length, map};
-ghost use Rattle.kf_cert.specs.Marks.{IsInRange};
-ghost use Rattle.kf_cert.specs.Rows.{rows_tree, row_tree, row_over, IsWithin};
-ghost use Rattle.kf_cert.specs.Cells.{AreCarried, IsCarried, at_over};
+ghost use Rattle.std.specs.Prelude.{◌≡◌, ◌↔◌, ◌+◌, ◌*◌, ◌/◌, ◌^◌, ◌≤◌, ◌<◌, ℕ, All, IfOk, OnOk, IsTrue, length, map};
+ghost use Rattle.std.specs.List.Sorted.{IsNonDecreasingBy};
+ghost use Rattle.kf_cert.specs.Cells.{AreCarried, IsCarried, share_total, column_total};
 ghost use Rattle.kf_frac.specs.Fractions.{limit};
 ghost use Rattle.kf_hyper.specs.Averages.{scaled, joint_weight};
 ghost use Rattle.kf_hyper.specs.Columns.{total};
 ghost use Rattle.kf_hyper.specs.Sums.{summed, ArePositive, Gains};
 ghost use Rattle.kf_hyper.specs.Views.{inners_of, inner_at, scale_of};
-ghost use Rattle.kf_refine.specs.Refinements.{IsShaped, CarriesWeights};
 ghost use Rattle.kf_refine.specs.Views.{hyper_tree};
 
 use super::gathering::{add_all, entries_of};
-use super::sums::entry_over;
-use kf_frac::{Frac, Product};
+use super::shares::{Share, in_column};
+use kf_frac::Product;
 use kf_hyper::{Entry, Hyper};
-use kf_simplex::FracList;
 use kf_value::Mem;
 use std::alloc::Global;
 use std::cmp::Ordering;
@@ -29,16 +26,6 @@ fn multiple(h: &Hyper, i: usize) -> u128
 {
     let _scale = h.scale();
     h.total(i) / h.inner(i).total()
-}
-
-// The entry of a row at place `j`, as a whole number over a multiple of its denominator.
-fn entry_at(row: &[Frac], j: usize, over: u128) -> u128
-    requires inside { j < length row.now }
-    requires within { All IsWithin (row_tree row.now) }
-    ensures value { pos result ≡ row_over over (row_tree row.now) j }
-    ensures most { result ≤ over }
-{
-    entry_over(&row[j], over)
 }
 
 // Adds so many times the joint weights of an inner.
@@ -58,24 +45,15 @@ fn add_inner(sums: &mut BTreeMap<u64, u128>, h: &Hyper, i: usize, part: u128) ->
     Ok(())
 }
 
-// What the values weigh together with the inner `j` of another hyper, by the matrix and the hyper's joint weights.
-fn column_sums(
-    alloc: Global,
-    a: &Hyper,
-    rows: &[FracList],
-    over: u128,
-    j: usize,
-) -> Result<Vec<Entry>, Mem>
-    requires shaped { (n : ℕ) × (j < n) × IsShaped (length (inners_of a.now)) n (rows_tree rows.now) }
-    requires within { IsInRange (rows_tree rows.now) }
-    requires fits { scale_of a.now * over ≤ limit }
-    ensures { IfOk result (λ entries. AreCarried (hyper_tree a.now) over (rows_tree rows.now) j entries.items) }
+// What the values weigh together by the first hyper's joint weights and the shares of a column.
+fn column_sums(alloc: Global, a: &Hyper, column: &[Share]) -> Result<Vec<Entry>, Mem>
+    requires inside { All (λ s. s.row < length (inners_of a.now)) column.now }
+    requires fits { share_total (hyper_tree a.now) column.now ≤ limit }
+    ensures { IfOk result (λ entries. AreCarried (hyper_tree a.now) column.now entries.items) }
 {
-    let _scale = a.scale();
     let mut sums = BTreeMap::new(alloc);
-    for i in 0..a.count() {
-        let part = entry_at(rows[i].as_slice(), j, over);
-        add_inner(&mut sums, a, i, part)?;
+    for share in column {
+        add_inner(&mut sums, a, share.row, share.amount)?;
     }
     entries_of(alloc, sums)
 }
@@ -106,46 +84,67 @@ fn are_equal(ones: &[Entry], factor: u128, others: &[Entry], times: u128, whole:
     true
 }
 
-// Whether the matrix carries the first hyper's joint weights to those of the second's inner `j`.
+// Whether the shares carry the first hyper's joint weights to those of the second's inner `j`.
 fn is_carried(
     alloc: Global,
     a: &Hyper,
     b: &Hyper,
-    rows: &[FracList],
+    shares: &[Share],
     over: u128,
     j: usize,
 ) -> Result<bool, Mem>
     requires inner { j < length (inners_of b.now) }
-    requires shaped { IsShaped (length (inners_of a.now)) (length (inners_of b.now)) (rows_tree rows.now) }
-    requires within { IsInRange (rows_tree rows.now) }
+    requires inside { All (λ s. s.row < length (inners_of a.now)) shares.now }
+    requires ascending { IsNonDecreasingBy (λ s. s.column) shares.now }
     requires some { 0 < over }
-    requires fits { scale_of a.now * over ≤ limit }
-    ensures { IfOk result (λ r. IsTrue r ↔ IsCarried (hyper_tree a.now) (hyper_tree b.now) over (rows_tree rows.now) j) }
+    requires narrow { scale_of a.now * over ≤ limit }
+    requires fits { column_total (hyper_tree a.now) shares.now j ≤ limit }
+    ensures { IfOk result (λ r. IsTrue r ↔ IsCarried (hyper_tree a.now) (hyper_tree b.now) over shares.now j) }
 {
-    let sums = column_sums(alloc, a, rows, over, j)?;
+    let sums = column_sums(alloc, a, in_column(shares, j))?;
     let entries = b.inner(j).entries().as_slice();
     let whole = a.scale() * over;
     Ok(are_equal(sums.as_slice(), b.scale(), entries, multiple(b, j), whole))
 }
 
-/// Whether it does for every inner.
-pub(super) fn carries(
+// Whether they do for every inner.
+fn all_carried(
     alloc: Global,
     a: &Hyper,
     b: &Hyper,
-    rows: &[FracList],
+    shares: &[Share],
     over: u128,
 ) -> Result<bool, Mem>
-    requires shaped { IsShaped (length (inners_of a.now)) (length (inners_of b.now)) (rows_tree rows.now) }
-    requires within { IsInRange (rows_tree rows.now) }
+    requires inside { All (λ s. s.row < length (inners_of a.now)) shares.now }
+    requires ascending { IsNonDecreasingBy (λ s. s.column) shares.now }
     requires some { 0 < over }
-    requires fits { scale_of a.now * over ≤ limit }
-    ensures { IfOk result (λ r. IsTrue r ↔ CarriesWeights (hyper_tree a.now) (hyper_tree b.now) over (at_over over (rows_tree rows.now))) }
+    requires narrow { scale_of a.now * over ≤ limit }
+    requires fits { (j : ℕ) → column_total (hyper_tree a.now) shares.now j ≤ limit }
+    ensures { IfOk result (λ r. IsTrue r ↔ ((j : ℕ) → j < length (inners_of b.now) → IsCarried (hyper_tree a.now) (hyper_tree b.now) over shares.now j)) }
 {
     for j in 0..b.count() {
-        if !is_carried(alloc, a, b, rows, over, j)? {
+        if !is_carried(alloc, a, b, shares, over, j)? {
             return Ok(false);
         }
     }
     Ok(true)
+}
+
+/// Whether shares, in any order, carry the first hyper's joint weights to the second's.
+pub(super) fn carries(
+    alloc: Global,
+    a: &Hyper,
+    b: &Hyper,
+    mut shares: Vec<Share>,
+    over: u128,
+) -> Result<bool, Mem>
+    requires inside { All (λ s. s.row < length (inners_of a.now)) shares.items }
+    requires some { 0 < over }
+    requires narrow { scale_of a.now * over ≤ limit }
+    requires fits { (j : ℕ) → column_total (hyper_tree a.now) shares.items j ≤ limit }
+    ensures { IfOk result (λ r. IsTrue r ↔ ((j : ℕ) → j < length (inners_of b.now) → IsCarried (hyper_tree a.now) (hyper_tree b.now) over shares.items j)) }
+{
+    shares.sort_unstable_by_key(|share| share.column);
+    let carried = all_carried(alloc, a, b, shares.as_slice(), over)?;
+    Ok(carried)
 }

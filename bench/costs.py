@@ -3,7 +3,7 @@
 
     python3 bench/costs.py [PROGRAM]
 
-Each question is asked once, in a process of its own, with a limit on its address space and on its time. Prints the rows of the table: how many
+Each question is asked once, in a process of its own, with a limit on its address space and on its processor seconds. Prints the rows of the table: how many
 bytes the text has, what it is, the command, and processor seconds, greatest memory and length of the answer, or the status, or that it was
 stopped. Memory is seen from that on which Python takes itself. The program is bin/kuifje where no other is named."""
 import os
@@ -35,29 +35,30 @@ def table(actions):
     return f'{{"actions":[{rows}],"format":"kuifje-gain-1","over":1,"rest":0}}'
 
 
-# What it is; its texts; the words; the megabytes of address space and the seconds that it may have.
+# What it is; its texts; the words; the megabytes of address space and the processor seconds that it may have.
 QUESTIONS = [
     ("six loops to 1,000, one in the other: 10^18 turns", {"p.kf": loops()}, "hyper p.kf", 2000, 20),
-    ("two variables, uniform on 0..65535: 2^32 stores", {"p.kf": "var x:0..65535:=uniform 0..65535;\nvar y:0..65535:=uniform 0..65535;"}, "hyper p.kf", 2000, 60),
-    ("two variables, uniform on 0..65535 and 0..255", {"p.kf": "var x:0..65535:=uniform 0..65535;\nvar y:0..255:=uniform 0..255;"}, "hyper p.kf", 4000, 60),
-    ("a variable on 0..65535, drawn again from 65,536 stores", {"p.kf": "var x:0..65535:=uniform 0..65535;x:=uniform 0..65535;"}, "hyper p.kf", 2000, 60),
-    ("a variable of 4,096 values, drawn again", {"p.kf": "var x:0..4095:=0;x:=uniform 0..4095;"}, "covers p.kf p.kf", 1500, 60),
-    ("22 coins, shown", {"p.kf": "var x:0..1:=0;" + "observe flip 1/2;" * 22}, "traces p.kf", 3000, 60),
-    ("20 coins, shown", {"p.kf": "var x:0..1:=0;" + "observe flip 1/2;" * 20}, "traces p.kf", 3000, 60),
+    ("two variables, uniform on 0..65535: 2^32 stores", {"p.kf": "var x:0..65535:=uniform 0..65535;\nvar y:0..65535:=uniform 0..65535;"}, "hyper p.kf", 2000, 20),
+    ("two variables, uniform on 0..65535 and 0..255", {"p.kf": "var x:0..65535:=uniform 0..65535;\nvar y:0..255:=uniform 0..255;"}, "hyper p.kf", 4000, 20),
+    ("a variable on 0..65535, drawn again from 65,536 stores", {"p.kf": "var x:0..65535:=uniform 0..65535;x:=uniform 0..65535;"}, "hyper p.kf", 2000, 20),
+    ("a variable of 4,096 values, drawn again", {"p.kf": "var x:0..4095:=0;x:=uniform 0..4095;"}, "covers p.kf p.kf", 1500, 20),
+    ("22 coins, shown", {"p.kf": "var x:0..1:=0;" + "observe flip 1/2;" * 22}, "traces p.kf", 3000, 20),
+    ("20 coins, shown", {"p.kf": "var x:0..1:=0;" + "observe flip 1/2;" * 20}, "traces p.kf", 3000, 20),
     ("`x mod 20` and `x mod 40`, `x` on 0..63", {"a.kf": "var x:0..63:=uniform 0..63;observe x mod 20;", "b.kf": "var x:0..63:=uniform 0..63;observe x mod 40;"},
-     "refine a.kf b.kf", 2000, 120),
+     "refine a.kf b.kf", 2000, 60),
     ("the same turned round", {"a.kf": "var x:0..63:=uniform 0..63;observe x mod 40;", "b.kf": "var x:0..63:=uniform 0..63;observe x mod 20;"},
-     "refine a.kf b.kf", 2000, 120),
-    ("59,000 observations", {"p.kf": "var x:0..1:=uniform 0..1;" + "observe x = 1;\n" * 59_000}, "blame p.kf", 2000, 60),
-    ("a gain table of 29,000 actions", {"p.kf": "var x:0..1:=uniform 0..1;observe x;", "t.json": table(29_000)}, "leak p.kf --gain table:t.json", 2000, 60),
-    ("a million one-time codes, five tries", {"p.kf": CODES}, "leak p.kf --gain bayes", 2000, 60),
-    ("the salt kept", {"p.kf": (TOP / "examples/costs/salt_kept.kf").read_text()}, "leak p.kf --gain bayes", 2000, 60),
-    ("the salt set", {"p.kf": (TOP / "examples/costs/salt_set.kf").read_text()}, "leak p.kf --gain bayes", 2000, 60),
+     "refine a.kf b.kf", 2000, 60),
+    ("59,000 observations", {"p.kf": "var x:0..1:=uniform 0..1;" + "observe x = 1;\n" * 59_000}, "blame p.kf", 2000, 20),
+    ("a gain table of 29,000 actions", {"p.kf": "var x:0..1:=uniform 0..1;observe x;", "t.json": table(29_000)}, "leak p.kf --gain table:t.json", 2000, 20),
+    ("a million one-time codes, five tries", {"p.kf": CODES}, "leak p.kf --gain bayes", 2000, 20),
+    ("the salt kept", {"p.kf": (TOP / "examples/costs/salt_kept.kf").read_text()}, "leak p.kf --gain bayes", 2000, 20),
+    ("the salt set", {"p.kf": (TOP / "examples/costs/salt_set.kf").read_text()}, "leak p.kf --gain bayes", 2000, 20),
 ]
 
 
-def limited(megabytes):
+def limited(megabytes, seconds):
     resource.setrlimit(resource.RLIMIT_AS, (megabytes << 20, megabytes << 20))
+    resource.setrlimit(resource.RLIMIT_CPU, (seconds, seconds + 1))
 
 
 def measured(program, texts, words, megabytes, seconds):
@@ -66,18 +67,13 @@ def measured(program, texts, words, megabytes, seconds):
         for name, text in texts.items():
             (Path(folder) / name).write_text(text)
         child = subprocess.Popen([program, *words.split()], cwd=folder, stdin=subprocess.DEVNULL, stdout=out, stderr=subprocess.DEVNULL,
-                                 preexec_fn=lambda: limited(megabytes))
-        until = time.monotonic() + seconds
-        while (ended := os.waitid(os.P_PID, child.pid, os.WEXITED | os.WNOHANG | os.WNOWAIT)) is None and time.monotonic() < until:
-            time.sleep(0.002)
-        if ended is None:
-            child.kill()
+                                 preexec_fn=lambda: limited(megabytes, seconds))
         _, status, usage = os.wait4(child.pid, 0)
         child.returncode = os.waitstatus_to_exitcode(status)
         own = resource.getrusage(resource.RUSAGE_SELF).ru_maxrss
         memory = f"{usage.ru_maxrss / 1024:.0f} MB" if usage.ru_maxrss > own + 1024 else f"less than {own / 1024 + 1:.0f} MB"
         took = f"{usage.ru_utime + usage.ru_stime:.2f} s, {memory}"
-        if ended is None:
+        if child.returncode < 0:
             return f"stopped after {took}"
         if child.returncode > 1:
             return f"status {child.returncode} after {took}, with {megabytes / 1000} GB allowed"

@@ -1,10 +1,11 @@
 #!/usr/bin/env python3
 """Compares the hypers that kuifje prints with those of the second implementation, which is extracted from Coq's proofs.
 
-    python3 programs.py PROGRAM          ten programs, with wrong hypers of each, two verdicts on texts, and one theorem by coqc
+    python3 programs.py PROGRAM          ten programs, with their leaks and wrong hypers of each, two verdicts on texts, and one theorem by coqc
     python3 programs.py PROGRAM --all    every program of the examples, the course and the cases
 
-PROGRAM is kuifje. `kuifje-confirm hyper FILE` has to print the bytes of `kuifje hyper FILE`. Of each program of the examples and the course
+PROGRAM is kuifje. `kuifje-confirm hyper FILE` has to print the bytes of `kuifje hyper FILE`, and `kuifje-confirm leak FILE GAIN` those of
+`kuifje leak FILE --gain GAIN`, for the gains of guesses. Of each program of the examples and the course
 three wrong hypers have to be rejected as well: with another digit in a probability, in the scale, and in an outer probability. Each
 answer may take 60 seconds of a processor and 2 GB. Where kuifje refuses a text, kuifje-confirm has to have no answer, or the refusal is for one of the bounds
 below, which are no part of a program's meaning."""
@@ -28,6 +29,7 @@ TEN = ["first.kf", "pin.kf", "doors.kf", "dinner.kf", "auction.kf", "receipt_las
 # A text with a digit changed in it, for the first hyper above.
 CHANGED = ("observe x mod 2;", "observe x mod 3;")
 TEXTS = [("pin.kf", "pin_whole.kf", "yes"), ("pin_whole.kf", "pin.kf", "no")]
+GAINS = ["bayes", "tries:2", "guessing"]
 SCALE, OUTER = r"\nscale (\d)", r"(?s:.*)\ninner \d+ outer (\d)"
 BOUNDS = ("TypeTooLarge", "BadRange", "TooManyVariables", "StoreTooWide", "Long", "Deep", "Utf8", "Char")
 
@@ -56,6 +58,15 @@ def faults_of_wrong(folder, path, text):
             yield f"{path}: {answer} of a hyper with another {name}"
 
 
+def faults_of_leaks(program, path, count):
+    for gain in GAINS:
+        theirs = subprocess.run([program, "leak", path, "--gain", gain], capture_output=True, check=False).stdout
+        answer = confirm("leak", path, gain)
+        count["leaks"] += 1
+        if answer != (0, theirs):
+            yield f"{path}: {answer} for --gain {gain}"
+
+
 def refusal_is_known(theirs, ours):
     """Where kuifje refuses a text: is there no answer here, or did a bound refuse it?"""
     return ours[0] == 2 or theirs.rsplit(" ", 1)[-1].strip() in BOUNDS or "passes 2^127 - 1" in theirs
@@ -81,7 +92,7 @@ def ten(program, folder):
     for name in TEN:
         path = TOP / "examples" / name
         text, fault = compare(program, path, count)
-        faults += [fault] if text is None else [*faults_of_wrong(folder, path, text)]
+        faults += [fault] if text is None else [*faults_of_wrong(folder, path, text), *faults_of_leaks(program, path, count)]
     printed, changed = folder / "first.txt", folder / "changed.kf"
     first = TOP / "examples" / TEN[0]
     printed.write_text(run(program, "hyper", first).stdout)
@@ -148,7 +159,7 @@ def every(program, folder):
         before = used()
         text, fault = compare(program, path, count)
         slowest = max(slowest, (used() - before, path.name))
-        faults += [fault] if fault else [] if text is None else [*faults_of_wrong(folder, path, text)]
+        faults += [fault] if fault else [] if text is None else [*faults_of_wrong(folder, path, text), *faults_of_leaks(program, path, count)]
     print("examples and course:", dict(count), f"slowest {slowest[1]} {slowest[0]:.1f} s", flush=True)
     cases, path = Counter(), folder / "case.kf"
     for text in case_texts():

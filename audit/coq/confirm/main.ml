@@ -1,7 +1,7 @@
 (* Gives the bytes of files to the extracted checkers, prints their answer, and ends with its status. Nothing else is done here. *)
 open Verified
 
-let usage = "usage: kuifje-confirm CERT A B | [--turns N] hyper FILE [PRINTED] | [--turns N] texts CERT FILE FILE"
+let usage = "usage: kuifje-confirm CERT A B | [--turns N] (hyper FILE [PRINTED] | leak FILE GAIN | texts CERT FILE FILE)"
 let refuse words = prerr_endline ("kuifje-confirm: " ^ words); exit 2
 
 let bytes name =
@@ -26,6 +26,13 @@ let nat_of n = let rec go n m = if n = 0 then m else go (n - 1) (S m) in go n O
 (* Long lists are made and soon forgotten: a large young generation is quicker. Its pages are taken as they are used. *)
 let () = Gc.set { (Gc.get ()) with minor_heap_size = 32_000_000; space_overhead = 400 }
 
+let gain_of word =
+  match word, String.split_on_char ':' word with
+  | "bayes", _ -> Bayes
+  | "guessing", _ -> Guessing
+  | _, ["tries"; k] -> (match int_of_string_opt k with Some k when 0 < k && k <= 1_000_000 -> Tries (nat_of k) | _ -> refuse usage)
+  | _ -> refuse usage
+
 (* The answer, and the file that is meant where it is none. *)
 let answer (status, words) name ends =
   if int_of status = 2 then refuse (name ^ string words) else (print_string (string words ^ ends); exit (int_of status))
@@ -33,6 +40,7 @@ let answer (status, words) name ends =
 let run turns = function
   | ["hyper"; file] -> answer (report_hyper turns (bytes file)) (file ^ ": ") ""
   | ["hyper"; file; printed] -> answer (report_confirmed turns (bytes file) (bytes printed)) (file ^ ": ") "\n"
+  | ["leak"; file; gain] -> answer (report_leak turns (gain_of gain) (bytes file)) (file ^ ": ") ""
   | ("texts" :: ([_; _; _] as files)) | ([_; _; _] as files) as words ->
       let report_of certificate a b =
         if List.length words = 4 then report_texts turns certificate a b else report (confirm certificate a b) in

@@ -131,7 +131,7 @@ def _exactly(source: IO[bytes], count: int, deadline: float | None) -> bytes:
     found = bytearray()
     while len(found) < count:
         left = None if deadline is None else max(0.0, deadline - time.monotonic())
-        if not select.select([source], [], [], left)[0]:
+        if left == 0 or not select.select([source], [], [], left)[0]:
             raise TooLarge("the question took longer than it may")
         piece = os.read(source.fileno(), min(count - len(found), 1 << 20))
         if not piece:

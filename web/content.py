@@ -41,6 +41,9 @@ def inline_of(tokens: list[Token]) -> Inline:
             into += [token.content] if token.content else []
         elif token.type in ("softbreak", "hardbreak"):
             into.append(" ")
+        elif token.type == "image":
+            # The page fetches no pictures of the repository's pages: what stands for one is shown.
+            into.append({"t": "em", "c": [token.content]})
         elif token.type == "code_inline":
             into.append({"t": "code", "s": token.content})
         elif token.type in ("em_open", "strong_open", "link_open"):

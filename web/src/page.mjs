@@ -245,8 +245,7 @@ async function blame(mine, name, isAnswered) {
     editors[name].blame(lines.map((line) => {
         const own = rows.filter((row) => row.line === line);
         return {
-            line, text: own.map(({ fall, isBlamed }) => (isBlamed ? `−${fall}` : "0")).join(" "), isStrong: own.some(({ isBlamed }) => isBlamed),
-            title: own.map(({ bayes, fall }) => `Without this statement one guess is right with probability ${bayes}: ${fall} less`).join("; "),
+            line, text: own.map(({ mark }) => mark).join(" "), isStrong: own.some(({ isBlamed }) => isBlamed), title: own.map(({ title }) => title).join("; "),
         };
     }));
 }

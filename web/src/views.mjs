@@ -131,7 +131,11 @@ export function blameRows(out, text) {
     const whole = fractionOf(all.bayes) || NOTHING;
     return without.map(({ inners, bayes }, index) => {
         const fall = difference(whole, fractionOf(bayes) || NOTHING);
-        return { line: lines.length === without.length ? lines[index] : -1, inners, bayes, fall: printed(fall), isBlamed: !isNone(fall) || inners !== all.inners };
+        const line = lines.length === without.length ? lines[index] : -1;
+        // What the margin has: how much less often one guess is right, or else what becomes of the inners.
+        const mark = isNone(fall) ? (inners === all.inners ? "0" : `${all.inners}→${inners}`) : `−${printed(fall)}`;
+        const title = `Without this statement: ${inners} inners in place of ${all.inners}, and one guess is right with probability ${bayes}, ${printed(fall)} less`;
+        return { line, inners, bayes, fall: printed(fall), mark, title, isBlamed: mark !== "0" };
     });
 }
 

@@ -100,6 +100,8 @@ def shows_views(page: Page) -> None:
     page.view("lines")
     has(page.answer(), "right with probability 1/2", "if h = 2 { y := 1; } else { y := 0; }", "1/4")
     expect(page.find(".blamed").text == "−1/4", "the margin doesn't say what the line leaks")
+    page.write(example("examples/randomised_response/ten.kf"))
+    page.wait(lambda: [it.text for it in page.driver.find_elements("css selector", ".blamed")] == ["11→10"] * 10, "a margin with inners")
     page.write(example("course/witness.kf"))
     page.view("traces")
     has(page.answer(), "7/12", "1/2", "1/12", "5/12", "1/6", "1/4")

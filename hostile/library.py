@@ -70,7 +70,7 @@ DEEP = {
     "choices.kf": "var x : 0..1 := uniform 0..1;\nobserve choose { " + "abs(" * 62 + "x" + ")" * 62 + " : 1 };\n",
     "json.json": "[" * 126 + "]" * 126,
 }
-STACKS = [8192, 4096, 2048, 1024, 768, 512, 256, 128]  # KiB
+STACKS = [8192, 4096, 2048, 1024, 896, 768, 512]  # KiB
 
 
 class Span(ctypes.Structure):

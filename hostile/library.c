@@ -170,11 +170,11 @@ static void try_calls(long count)
         if (i == count / 10) {
             resident_pages(); /* what it takes itself is there before it counts */
             pages = resident_pages();
-            clock_gettime(CLOCK_MONOTONIC, &start);
+            clock_gettime(CLOCK_PROCESS_CPUTIME_ID, &start);
         }
         one_more(to, err_to);
     }
-    clock_gettime(CLOCK_MONOTONIC, &stop);
+    clock_gettime(CLOCK_PROCESS_CPUTIME_ID, &stop);
     must(resident_pages() <= pages, "calls take more and more memory");
     double seconds = (double)(stop.tv_sec - start.tv_sec) + (double)(stop.tv_nsec - start.tv_nsec) / 1e9;
     printf("%ld calls of %.4f ms, %ld pages\n", count, seconds * 1e3 / (double)(count - count / 10), pages);

@@ -1,4 +1,7 @@
-"""How long a small question takes through the open worker, and how long a large answer takes to be read: by the library, the best of some runs."""
+"""How long a small question takes through the open worker, and a large answer to be read: by the library, the best of some runs.
+
+Reading is measured in seconds of this process's processor, so that others on a busy machine don't count.
+"""
 
 import os
 import time
@@ -11,13 +14,13 @@ from kuifje._protocol import LIBRARY
 pytestmark = pytest.mark.whole
 
 
-def best(runs, question):
+def best(runs, question, clock=time.perf_counter):
     """Seconds of the shortest of some runs."""
     found = []
     for _ in range(runs):
-        start = time.perf_counter()
+        start = clock()
         question()
-        found.append(time.perf_counter() - start)
+        found.append(clock() - start)
     return min(found)
 
 
@@ -39,8 +42,8 @@ def test_a_small_question_takes_less_than_a_millisecond(engine):
 
 def test_a_hyper_of_65536_inners_is_read_in_less_than_a_second(engine):
     program = Program("var x : 0..65535 := uniform 0..65535;\nabout old x;\nobserve x;\n", engine=engine)
-    asked = best(5, program.hyper)
-    text = str(program.hyper())
-    read = best(5, lambda: Hyper.parse(text))
-    print(f"a hyper of 65,536 inners: {asked:.2f} seconds, of which {read:.2f} are for reading it")
-    assert len(program.hyper().inners) == 65536 and read < 1
+    hyper = program.hyper()
+    text = str(hyper)
+    seconds = best(3, lambda: Hyper.parse(text), time.process_time)
+    print(f"a hyper of 65,536 inners: read in {seconds:.2f} seconds")
+    assert len(hyper.inners) == 65536 and seconds < 1

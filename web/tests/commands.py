@@ -67,7 +67,8 @@ def of_pages(program: Path, pages: list[str]) -> list[Command]:
         recorder.chmod(0o755)
         # What the pages say is compared by .ci/pages itself elsewhere: here its status doesn't count.
         subprocess.run([TOP / ".ci" / "pages", recorder, *(TOP / page for page in pages)], capture_output=True, check=False)
-        found = {command.key(): command for command in map(of_record, sorted(records.iterdir()))}
+        # A command that its page ends, as by `timeout`, has no status.
+        found = {command.key(): command for command in map(of_record, sorted(path.parent for path in records.glob("*/status")))}
     return list(found.values())
 
 

@@ -1,5 +1,9 @@
+// Systems of equations, each with its solution, its multipliers or its refusal, worked out by hand.
+use kf_frac::Frac;
 use kf_simplex::{Equation, EquationList, NumberList, Outcome, SimplexError, System, cells, solve};
 use std::alloc::{AllocError, Global};
+use std::fmt::Write;
+use std::process::Abort;
 use std::test::Fail;
 
 fn equation(alloc: Global, coefs: &[i64], rhs: i64) -> Result<Equation, Fail> {
@@ -12,53 +16,8 @@ fn equation(alloc: Global, coefs: &[i64], rhs: i64) -> Result<Equation, Fail> {
     })
 }
 
-fn outcome(
-    alloc: Global,
-    unknowns: u32,
-    rows: Vec<Equation>,
-    pivots: u32,
-) -> Result<Result<Outcome, SimplexError>, Fail> {
-    if !rows
-        .iter()
-        .all(|q| q.coefs.as_slice().len() == unknowns as usize)
-    {
-        return Err("a list of coefficients of another length".into());
-    }
-    if rows.len() > 1000 || unknowns > 1000 {
-        return Err("too many cells".into());
-    }
-    let system = System {
-        unknowns,
-        rows: EquationList::new(rows),
-    };
-    Ok(solve(alloc, &system, pivots))
-}
-
-// The outcome as text, as `solution 1/2 0` or `wide 3`.
-fn answer(alloc: Global, unknowns: u32, rows: Vec<Equation>, pivots: u32) -> Result<String, Fail> {
-    let mut text = String::new(alloc);
-    match outcome(alloc, unknowns, rows, pivots)? {
-        Ok(Outcome::Solution(values)) => {
-            text.push_str("solution")?;
-            for x in values.as_slice() {
-                text.push_str(&format!(in alloc; " {x}")?)?;
-            }
-        }
-        Ok(Outcome::Multipliers(numbers)) => {
-            text.push_str("multipliers")?;
-            for y in numbers.as_slice() {
-                text.push_str(&format!(in alloc; " {y}")?)?;
-            }
-        }
-        Err(SimplexError::Wide { pivots }) => text.push_str(&format!(in alloc; "wide {pivots}")?)?,
-        Err(SimplexError::Budget) => text.push_str("budget")?,
-        Err(SimplexError::Mem) => text.push_str("want of memory")?,
-    }
-    Ok(text)
-}
-
 // Each equation has the coefficients of its unknowns, and then its right side.
-fn told(alloc: Global, unknowns: u32, rows: &[&[i64]], pivots: u32) -> Result<String, Fail> {
+fn equations(alloc: Global, rows: &[&[i64]]) -> Result<EquationList, Fail> {
     let mut equations = Vec::new(alloc);
     for row in rows {
         let Some((rhs, coefs)) = row.split_last() else {
@@ -66,81 +25,147 @@ fn told(alloc: Global, unknowns: u32, rows: &[&[i64]], pivots: u32) -> Result<St
         };
         equations.push(equation(alloc, coefs, *rhs)?)?;
     }
-    answer(alloc, unknowns, equations, pivots)
+    Ok(EquationList::new(equations))
+}
+
+fn system(rt: &impl Abort, unknowns: u32, rows: EquationList) -> System {
+    assert!(rt;
+        rows.as_slice()
+            .iter()
+            .all(|q| q.coefs.as_slice().len() == unknowns as usize),
+        "a list of coefficients of another length"
+    );
+    System { unknowns, rows }
+}
+
+fn outcome(
+    rt: &impl Abort,
+    alloc: Global,
+    system: &System,
+    pivots: u32,
+) -> Result<Outcome, SimplexError> {
+    assert!(rt;
+        system.rows.as_slice().len() <= 1000 && system.unknowns <= 1000,
+        "too many cells"
+    );
+    solve(alloc, system, pivots)
+}
+
+fn write_fractions(text: &mut String, values: &[Frac]) -> Result<(), AllocError> {
+    for x in values {
+        write!(text, " {x}")?;
+    }
+    Ok(())
+}
+
+fn write_numbers(text: &mut String, numbers: &[i64]) -> Result<(), AllocError> {
+    for y in numbers {
+        write!(text, " {y}")?;
+    }
+    Ok(())
+}
+
+// The outcome as text, as `solution 1/2 0` or `wide 3`.
+fn write_outcome(
+    text: &mut String,
+    outcome: &Result<Outcome, SimplexError>,
+) -> Result<(), AllocError> {
+    match outcome {
+        Ok(Outcome::Solution(values)) => {
+            text.push_str("solution")?;
+            write_fractions(text, values.as_slice())
+        }
+        Ok(Outcome::Multipliers(numbers)) => {
+            text.push_str("multipliers")?;
+            write_numbers(text, numbers.as_slice())
+        }
+        Err(SimplexError::Wide { pivots }) => write!(text, "wide {pivots}"),
+        Err(SimplexError::Budget) => text.push_str("budget"),
+        Err(SimplexError::Mem) => text.push_str("want of memory"),
+    }
+}
+
+// How many unknowns, the equations, how many pivots are allowed, and the outcome.
+type Row = (u32, &'static [&'static [i64]], u32, &'static str);
+
+fn has_outcome(rt: &(impl Abort + AllocGlobal), row: &Row) -> Result<(), Fail> {
+    let (unknowns, rows, pivots, want) = row;
+    let alloc = rt.alloc();
+    let system = system(rt, *unknowns, equations(alloc, rows)?);
+    let outcome = outcome(rt, alloc, &system, *pivots);
+    let mut text = String::new(alloc);
+    write_outcome(&mut text, &outcome)?;
+    assert_eq!(rt; text.as_str(), *want);
+    Ok(())
+}
+
+fn have_outcomes(rt: &(impl Abort + AllocGlobal), rows: &[Row]) -> Result<(), Fail> {
+    for row in rows {
+        has_outcome(rt, row)?;
+    }
+    Ok(())
 }
 
 const BIG: i64 = 1 << 62;
 
+const SOLUTIONS: [Row; 5] = [
+    (1, &[&[2, 1]], 1, "solution 1/2"),
+    (1, &[&[1, BIG]], 1, "solution 4611686018427387904"),
+    (1, &[&[0, 0]], 0, "solution 0"),
+    (0, &[], 0, "solution"),
+    (2, &[&[1, 1, 3], &[1, -1, 1]], 9, "solution 2 1"),
+];
+
 #[test]
 fn finds_solutions(rt: HostRuntime) -> Result<(), Fail> {
-    assert_eq!(rt;
-        told(rt.alloc(), 1, &[&[2, 1]], 1)?.as_str(),
-        "solution 1/2"
-    );
-    assert_eq!(rt;
-        told(rt.alloc(), 1, &[&[1, BIG]], 1)?.as_str(),
-        "solution 4611686018427387904"
-    );
-    assert_eq!(rt; told(rt.alloc(), 1, &[&[0, 0]], 0)?.as_str(), "solution 0");
-    assert_eq!(rt; told(rt.alloc(), 0, &[], 0)?.as_str(), "solution");
-    assert_eq!(rt;
-        told(rt.alloc(), 2, &[&[1, 1, 3], &[1, -1, 1]], 9)?.as_str(),
-        "solution 2 1"
-    );
-    Ok(())
+    have_outcomes(&rt, &SOLUTIONS)
 }
+
+const MULTIPLIERS: [Row; 2] = [
+    // after a pivot with right side 0
+    (2, &[&[1, 1, 0], &[1, -1, 1]], 1, "multipliers -1 1"),
+    (0, &[&[1]], 0, "multipliers 1"),
+];
 
 #[test]
 fn finds_multipliers(rt: HostRuntime) -> Result<(), Fail> {
-    assert_eq!(rt;
-        told(rt.alloc(), 2, &[&[1, 1, 0], &[1, -1, 1]], 1)?.as_str(),
-        "multipliers -1 1",
-        "after a pivot with right side 0"
-    );
-    assert_eq!(rt; told(rt.alloc(), 0, &[&[1]], 0)?.as_str(), "multipliers 1");
-    Ok(())
+    have_outcomes(&rt, &MULTIPLIERS)
 }
+
+const REFUSALS: [Row; 2] = [
+    // the sum of the right sides
+    (1, &[&[1, BIG], &[1, BIG]], 5, "wide 0"),
+    (2, &[&[1, 1, 0], &[1, -1, 1]], 0, "budget"),
+];
 
 #[test]
 fn refuses_wide_numbers_and_spent_budgets(rt: HostRuntime) -> Result<(), Fail> {
-    assert_eq!(rt;
-        told(rt.alloc(), 1, &[&[1, BIG], &[1, BIG]], 5)?.as_str(),
-        "wide 0",
-        "the sum of the right sides"
-    );
-    assert_eq!(rt;
-        told(rt.alloc(), 2, &[&[1, 1, 0], &[1, -1, 1]], 0)?.as_str(),
-        "budget"
-    );
-    Ok(())
+    have_outcomes(&rt, &REFUSALS)
 }
+
+const EIGHT: [&[i64]; 8] = [
+    &[1, 0, 0, 0, 1],
+    &[0, 1, 0, 0, 0],
+    &[0, 0, 1, 0, 0],
+    &[0, 0, 0, 1, 1],
+    &[0, 0, 1, 0, 1],
+    &[0, 0, 0, 1, 0],
+    &[1, 1, 0, 0, 1],
+    &[0, 0, 1, 1, 1],
+];
+
+const DECISIONS: [Row; 3] = [
+    (4, &EIGHT, 3, "multipliers 1 1 -2 1 1 -2 -1 1"),
+    (4, &EIGHT, 2, "budget"),
+    (4, &EIGHT, 495, "multipliers 1 1 -2 1 1 -2 -1 1"),
+];
 
 #[test]
 fn decides_four_unknowns_in_eight_equations(rt: HostRuntime) -> Result<(), Fail> {
-    let rows: [&[i64]; 8] = [
-        &[1, 0, 0, 0, 1],
-        &[0, 1, 0, 0, 0],
-        &[0, 0, 1, 0, 0],
-        &[0, 0, 0, 1, 1],
-        &[0, 0, 1, 0, 1],
-        &[0, 0, 0, 1, 0],
-        &[1, 1, 0, 0, 1],
-        &[0, 0, 1, 1, 1],
-    ];
-    assert_eq!(rt;
-        told(rt.alloc(), 4, &rows, 3)?.as_str(),
-        "multipliers 1 1 -2 1 1 -2 -1 1"
-    );
-    assert_eq!(rt; told(rt.alloc(), 4, &rows, 2)?.as_str(), "budget");
-    assert_eq!(rt;
-        told(rt.alloc(), 4, &rows, 495)?.as_str(),
-        "multipliers 1 1 -2 1 1 -2 -1 1"
-    );
-    Ok(())
+    have_outcomes(&rt, &DECISIONS)
 }
 
 #[test]
 fn counts_cells(rt: HostRuntime) {
-    assert_eq!(rt; cells(4, 8), 117);
-    assert_eq!(rt; cells(0, 0), 1);
+    assert_eq!(rt; (cells(4, 8), cells(0, 0)), (117, 1));
 }

@@ -1,17 +1,19 @@
 // Worked rows, and a table of small nested types with all their values.
-ghost use Rattle.std.specs.Prelude.{◌≡◌, [], ◌∷◌, IfOk, IsTrue};
+ghost use Rattle.std.specs.Prelude.{◌≡◌, ◌<◌, [], ◌∷◌, pos, IfOk, IsTrue};
 ghost use Rattle.kf_value.specs.Types.{count, type_parts, Boolean, Range, TupleOf, SetOf};
 ghost use Rattle.kf_value.specs.Sizes.{well_formed, HasSize};
 ghost use Rattle.kf_value.specs.TypeViews.{type_tree};
+ghost use Rattle.kf_value.specs.Shapes.{shape_types};
+ghost use Rattle.kf_value.specs.Numbers.{target_size};
+ghost use Rattle.kf_value.specs.Views.{items_of};
 
 use kf_value::{
-    Mem, Name, OutOfRange, Shape, Target, TargetItem, TargetItemList, Ty, TyFault, TyList, Value,
-    compare, number, number_of, print_target, print_value, size, value_at,
+    Mem, Name, OutOfRange, Shape, ShapeError, Target, TargetItem, TargetItemList, Ty, TyFault,
+    TyList, Value, compare, number, number_of, print_target, print_value, size, value_at,
 };
 use std::alloc::Global;
 use std::cmp::Ordering;
 use std::process::Abort;
-use std::test::Fail;
 
 fn pair(alloc: Global, first: Ty, second: Ty) -> Result<Ty, Mem>
     ensures { IfOk result (λ ty. type_tree ty ≡ TupleOf (type_parts (type_tree first ∷ type_tree second ∷ []))) }
@@ -32,6 +34,16 @@ fn range(lo: i64, hi: i64) -> Ty
     ensures { type_tree result ≡ Range lo hi }
 {
     Ty::Int { lo, hi }
+}
+
+fn item(alloc: Global, name: &str, ty: Ty) -> Result<TargetItem, Mem>
+    ensures { IfOk result (λ item. type_tree item.ty ≡ type_tree ty) }
+{
+    Ok(TargetItem {
+        initial: false,
+        name: Name::new(name.to_string(alloc)?),
+        ty,
+    })
 }
 
 /// A target of one variable of the type.
@@ -57,75 +69,79 @@ fn known_size(ty: &Ty) -> u32
     }
 }
 
+/// The value is printed like this.
+fn has_text(rt: &(impl Abort + AllocGlobal), value: &Value, want: &str) -> Result<(), Mem> {
+    let mut text = Vec::new(rt.alloc());
+    print_value(rt.alloc(), value, &mut text)?;
+    assert_eq!(rt; text.as_slice(), want.as_bytes(), "the text of a value");
+    Ok(())
+}
+
+/// The value with this number has this text, and its number is found again.
+fn has_value(rt: &(impl Abort + AllocGlobal), ty: &Ty, n: u32, want: &str) -> Result<(), Mem>
+    requires formed { IsTrue (well_formed (type_tree ty.now)) }
+    requires sized { HasSize (type_tree ty.now) }
+    requires below { n < count (type_tree ty.now) }
+{
+    let value = value_at(rt.alloc(), ty, n)?;
+    assert_eq!(rt; number(ty, &value), Some(n), "the number of a value");
+    has_text(rt, &value, want)
+}
+
+/// The number of the value with this text, in a target of one variable.
+fn has_number(
+    rt: &(impl Abort + AllocGlobal),
+    target: &Target,
+    text: &str,
+    want: Option<u64>,
+) -> Result<(), Mem> {
+    let found = number_of(rt.alloc(), target, text)?;
+    assert_eq!(rt; found, want, "the number of {text}");
+    Ok(())
+}
+
+/// The value with this number is above the one before it.
+fn is_above(rt: &(impl Abort + AllocGlobal), ty: &Ty, n: u32) -> Result<(), Mem>
+    requires formed { IsTrue (well_formed (type_tree ty.now)) }
+    requires sized { HasSize (type_tree ty.now) }
+    requires below { n < count (type_tree ty.now) }
+    requires some { 0 < n }
+{
+    let before = value_at(rt.alloc(), ty, n - 1)?;
+    let value = value_at(rt.alloc(), ty, n)?;
+    assert_eq!(rt;
+        compare(&before, &value),
+        Ordering::Less,
+        "the order of values"
+    );
+    Ok(())
+}
+
 /// The type's values have these texts, in this order, and no others; each has the number of its place, which is found
 /// again from its text.
-fn has_values(rt: &impl Abort, alloc: Global, ty: &Ty, texts: &[&str]) -> Result<(), Mem>
+fn has_values(rt: &(impl Abort + AllocGlobal), ty: &Ty, texts: &[&str]) -> Result<(), Mem>
     requires formed { IsTrue (well_formed (type_tree ty.now)) }
     requires sized { HasSize (type_tree ty.now) }
 {
     let count = known_size(ty);
     assert_eq!(rt; count as usize, texts.len(), "how many values");
-    let target = alone(alloc, ty)?;
-    let mut previous = None;
+    let target = alone(rt.alloc(), ty)?;
     for n in 0..count {
-        let value = value_at(alloc, ty, n)?;
-        let mut text = Vec::new(alloc);
-        print_value(alloc, &value, &mut text)?;
-        assert_eq!(rt;
-            text.as_slice(),
-            texts[n as usize].as_bytes(),
-            "the text of a value"
-        );
-        assert_eq!(rt; number(ty, &value), Some(n), "the number of a value");
-        let found = number_of(alloc, &target, texts[n as usize])?;
-        assert_eq!(rt; found, Some(u64::from(n)), "the number of a text");
-        if let Some(before) = &previous {
-            assert_eq!(rt;
-                compare(before, &value),
-                Ordering::Less,
-                "the order of values"
-            );
+        let text = texts[n as usize];
+        has_value(rt, ty, n, text)?;
+        has_number(rt, &target, text, Some(u64::from(n)))?;
+        if n > 0 {
+            is_above(rt, ty, n)?;
         }
-        previous = Some(value);
     }
     Ok(())
 }
 
 #[test]
-fn sizes_and_their_faults(rt: HostRuntime) -> Result<(), Fail> {
-    let alloc = rt.alloc();
-    assert_eq!(rt;
-        size(&set_of(alloc, range(0, 16))?),
-        Err(TyFault::TooManyValues)
-    );
-    assert_eq!(rt; size(&set_of(alloc, range(0, 15))?), Ok(65_536));
-    assert_eq!(rt;
-        size(&set_of(alloc, range(0, 2_000_000))?),
-        Err(TyFault::BadRange)
-    );
-    assert_eq!(rt;
-        size(&pair(alloc, set_of(alloc, range(0, 16))?, range(3, 0))?),
-        Err(TyFault::TooManyValues)
-    );
-    assert_eq!(rt;
-        size(&pair(alloc, range(0, 255), range(0, 255))?),
-        Ok(65_536)
-    );
-    assert_eq!(rt;
-        size(&pair(alloc, range(0, 255), range(0, 256))?),
-        Err(TyFault::TooManyValues)
-    );
-    assert_eq!(rt; size(&range(-1_000_001, 0)), Err(TyFault::BadRange));
-    Ok(())
-}
-
-#[test]
-fn values_of_nested_types(rt: HostRuntime) -> Result<(), Fail> {
-    let alloc = rt.alloc();
-    let bits = pair(alloc, Ty::Bool, range(-1, 1))?;
+fn values_of_a_pair(rt: HostRuntime) -> Result<(), Mem> {
+    let bits = pair(rt.alloc(), Ty::Bool, range(-1, 1))?;
     has_values(
         &rt,
-        alloc,
         &bits,
         &[
             "(false, -1)",
@@ -135,11 +151,14 @@ fn values_of_nested_types(rt: HostRuntime) -> Result<(), Fail> {
             "(true, 0)",
             "(true, 1)",
         ],
-    )?;
-    let digits = set_of(alloc, range(0, 2))?;
+    )
+}
+
+#[test]
+fn values_of_a_set(rt: HostRuntime) -> Result<(), Mem> {
+    let digits = set_of(rt.alloc(), range(0, 2))?;
     has_values(
         &rt,
-        alloc,
         &digits,
         &[
             "{}",
@@ -151,11 +170,14 @@ fn values_of_nested_types(rt: HostRuntime) -> Result<(), Fail> {
             "{1, 2}",
             "{0, 1, 2}",
         ],
-    )?;
-    let tuples = set_of(alloc, pair(alloc, Ty::Bool, range(7, 7))?)?;
+    )
+}
+
+#[test]
+fn values_of_a_set_of_pairs(rt: HostRuntime) -> Result<(), Mem> {
+    let tuples = set_of(rt.alloc(), pair(rt.alloc(), Ty::Bool, range(7, 7))?)?;
     has_values(
         &rt,
-        alloc,
         &tuples,
         &[
             "{}",
@@ -163,13 +185,20 @@ fn values_of_nested_types(rt: HostRuntime) -> Result<(), Fail> {
             "{(true, 7)}",
             "{(false, 7), (true, 7)}",
         ],
-    )?;
-    let sets = set_of(alloc, set_of(alloc, range(0, 0))?)?;
-    has_values(&rt, alloc, &sets, &["{}", "{{}}", "{{0}}", "{{}, {0}}"])?;
-    let mixed = pair(alloc, set_of(alloc, Ty::Bool)?, range(0, 1))?;
+    )
+}
+
+#[test]
+fn values_of_a_set_of_sets(rt: HostRuntime) -> Result<(), Mem> {
+    let sets = set_of(rt.alloc(), set_of(rt.alloc(), range(0, 0))?)?;
+    has_values(&rt, &sets, &["{}", "{{}}", "{{0}}", "{{}, {0}}"])
+}
+
+#[test]
+fn values_of_a_pair_with_a_set(rt: HostRuntime) -> Result<(), Mem> {
+    let mixed = pair(rt.alloc(), set_of(rt.alloc(), Ty::Bool)?, range(0, 1))?;
     has_values(
         &rt,
-        alloc,
         &mixed,
         &[
             "({}, 0)",
@@ -181,61 +210,140 @@ fn values_of_nested_types(rt: HostRuntime) -> Result<(), Fail> {
             "({false, true}, 0)",
             "({false, true}, 1)",
         ],
-    )?;
+    )
+}
+
+fn has_size(rt: &impl Abort, ty: Result<Ty, Mem>, want: Result<u32, TyFault>) -> Result<(), Mem> {
+    let ty = ty?;
+    assert_eq!(rt; size(&ty), want);
     Ok(())
 }
 
 #[test]
-fn variables_of_a_store(rt: HostRuntime) -> Result<(), Fail> {
+fn sizes_of_sets_and_their_faults(rt: HostRuntime) -> Result<(), Mem> {
     let alloc = rt.alloc();
-    let mut types = Vec::new(alloc);
-    types.push(range(0, 3))?;
-    types.push(range(0, 2))?;
-    let shape = Shape::new(alloc, TyList::new(types))?;
-    assert_eq!(rt; (shape.size(0), shape.size(1)), (4, 3));
-    assert_eq!(rt; shape.slot(7, 0), 2);
-    assert_eq!(rt; shape.slot(7, 1), 1);
-    assert_eq!(rt; shape.with_slot(7, 1, &Value::Int(2)), Ok(8));
-    assert_eq!(rt; shape.with_slot(7, 0, &Value::Int(4)), Err(OutOfRange));
+    has_size(
+        &rt,
+        set_of(alloc, range(0, 16)),
+        Err(TyFault::TooManyValues),
+    )?;
+    has_size(&rt, set_of(alloc, range(0, 15)), Ok(65_536))?;
+    has_size(
+        &rt,
+        set_of(alloc, range(0, 2_000_000)),
+        Err(TyFault::BadRange),
+    )
+}
+
+#[test]
+fn sizes_of_pairs_and_their_faults(rt: HostRuntime) -> Result<(), Mem> {
+    let alloc = rt.alloc();
+    has_size(
+        &rt,
+        pair(alloc, set_of(alloc, range(0, 16))?, range(3, 0)),
+        Err(TyFault::TooManyValues),
+    )?;
+    has_size(&rt, pair(alloc, range(0, 255), range(0, 255)), Ok(65_536))?;
+    has_size(
+        &rt,
+        pair(alloc, range(0, 255), range(0, 256)),
+        Err(TyFault::TooManyValues),
+    )
+}
+
+#[test]
+fn a_range_has_a_least_number(rt: HostRuntime) {
+    assert_eq!(rt; size(&range(-1_000_001, 0)), Err(TyFault::BadRange));
+}
+
+/// The shape of two variables, of `0..3` and of `0..2`.
+fn two_ranges(alloc: Global) -> Result<Shape, ShapeError>
+    ensures { IfOk result (λ shape. shape_types shape ≡ Range (pos 0) (pos 3) ∷ Range (pos 0) (pos 2) ∷ []) }
+{
+    let types = vec![in alloc; range(0, 3), range(0, 2)]?;
+    Shape::new(alloc, TyList::new(types))
+}
+
+fn sizes_of(shape: &Shape) -> (u32, u32)
+    requires { shape_types shape.now ≡ Range (pos 0) (pos 3) ∷ Range (pos 0) (pos 2) ∷ [] }
+{
+    (shape.size(0), shape.size(1))
+}
+
+fn slots_of(shape: &Shape, store: u64) -> (u32, u32)
+    requires types { shape_types shape.now ≡ Range (pos 0) (pos 3) ∷ Range (pos 0) (pos 2) ∷ [] }
+    requires store { store < 12 }
+{
+    (shape.slot(store, 0), shape.slot(store, 1))
+}
+
+/// The store whose variable has this number for a value.
+fn changed(shape: &Shape, store: u64, variable: usize, number: i64) -> Result<u64, OutOfRange>
+    requires types { shape_types shape.now ≡ Range (pos 0) (pos 3) ∷ Range (pos 0) (pos 2) ∷ [] }
+    requires store { store < 12 }
+    requires variable { variable < 2 }
+{
+    shape.with_slot(store, variable, &Value::Int(number))
+}
+
+#[test]
+fn variables_of_a_store(rt: HostRuntime) -> Result<(), ShapeError> {
+    let shape = two_ranges(rt.alloc())?;
+    assert_eq!(rt; (sizes_of(&shape), slots_of(&shape, 7)), ((4, 3), (2, 1)));
     Ok(())
 }
 
-fn item(alloc: Global, name: &str, ty: Ty) -> Result<TargetItem, Mem>
-    ensures { IfOk result (λ item. type_tree item.ty ≡ type_tree ty) }
+#[test]
+fn values_put_into_a_store(rt: HostRuntime) -> Result<(), ShapeError> {
+    let shape = two_ranges(rt.alloc())?;
+    let (within, beyond) = (changed(&shape, 7, 1, 2), changed(&shape, 7, 0, 4));
+    assert_eq!(rt; (within, beyond), (Ok(8), Err(OutOfRange)));
+    Ok(())
+}
+
+/// The target `x : 0..3`.
+fn four_values(alloc: Global) -> Result<Target, Mem>
+    ensures { IfOk result (λ target. target_size (items_of target) ≡ 4) }
 {
-    Ok(TargetItem {
-        initial: false,
-        name: Name::new(name.to_string(alloc)?),
-        ty,
+    let items = vec![in alloc; item(alloc, "x", range(0, 3))?]?;
+    Ok(Target {
+        items: TargetItemList::new(items),
     })
 }
 
 #[test]
-fn texts_of_a_target(rt: HostRuntime) -> Result<(), Fail> {
-    let alloc = rt.alloc();
-    let one = Target {
-        items: TargetItemList::new(vec![in alloc; item(alloc, "x", range(0, 3))?]?),
-    };
-    assert_eq!(rt; number_of(alloc, &one, "3")?, Some(3));
-    assert_eq!(rt; number_of(alloc, &one, "03")?, None);
-    assert_eq!(rt; number_of(alloc, &one, "4")?, None);
-    assert_eq!(rt; number_of(alloc, &one, "(3)")?, None);
-    let mut text = Vec::new(alloc);
+fn numbers_of_texts(rt: HostRuntime) -> Result<(), Mem> {
+    let one = four_values(rt.alloc())?;
+    has_number(&rt, &one, "3", Some(3))?;
+    has_number(&rt, &one, "03", None)?;
+    has_number(&rt, &one, "4", None)?;
+    has_number(&rt, &one, "(3)", None)
+}
+
+#[test]
+fn text_of_a_number(rt: HostRuntime) -> Result<(), Mem> {
+    let one = four_values(rt.alloc())?;
+    let mut text = Vec::new(rt.alloc());
     text.push(b'=')?;
-    print_target(alloc, &one, 2, &mut text)?;
+    print_target(rt.alloc(), &one, 2, &mut text)?;
     assert_eq!(rt; text.as_slice(), b"=2".as_slice());
     Ok(())
 }
 
+/// A copy of the value with this number in a copy of the type.
+fn copied(alloc: Global, ty: &Ty, n: u32) -> Result<Value, Mem>
+    requires sized { HasSize (type_tree ty.now) }
+    requires below { n < count (type_tree ty.now) }
+{
+    let ty = ty.copy(alloc)?;
+    let value = value_at(alloc, &ty, n)?;
+    Ok(value.copy(alloc)?)
+}
+
 #[test]
-fn copies_are_equal(rt: HostRuntime) -> Result<(), Fail> {
+fn copies_are_equal(rt: HostRuntime) -> Result<(), Mem> {
     let alloc = rt.alloc();
     let ty = pair(alloc, set_of(alloc, range(0, 2))?, Ty::Bool)?;
-    let copied = ty.copy(alloc)?;
-    let value = value_at(alloc, &copied, 11)?;
-    let value = value.copy(alloc)?;
-    let mut text = Vec::new(alloc);
-    print_value(alloc, &value, &mut text)?;
-    assert_eq!(rt; text.as_slice(), b"({0, 2}, true)".as_slice());
-    Ok(())
+    let value = copied(alloc, &ty, 11)?;
+    has_text(&rt, &value, "({0, 2}, true)")
 }

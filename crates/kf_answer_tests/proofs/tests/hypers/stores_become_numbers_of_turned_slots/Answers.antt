@@ -1,0 +1,7 @@
+use Rattle.std.proofs.Common.{refl}
+use Rattle.std.specs.List.{IsDistinct}
+use Rattle.kf_answer_tests.proofs.tests.hypers.stores_become_numbers_of_turned_slots.Goals as goal
+
+pub is_at_slots-requires-clause-apart : goal.is_at_slots-requires-clause-apart
+unfolding IsDistinct
+is_at_slots-requires-clause-apart g c = rw c.in_ok-slots.ensures.items ((refl, tt), (tt, tt))

@@ -5,11 +5,11 @@ use Rattle.std.proofs.lemmas.Bool.{cases_eq}
 use Rattle.std.proofs.lemmas.List.Elements.{recursion_from_All}
 use Rattle.kf_load.specs.Readings.{IsRead, ReadAs, WasRead}
 use Rattle.kf_load.specs.Texts.{File}
-use Rattle.kf_top.specs.Ends.{Answer, AreNamed, Defined, IsAnswer, names_of}
-use Rattle.kf_top.specs.Outcome.{SomeOutcome, TaskOutcome}
+use Rattle.kf_top.specs.Ends.{Answer, AreNamed, CausesOf, Defined, IsAnswerTo, Question, Sunk, names_of}
+use Rattle.kf_top.specs.Outcome.{Outcome, SomeOutcome, TaskOutcome}
 use Rattle.kf_words.specs.Task.{Task, tables_of, task_of}
-use Rattle.kf_laws.specs.EndsOver.{AnsweredOver, CausesEndOver}
-use Rattle.kf_laws.specs.Held.{IsAnswerOver, held, held_file, program_names, table_names}
+use Rattle.kf_laws.specs.EndsOver.{CausesEndOver, EndsOver, HeldAnswered}
+use Rattle.kf_laws.specs.Held.{IsAnswerOver, IsHeldAnswer, held, held_file, program_names, table_names}
 
 -- ---- lists
 
@@ -41,33 +41,36 @@ module _ (contents : List ℕ → List ℕ) (before now : List ℕ → ℕ) wher
   names_are (Some task) programs tables named = named
 
   -- an answer that doesn't say that a read failed is that over the held files
-  told_answer : (words : List (List ℕ)) (answer : Answer) → Defined words (Some contents) before now answer → answer.status ≢ 3 → IsAnswerOver words contents answer
-  told_answer words answer is unlike =
+  told_answer : (task : Option Task) (question : Question) (answer : Answer) → Defined task question (Some contents) before now answer → answer.status ≢ 3
+      → IsHeldAnswer task question contents answer
+  told_answer task question answer is unlike =
       let told = recursion_from_All (WasRead (Some contents) before now) (is.programs ++ is.tables) is.read in
       let whole = recursion_from_All IsRead (is.programs ++ is.tables) (is.whole unlike) in
-      let names = names_are (task_of words) is.programs is.tables is.named in
-      let programs : is.programs ≡ held contents (program_names (task_of words)) =
+      let names = names_are task is.programs is.tables is.named in
+      let programs : is.programs ≡ held contents (program_names task) =
       are_held is.programs (every_left (WasRead (Some contents) before now) is.programs is.tables told) (every_left IsRead is.programs is.tables whole) ∙ ap (held contents) names.0 in
-      let tables : is.tables ≡ held contents (table_names (task_of words)) =
+      let tables : is.tables ≡ held contents (table_names task) =
       are_held is.tables (every_right (WasRead (Some contents) before now) is.programs is.tables told) (every_right IsRead is.programs is.tables whole) ∙ ap (held contents) names.1 in
-      subst (λ (files : List File). IsAnswer words (held contents (program_names (task_of words))) files answer) tables
-      (subst (λ (files : List File). IsAnswer words files is.tables answer) programs is.is_answer)
+      subst (λ (files : List File). IsAnswerTo question (held contents (program_names task)) files answer) tables
+      (subst (λ (files : List File). IsAnswerTo question files is.tables answer) programs is.is_answer)
 
 -- ---- ends
 
-pub ends_over : CausesEndOver
-ends_over words contents before now out err status causes =
-    let decided : status ≢ 3 → status ≢ 4 → status ≢ 12 → AnsweredOver words contents out err status =
+-- the causes of a status over files that tell what they hold, whatever is asked of them
+pub held_ends : (task : Option Task) (question : Question) (contents : List ℕ → List ℕ) (before now : List ℕ → ℕ) (out err : Sunk) (status : ℕ)
+    → CausesOf task question (Some contents) before now out err status → EndsOver task question contents before now out err status
+held_ends task question contents before now out err status causes =
+    let decided : status ≢ 3 → status ≢ 4 → status ≢ 12 → HeldAnswered task question contents out err status =
     λ read written memory.
     let a = causes.answered written memory in
-    record { answer = a.answer; is_answer = told_answer contents before now words a.answer a.defined (λ three. read (a.shows.status_is ∙ three)); shows = a.shows } in
+    record { answer = a.answer; is_answer = told_answer contents before now task question a.answer a.defined (λ three. read (a.shows.status_is ∙ three)); shows = a.shows } in
     record {
       decided = decided;
       part = λ four.
           let a = causes.part four in
           record {
             answer = a.answer;
-            is_answer = told_answer contents before now words a.answer a.defined (λ three. let few = a.shown in omega (arith, three, few));
+            is_answer = told_answer contents before now task question a.answer a.defined (λ three. let few = a.shown in omega (arith, three, few));
             shown = a.shown;
             front = a.front;
             no_room = a.no_room;
@@ -79,6 +82,9 @@ ends_over words contents before now out err status causes =
       whole = λ unread unfailed memory.
           decided (λ three. let u = causes.read three in unread u.name u.named u.rose) (λ four. unfailed (causes.write four).0) memory;
     }
+
+pub ends_over : CausesEndOver
+ends_over words contents before now out err status causes = held_ends (task_of words) (Outcome words) contents before now out err status causes
 
 -- ---- tasks
 

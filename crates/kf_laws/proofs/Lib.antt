@@ -1,12 +1,13 @@
 mod Accepted
 mod ClearedPrograms
 mod CoveringAll
-mod HeldFiles
+pub mod HeldFiles
 mod OneAnswer
 mod OneComposed
 mod ProperHypers
 mod RunRefusals
 mod ShownAnswers
+mod SilentRefines
 mod SizedTargets
 mod SomeAnswer
 mod TaskFiles

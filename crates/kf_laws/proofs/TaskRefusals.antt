@@ -1,5 +1,5 @@
 -- A task is refused for a reason that it can have.
-use Rattle.std.proofs.Common.{◌≡◌, ◌≢◌, ◌⊎◌, ℕ, ◌≤◌, ◌*◌, ◌&&◌, nat_le, le-leb, IsOk, if◌then◌else◌, Bool, true, false, List, [], ◌∷◌, length, codes, Contains, None, Some, Option, Result, Ok, Err, refl, sym, ◌∙◌, ap, subst, arith, inl, inr, ⊎_elim}
+use Rattle.std.proofs.Common.{◌≡◌, ◌≢◌, ◌⊎◌, ℕ, ◌≤◌, ◌*◌, ◌&&◌, nat_le, if◌then◌else◌, Bool, true, false, List, [], ◌∷◌, length, Contains, None, Some, Option, Result, Ok, Err, refl, sym, ◌∙◌, ap, subst, arith, inl, inr, ⊎_elim}
 use Rattle.std.specs.List.{AllByRecursion as Every}
 use Rattle.std.proofs.lemmas.List.{length-map}
 use Rattle.std.proofs.lemmas.List.Elements.{Contains-append_left, Contains-append_right}
@@ -27,7 +27,7 @@ use Rattle.kf_capacity.specs.declared.error.ChoiceFault.TheVariants as choice
 use Rattle.kf_make.specs.Laws.{MadeIsClear, MadeIsParsed, MadeIsTyped, MadeScale}
 use Rattle.kf_make.specs.Made.{made_program, made_tree}
 use Rattle.kf_make.specs.Making.{make_source}
-use Rattle.kf_make.proofs.Refusing.{made_narrow}
+use Rattle.kf_make.proofs.Refusing.{made_clears}
 use Rattle.kf_gain.specs.Gains.{GainOf, Bayes, Tries, Guessing, Table, TableTree}
 use Rattle.kf_refine.specs.Refinements.{HyperTree}
 use Rattle.kf_refine.specs.Verdicts.{VerdictTree, IsVerdict}
@@ -44,7 +44,7 @@ use Rattle.kf_cert.specs.declared.mark.Rule.TheVariants as rule
 use Rattle.kf_cert.specs.declared.mark.CheckError.{CheckError}
 use Rattle.kf_cert.specs.declared.mark.CheckError.TheVariants as check
 use Rattle.kf_load.specs.Place.{line_at, column_at}
-use Rattle.kf_load.specs.Steps.{Refused, Step, After, Each, Gives, refusal}
+use Rattle.kf_load.specs.Steps.{Refused, Step, After, Each, Gives}
 use Rattle.kf_load.specs.Texts.{File, Fault, Text, bytes_read, token_fault, syntax_fault, type_fault, IsBad, TokensOf, SourceOf, ProgramOf, TextWith, TypedOf, TextOf, bad_run, cause_word, cleared, narrow, long_enough, LongCleared, source_of}
 use Rattle.kf_prior.specs.FullSources.{full_source, initial_stores}
 use Rattle.kf_top.specs.Answer.{Shown, shows, other_target, wide_channel, MadeOf, MadeOutcome, initial, ChannelOf, is_narrow, CapacityIn, Composed, cascade_grid, parallel_grid, choice_grid, algebra_shown, ComposedIn, table_word, TableOf, TableIn, GainIn, NarrowGain, ReportOf, ReportIn, AttackOf, AttackIn, most_pivots, VerdictShown, RefineOutcome, cert_word, cert_read, CertIn, mark_shown, MarkOn, CommandOutcome}
@@ -486,17 +486,8 @@ module _ (one_typed : (name bytes : List ℕ) → HasOne (TypedOf name bytes)) (
   unfolding TypedOf
   is_made count = let read = parsed count in (read.0, read.1, (made_tree count, read.2, (made_program count, typed count, refl)))
 
-  passed : (turns : ℕ) (t : Text) (x : Result StoreSet Halted) → IsOk x → run_scale turns t.program ≤ limit → (r : Refused)
-      → ◌≡◌ {A = Result ProgramTree Refused} (Err r) (elim x [ Ok ns ↦ narrow t.name (run_scale turns t.program) t.program | Err f ↦ Err (bad_run t.name t.bytes f) ]) → ⊥
-  passed turns t (Ok ns) ok few r is =
-      let fits = le-leb (run_scale turns t.program) limit few in
-      never_given (λ r. ⊥) t.program r (is ∙ ap (λ (b : Bool). if b then Ok t.program else Err (refusal 7 t.name (codes ": scale passes 2^127 - 1"))) fits)
-  passed turns t (Err f) ok few r is = absurd (cc)
-
   made_passes : (turns count : ℕ) → count ≤ 60 → (r : Refused) → Gives (cleared turns (made_text count)) (Err r) → ⊥
-  unfolding cleared
-  made_passes turns count few r is =
-      passed turns (made_text count) (program_pass turns (made_program count)) (clear turns count) (made_narrow scale turns count few) r is
+  made_passes turns count few r is = made_clears clear scale turns count (made_text count) r few refl is
 
   pub made_never : (turns count : ℕ) → count ≤ 60 → (r : Refused) → MadeOutcome count turns (Err r) → ⊥
   made_never turns count few r is =

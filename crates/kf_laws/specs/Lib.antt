@@ -5,4 +5,5 @@ pub mod EndsOver
 pub mod Laws
 pub mod Refusals
 pub mod Rooms
+pub mod Silence
 pub mod Written

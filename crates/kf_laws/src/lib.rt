@@ -6,9 +6,11 @@
 
 mod definitions;
 mod runs;
+mod silence;
 
 pub use definitions::{
     certificates_accepted, covers_all_priors, exactly_one_answer, quiet_leaks_no_more,
     reasoned_refusals, told_answers,
 };
 pub use runs::{check_what_was_written, run_in_memory, run_over_sure_files};
+pub use silence::silent_refines;

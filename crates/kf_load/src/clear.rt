@@ -1,4 +1,6 @@
 ghost use Rattle.std.specs.Prelude.{◌≡◌, ◌≤◌, ◌∷◌, [], ℕ, List, length, IfErr, IfOk};
+ghost use Rattle.kf_ast.specs.Sources.{SourceTree};
+ghost use Rattle.kf_core.specs.Checked.{IsChecked};
 ghost use Rattle.kf_core.specs.Views.{program_tree};
 ghost use Rattle.kf_support.specs.Answers.{cause_of};
 ghost use Rattle.kf_support.specs.Cleared.{program_of, turns_of};
@@ -10,6 +12,7 @@ ghost use Rattle.kf_load.specs.Views.{program_in, programs_in, text_of, texts_in
 use crate::position::place;
 use crate::refusal::{Refusal, Stop};
 use crate::text::{Text, text_of_file};
+use kf_core::Program;
 use kf_io::Files;
 use kf_support::{Cleared, Halt, RunFault, clear};
 use std::alloc::Global;
@@ -29,6 +32,37 @@ fn fault_word(kind: RunFault) -> &'static str
     }
 }
 
+/// The program of a text with these bytes and this source, as one that meets no fault and whose scale isn't too wide. The text itself stays with
+/// the caller.
+pub fn cleared_text<'a>(
+    alloc: Global,
+    name: &'a str,
+    bytes: &[u8],
+    program: Program,
+    turns: u32,
+) -> Result<Cleared, Stop<'a>>
+    requires short { length bytes.now ≤ 1048576 }
+    requires checked { IsChecked (program_tree program) }
+    requires some_turns { 1 ≤ turns }
+    requires few_turns { turns ≤ 65535 }
+    ensures answer { (source : SourceTree) → Answers program_in result
+        (Gives (whether_cleared turns (record { name = name.now; bytes = bytes.now; source = source; program = program_tree program }))) }
+    ensures program { IfOk result (λ cleared. program_in cleared ≡ program_tree program) }
+    ensures turns { IfOk result (λ cleared. turns_of cleared ≡ turns) }
+    ensures read { IfErr result IsNoRead }
+{
+    match clear(alloc, program, turns) {
+        Ok(cleared) => Ok(cleared),
+        Err(Halt::Fault { kind, at }) => {
+            let (line, column) = place(bytes, at);
+            let word = fault_word(kind);
+            Err(Stop::Refused(Refusal::BadRun(name, line, column, word)))
+        }
+        Err(Halt::Scale) => Err(Stop::Refused(Refusal::WideScale(name))),
+        Err(Halt::Mem) => Err(Stop::Mem),
+    }
+}
+
 // A text's program as one that meets no fault and whose scale isn't too wide.
 fn cleared<'a>(alloc: Global, name: &'a str, text: Text, turns: u32) -> Result<Cleared, Stop<'a>>
     requires proper { IsProper text }
@@ -40,16 +74,7 @@ fn cleared<'a>(alloc: Global, name: &'a str, text: Text, turns: u32) -> Result<C
     ensures read { IfErr result IsNoRead }
 {
     let Text { bytes, program, .. } = text;
-    match clear(alloc, program, turns) {
-        Ok(cleared) => Ok(cleared),
-        Err(Halt::Fault { kind, at }) => {
-            let (line, column) = place(&bytes, at);
-            let word = fault_word(kind);
-            Err(Stop::Refused(Refusal::BadRun(name, line, column, word)))
-        }
-        Err(Halt::Scale) => Err(Stop::Refused(Refusal::WideScale(name))),
-        Err(Halt::Mem) => Err(Stop::Mem),
-    }
+    cleared_text(alloc, name, &bytes, program, turns)
 }
 
 // A cleared program, where it has at least this number of statements at its top level.

@@ -7,8 +7,10 @@ mod position;
 mod refusal;
 mod text;
 
-pub use clear::{Pair, Texts, cleared_pair, cleared_program, two_programs, two_texts};
+pub use clear::{
+    Pair, Texts, cleared_pair, cleared_program, cleared_text, two_programs, two_texts,
+};
 pub use file::read_source;
 pub use position::place;
 pub use refusal::{Refusal, Stop};
-pub use text::{Text, text_of_file, text_with};
+pub use text::{Text, text_of_bytes, text_of_file, text_with};

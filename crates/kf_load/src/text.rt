@@ -127,9 +127,9 @@ pub fn text_with<'a>(
     })
 }
 
-// The text of a file's bytes.
+/// The text that bytes are: their source and their program. Its refusals have the name.
 #[tactic(auto, unfolding(crate::specs::Texts::TypedOf))]
-fn typed<'a>(alloc: Global, name: &'a str, bytes: Vec<u8>) -> Result<Text, Stop<'a>>
+pub fn text_of_bytes<'a>(alloc: Global, name: &'a str, bytes: Vec<u8>) -> Result<Text, Stop<'a>>
     requires short { vec_len bytes ≤ 1048576 }
     ensures answer { Answers (text_of name.now) result (TypedOf name.now bytes.items) }
     ensures proper { IfOk result IsProper }
@@ -153,5 +153,5 @@ pub fn text_of_file<'a, F: Files>(
     ensures proper { IfOk result IsProper }
 {
     let bytes = read_source(alloc, files, name)?;
-    typed(alloc, name, bytes)
+    text_of_bytes(alloc, name, bytes)
 }

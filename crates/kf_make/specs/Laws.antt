@@ -1,6 +1,5 @@
 -- For bodies: the made text is a program that is never refused.
-use Rattle.std.specs.Prelude.{◌≡◌, ℕ, ◌≤◌, ◌*◌, ◌^◌, List, IsOk}
-use Rattle.kf_frac.specs.Fractions.{limit}
+use Rattle.std.specs.Prelude.{◌≡◌, ℕ, ◌*◌, ◌^◌, List, IsOk}
 use Rattle.kf_lex.specs.declared.token.Token.{Token}
 use Rattle.kf_lex.specs.Readings.{IsTokens}
 use Rattle.kf_parse.specs.Answers.{IsParsed}

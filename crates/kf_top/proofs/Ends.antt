@@ -1,19 +1,20 @@
 -- How each end of a run meets what is promised of its status.
-use Rattle.std.proofs.Common.{◌≡◌, ◌≢◌, ◌⊎◌, ℕ, ◌<◌, ◌≤◌, List, [], ◌∷◌, ◌++◌, All, get_or, length, Bool, true, false, codes, None, Some, Option, Result, Ok, Err, IsTrue, is_some, refl, sym, ◌∙◌, ap, subst, arith, if◌then◌else◌, append-nil, ⊎_elim, inl, inr, Contains}
-use Rattle.std.proofs.lemmas.Bool.{cases_lt}
+use Rattle.std.proofs.Common.{◌≡◌, ◌≢◌, ◌⊎◌, ℕ, ◌<◌, ◌≤◌, List, [], ◌++◌, get_or, length, Bool, true, false, codes, None, Some, Option, Result, Ok, Err, IsTrue, is_some, refl, sym, ◌∙◌, ap, subst, arith, if◌then◌else◌, append-nil, ⊎_elim, inl, inr, Contains}
+use Rattle.std.proofs.lemmas.Bool.{cases_eq, cases_lt}
 use Rattle.std.specs.Io.KnownBytes.{Appends, Keeps}
 use Rattle.kf_io.specs.Faults.{Rose}
-use Rattle.kf_load.specs.Readings.{IsRead}
 use Rattle.kf_load.specs.Steps.{Refused, message, refusal as refused_with}
-use Rattle.kf_load.specs.Texts.{File}
 use Rattle.kf_load.specs.declared.refusal.Refusal.TheVariants as load_refusal
-use Rattle.kf_words.specs.Task.{Task, task_of, files_of_some, named}
+use Rattle.kf_words.specs.Task.{Task, task_of, named}
+use Rattle.kf_words.specs.declared.error.WordsError.{WordsError}
+use Rattle.kf_words.specs.declared.error.WordsError.TheVariants as words_error
 use Rattle.kf_top.specs.Answer.{Shown, usage}
-use Rattle.kf_top.specs.Ends.{Answer, AreNamed, showing, refusing, Answered, IsAnswer, Defined, Sunk, TookNothing, Took, TookFront, HasFailed, TookLine, HasCauses}
-use Rattle.kf_top.specs.Outcome.{SomeOutcome}
+use Rattle.kf_top.specs.Ends.{showing, refusing, Answered, CausesOf, Defined, HasCauses, Question, Sunk, TookNothing, Took, TookFront, HasFailed, TookLine}
+use Rattle.kf_top.specs.Outcome.{Outcome, SomeOutcome, TaskOutcome}
 use Rattle.kf_top.specs.Stops.{refused}
-use Rattle.kf_top.specs.TaskAnswers.{IsUnread, MayFail, RefusalCounts, TaskAnswer}
+use Rattle.kf_top.specs.TaskAnswers.{AnswerTo, Counts, IsUnread, MayFail, RefusalCounts}
 use Rattle.kf_top.specs.Views.{shown}
+use Rattle.kf_top.specs.Written.{IsRefused, WasShown, WrittenOf, want_of_memory}
 use Rattle.kf_top.specs.declared.refusal.Done.{Done}
 use Rattle.kf_top.specs.declared.refusal.Refusal.{Refusal}
 use Rattle.kf_top.specs.declared.refusal.Refusal.TheVariants as refusal
@@ -107,60 +108,54 @@ yes_or_no false = omega arith
 
 -- ---- answers
 
-module _ (words : List (List ℕ)) (told : Option (List ℕ → List ℕ)) (before now : List ℕ → ℕ) where
-  module _ (task : Task) (asked : task_of words ≡ Some task) where
-    its_names : (programs tables : List File) → AreNamed (Some task) programs tables → AreNamed (task_of words) programs tables
-    its_names programs tables h = subst (λ (t : Option Task). AreNamed t programs tables) (sym asked) h
-
-    answers : (programs tables : List File) (r : Result Shown Refused) → SomeOutcome (Some task) programs tables r → SomeOutcome (task_of words) programs tables r
-    answers programs tables r h = subst (λ (t : Option Task). SomeOutcome t programs tables r) (sym asked) h
-
-    pub defined_shown : (done : Done) → TaskAnswer told before now task (Ok done) → Defined words told before now (showing (shown done))
+module _ (question : Question) (told : Option (List ℕ → List ℕ)) (before now : List ℕ → ℕ) where
+  module _ (task : Task) where
+    pub defined_shown : (done : Done) → AnswerTo told before now task question (Ok done) → Defined (Some task) question told before now (showing (shown done))
     defined_shown done h = record {
       programs = h.programs;
       tables = h.tables;
-      named = its_names h.programs h.tables (h.programs_named, h.tables_named);
+      named = (h.programs_named, h.tables_named);
       read = h.read;
       whole = λ other at d lt. read_done (get_or (h.programs ++ h.tables) at d).reading (h.fails at d lt);
-      is_answer = record { result = Ok (shown done); outcome = answers h.programs h.tables (Ok (shown done)) h.answer; settles = refl };
+      is_answer = record { result = Ok (shown done); outcome = h.answer; settles = refl };
     }
 
-    pub defined_refused : (r : Refusal) → TaskAnswer told before now task (Err (stop.Refused r)) → Defined words told before now (refusing (refused r))
+    pub defined_refused : (r : Refusal) → AnswerTo told before now task question (Err (stop.Refused r)) → Defined (Some task) question told before now (refusing (refused r))
     defined_refused r h = record {
       programs = h.programs;
       tables = h.tables;
-      named = its_names h.programs h.tables (h.programs_named, h.tables_named);
+      named = (h.programs_named, h.tables_named);
       read = h.read;
       whole = λ other at d lt. read_refused (get_or (h.programs ++ h.tables) at d).reading r other (h.fails at d lt);
-      is_answer = record { result = Err (refused r); outcome = answers h.programs h.tables (Err (refused r)) h.answer; settles = refl };
+      is_answer = record { result = Err (refused r); outcome = h.answer; settles = refl };
     }
 
-  pub defined_usage : task_of words ≡ None → Defined words told before now (refusing usage)
-  defined_usage none = record {
+  defined_usage : question [] [] (Err usage) → Defined None question told before now (refusing usage)
+  defined_usage answer = record {
     programs = [];
     tables = [];
-    named = subst (λ (t : Option Task). AreNamed t [] []) (sym none) (refl, refl);
+    named = (refl, refl);
     read = λ at d lt. absurd (omega arith);
     whole = λ other at d lt. absurd (omega arith);
-    is_answer = record { result = Err usage; outcome = subst (λ (t : Option Task). SomeOutcome t [] [] (Err usage)) (sym none) refl; settles = refl };
+    is_answer = record { result = Err usage; outcome = answer; settles = refl };
   }
 
   -- ---- ends
 
   module _ (out err : Sunk) where
-    answered_refused : (r : Refused) (status : ℕ) → Defined words told before now (refusing r) → status ≡ r.status → TookNothing out → TookLine err r.line
-        → Answered words told before now out err status
-    answered_refused r status defined is quiet line = record {
+    answered_refused : (task : Option Task) (r : Refused) (status : ℕ) → Defined task question told before now (refusing r) → status ≡ r.status → TookNothing out → TookLine err r.line
+        → Answered task question told before now out err status
+    answered_refused task r status defined is quiet line = record {
       answer = refusing r;
       defined = defined;
       shows = record { status_is = is; out_took = took_none out.bytes_before out.bytes quiet; err_took = line };
     }
 
-    pub ends_usage : now ≡ before → out.faults ≡ out.faults_before → task_of words ≡ None → TookNothing out → TookLine err usage.line
-        → HasCauses words told before now out err 2
-    ends_usage same unfailed none quiet line = record {
-      answered = λ no4 no12. answered_refused usage 2 (defined_usage none) refl quiet line;
-      usage = λ _. (none, line);
+    pub ends_usage : now ≡ before → out.faults ≡ out.faults_before → question [] [] (Err usage) → TookNothing out → TookLine err usage.line
+        → CausesOf None question told before now out err 2
+    ends_usage same unfailed answer quiet line = record {
+      answered = λ no4 no12. answered_refused None usage 2 (defined_usage answer) refl quiet line;
+      usage = λ _. (refl, line);
       usage_shown = λ _ _. refl;
       read = λ is3. absurd (omega arith);
       counted = λ no3. same;
@@ -170,16 +165,30 @@ module _ (words : List (List ℕ)) (told : Option (List ℕ → List ℕ)) (befo
       memory = λ is12. absurd (omega arith);
     }
 
-    module _ (task : Task) (asked : task_of words ≡ Some task) where
-      some_task : task_of words ≡ None → ⊥
-      some_task none = let both : None ≡ Some task = sym none ∙ asked in absurd (cc)
+    pub ends_memory : (task : Option Task) → now ≡ before → out.faults ≡ out.faults_before → TookLine err (message [] (codes "want of memory"))
+        → CausesOf task question told before now out err 12
+    ends_memory task same unfailed line = record {
+      answered = λ no4 no12. absurd (no12 refl);
+      usage = λ is2. absurd (omega arith);
+      usage_shown = λ none memory. absurd (memory refl);
+      read = λ is3. absurd (omega arith);
+      counted = λ no3. same;
+      write = λ is4. absurd (omega arith);
+      write_shown = λ rose. absurd (omega arith);
+      part = λ is4. absurd (omega arith);
+      memory = λ is12. line;
+    }
 
-      ends_unfit : (r : Refused) (status : ℕ) → Defined words told before now (refusing r) → 5 ≤ r.status → r.status ≢ 12 → now ≡ before → out.faults ≡ out.faults_before
-          → status ≡ r.status → TookNothing out → TookLine err r.line → HasCauses words told before now out err status
+    module _ (task : Task) where
+      some_task : None ≡ Some task → ⊥
+      some_task none = absurd (cc)
+
+      ends_unfit : (r : Refused) (status : ℕ) → Defined (Some task) question told before now (refusing r) → 5 ≤ r.status → r.status ≢ 12 → now ≡ before → out.faults ≡ out.faults_before
+          → status ≡ r.status → TookNothing out → TookLine err r.line → CausesOf (Some task) question told before now out err status
       ends_unfit r status defined high other same unfailed is quiet line = record {
-        answered = λ no4 no12. answered_refused r status defined is quiet line;
+        answered = λ no4 no12. answered_refused (Some task) r status defined is quiet line;
         usage = λ is2. absurd (omega arith);
-        usage_shown = λ none memory. absurd (some_task none);
+        usage_shown = λ none memory. absurd (some_task (sym none));
         read = λ is3. absurd (omega arith);
         counted = λ no3. same;
         write = λ is4. absurd (omega arith);
@@ -188,18 +197,18 @@ module _ (words : List (List ℕ)) (told : Option (List ℕ → List ℕ)) (befo
         memory = λ is12. absurd (other (sym is ∙ is12));
       }
 
-      ends_unread : (r : Refused) (status : ℕ) (name : List ℕ) → Defined words told before now (refusing r) → Contains (named task) name → Rose (before name) (now name)
+      ends_unread : (r : Refused) (status : ℕ) (name : List ℕ) → Defined (Some task) question told before now (refusing r) → Contains (named task) name → Rose (before name) (now name)
           → r ≡ refused_with 3 name (codes ": read failed") → out.faults ≡ out.faults_before → status ≡ r.status → TookNothing out → TookLine err r.line
-          → HasCauses words told before now out err status
+          → CausesOf (Some task) question told before now out err status
       ends_unread r status name defined in' rose its unfailed is quiet line =
           let is3 : status ≡ 3 = is ∙ ap (λ (s : Refused). s.status) its in
           record {
-            answered = λ no4 no12. answered_refused r status defined is quiet line;
+            answered = λ no4 no12. answered_refused (Some task) r status defined is quiet line;
             usage = λ is2. absurd (omega arith);
-            usage_shown = λ none memory. absurd (some_task none);
+            usage_shown = λ none memory. absurd (some_task (sym none));
             read = λ _. record {
               name = name;
-              named = subst (λ (t : Option Task). Contains (files_of_some t) name) (sym asked) in';
+              named = in';
               rose = rose;
               line = subst (λ (s : Refused). TookLine err s.line) its line;
             };
@@ -210,32 +219,19 @@ module _ (words : List (List ℕ)) (told : Option (List ℕ → List ℕ)) (befo
             memory = λ is12. absurd (omega arith);
           }
 
-      pub ends_refused : (r : Refused) (status : ℕ) → Defined words told before now (refusing r) → Kind (named task) before now r → out.faults ≡ out.faults_before
-          → status ≡ r.status → TookNothing out → TookLine err r.line → HasCauses words told before now out err status
+      pub ends_refused : (r : Refused) (status : ℕ) → Defined (Some task) question told before now (refusing r) → Kind (named task) before now r → out.faults ≡ out.faults_before
+          → status ≡ r.status → TookNothing out → TookLine err r.line → CausesOf (Some task) question told before now out err status
       ends_refused r status defined (Unreadable name in' rose its) unfailed is quiet line = ends_unread r status name defined in' rose its unfailed is quiet line
       ends_refused r status defined (Unfit high other same) unfailed is quiet line = ends_unfit r status defined high other same unfailed is quiet line
 
-      pub ends_memory : now ≡ before → out.faults ≡ out.faults_before → TookLine err (message [] (codes "want of memory")) → HasCauses words told before now out err 12
-      ends_memory same unfailed line = record {
-        answered = λ no4 no12. absurd (no12 refl);
-        usage = λ is2. absurd (omega arith);
-        usage_shown = λ none memory. absurd (some_task none);
-        read = λ is3. absurd (omega arith);
-        counted = λ no3. same;
-        write = λ is4. absurd (omega arith);
-        write_shown = λ rose. absurd (omega arith);
-        part = λ is4. absurd (omega arith);
-        memory = λ is12. line;
-      }
-
-      pub ends_shown : (shown : Shown) (status : ℕ) → Defined words told before now (showing shown) → status ≡ (if shown.yes then 0 else 1) → now ≡ before
-          → out.faults ≡ out.faults_before → Took out shown.bytes → TookNothing err → HasCauses words told before now out err status
+      pub ends_shown : (shown : Shown) (status : ℕ) → Defined (Some task) question told before now (showing shown) → status ≡ (if shown.yes then 0 else 1) → now ≡ before
+          → out.faults ≡ out.faults_before → Took out shown.bytes → TookNothing err → CausesOf (Some task) question told before now out err status
       ends_shown shown status defined is same unfailed took quiet =
           let low : status ≤ 1 = rw is (yes_or_no shown.yes) in
           record {
             answered = λ no4 no12. record { answer = showing shown; defined = defined; shows = record { status_is = is; out_took = took; err_took = line_none err quiet } };
             usage = λ is2. absurd (omega arith);
-            usage_shown = λ none memory. absurd (some_task none);
+            usage_shown = λ none memory. absurd (some_task (sym none));
             read = λ is3. absurd (omega arith);
             counted = λ no3. same;
             write = λ is4. absurd (omega arith);
@@ -244,12 +240,12 @@ module _ (words : List (List ℕ)) (told : Option (List ℕ → List ℕ)) (befo
             memory = λ is12. absurd (omega arith);
           }
 
-      pub ends_unwritten : (shown : Shown) → Defined words told before now (showing shown) → now ≡ before → HasFailed out → TookFront out shown.bytes
-          → out.room_before < length shown.bytes → TookLine err (message [] (codes "write failed")) → HasCauses words told before now out err 4
+      pub ends_unwritten : (shown : Shown) → Defined (Some task) question told before now (showing shown) → now ≡ before → HasFailed out → TookFront out shown.bytes
+          → out.room_before < length shown.bytes → TookLine err (message [] (codes "write failed")) → CausesOf (Some task) question told before now out err 4
       ends_unwritten shown defined same failed front no_room line = record {
         answered = λ no4 no12. absurd (no4 refl);
         usage = λ is2. absurd (omega arith);
-        usage_shown = λ none memory. absurd (some_task none);
+        usage_shown = λ none memory. absurd (some_task (sym none));
         read = λ is3. absurd (omega arith);
         counted = λ no3. same;
         write = λ is4. (failed, line);
@@ -257,3 +253,48 @@ module _ (words : List (List ℕ)) (told : Option (List ℕ → List ℕ)) (befo
         part = λ is4. record { answer = showing shown; defined = defined; shown = yes_or_no shown.yes; front = front; no_room = no_room };
         memory = λ is12. absurd (omega arith);
       }
+
+-- how a result ends that is the answer to a question about the files of a task
+module _ (question : Question) (told : Option (List ℕ → List ℕ)) (before now : List ℕ → ℕ) (out err : Sunk) (task : Task) where
+  of_shown : (done : Done) (status : ℕ) → AnswerTo told before now task question (Ok done) → now ≡ before → WasShown (shown done) out err status
+      → (status ≡ 4) ⊎ (status ≢ 4) → CausesOf (Some task) question told before now out err status
+  of_shown done status answer same written (inl four) =
+      let p = written.part four in
+      subst (λ (n : ℕ). CausesOf (Some task) question told before now out err n) (sym four)
+      (ends_unwritten question told before now out err task (shown done) (defined_shown question told before now task done answer) same p.failed p.front p.no_room p.line)
+  of_shown done status answer same written (inr other) =
+      let w = written.whole other in
+      ends_shown question told before now out err task (shown done) status (defined_shown question told before now task done answer) w.status_is same w.unfailed w.took w.quiet
+
+  pub causes_of_result : (r : Result Done Stop) (status : ℕ) → AnswerTo told before now task question r → Counts (named task) before now r → WrittenOf r out err status
+      → CausesOf (Some task) question told before now out err status
+  causes_of_result (Ok done) status answer counts written = of_shown done status answer counts written (cases_eq status 4)
+  causes_of_result (Err (stop.Refused r)) status answer counts written =
+      ends_refused question told before now out err task (refused r) status (defined_refused question told before now task r answer) (kind_of (named task) before now r counts)
+      written.unfailed written.refused.status_is written.quiet written.refused.line
+  causes_of_result (Err stop.Mem) status answer counts written =
+      subst (λ (n : ℕ). CausesOf (Some task) question told before now out err n) (sym written.refused.status_is)
+      (ends_memory question told before now out err (Some task) counts written.unfailed written.refused.line)
+
+-- what a run of words ends with is what a run of the task ends with that they ask for
+pub causes_of_task : (words : List (List ℕ)) (told : Option (List ℕ → List ℕ)) (before now : List ℕ → ℕ) (out err : Sunk) (status : ℕ) (task : Task)
+    → task_of words ≡ Some task → CausesOf (Some task) (TaskOutcome task) told before now out err status → HasCauses words told before now out err status
+causes_of_task words told before now out err status task asked causes =
+    subst (λ (t : Option Task). CausesOf t (SomeOutcome t) told before now out err status) (sym asked) causes
+
+-- how words end for which there is no answer to work out
+module _ (question : Question) (told : Option (List ℕ → List ℕ)) (before : List ℕ → ℕ) (out err : Sunk) (status : ℕ) where
+  pub causes_of_words : (task : Option Task) (error : WordsError) → (error ≡ words_error.Usage → (task ≡ None) × question [] [] (Err usage))
+      → (error ≡ words_error.Usage → IsRefused usage err status) → (error ≡ words_error.Mem → IsRefused want_of_memory err status)
+      → out.faults ≡ out.faults_before → TookNothing out → CausesOf task question told before before out err status
+  causes_of_words task words_error.Usage none usage_is memory_is unfailed quiet =
+      subst (λ (t : Option Task). CausesOf t question told before before out err status) (sym (none refl).0)
+      (subst (λ (n : ℕ). CausesOf None question told before before out err n) (sym (usage_is refl).status_is)
+      (ends_usage question told before before out err refl unfailed (none refl).1 quiet (usage_is refl).line))
+  causes_of_words task words_error.Mem none usage_is memory_is unfailed quiet =
+      subst (λ (n : ℕ). CausesOf task question told before before out err n) (sym (memory_is refl).status_is)
+      (ends_memory question told before before out err task refl unfailed (memory_is refl).line)
+
+-- words of `run` that ask for nothing are refused
+pub usage_of_words : (words : List (List ℕ)) → task_of words ≡ None → (task_of words ≡ None) × Outcome words [] [] (Err usage)
+usage_of_words words none = (none, subst (λ (t : Option Task). SomeOutcome t [] [] (Err usage)) (sym none) refl)

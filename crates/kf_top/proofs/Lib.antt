@@ -2,11 +2,11 @@ pub mod Steps
 mod Blocks
 mod Capacities
 mod Commands
-mod Ends
+pub mod Ends
 mod FullTexts
-mod Leakage
+pub mod Leakage
 mod Lines
 mod Made
 mod Reach
-mod Readings
+pub mod Readings
 mod Verdicts

@@ -6,11 +6,11 @@ use Rattle.std.specs.Io.KnownBytes.{Appends, Keeps}
 use Rattle.kf_io.specs.Faults.{Rose}
 use Rattle.kf_io.specs.Writes.{AppendsSome}
 use Rattle.kf_load.specs.Readings.{IsRead, WasRead}
-use Rattle.kf_load.specs.Steps.{Refused, message}
+use Rattle.kf_load.specs.Steps.{Refused, Step, message}
 use Rattle.kf_load.specs.Texts.{File}
 use Rattle.kf_top.specs.Answer.{Shown, usage}
 use Rattle.kf_top.specs.Outcome.{Outcome}
-use Rattle.kf_words.specs.Task.{Task, files_of, tables_of, task_of}
+use Rattle.kf_words.specs.Task.{Task, files_of_some, tables_of, task_of}
 
 -- ---- answers
 
@@ -32,11 +32,19 @@ abbrev pub settled : Result Shown Refused → Answer
 settled (Ok shown) = showing shown
 settled (Err refused) = refusing refused
 
--- the defined answer to words over files: those of the programs, and those that the command reads beside them
-pub record IsAnswer (words : List (List ℕ)) (programs tables : List File) (answer : Answer) : Type 0 where
+-- what is asked of files: what it comes to, by those of the programs and those that the command reads beside them
+abbrev pub Question : Type 1
+Question = List File → List File → Step Shown
+
+-- the defined answer to a question over files
+pub record IsAnswerTo (question : Question) (programs tables : List File) (answer : Answer) : Type 0 where
   pub result : Result Shown Refused
-  pub outcome : Outcome words programs tables result
+  pub outcome : question programs tables result
   pub settles : answer ≡ settled result
+
+-- the defined answer to words
+abbrev pub IsAnswer : List (List ℕ) → List File → List File → Answer → Type 0
+IsAnswer words = IsAnswerTo (Outcome words)
 
 -- ---- files
 
@@ -48,16 +56,17 @@ abbrev pub AreNamed : Option Task → List File → List File → Type 0
 AreNamed None programs tables = (programs ≡ []) × (tables ≡ [])
 AreNamed (Some task) programs tables = (names_of programs ≡ task.files) × (names_of tables ≡ tables_of task.command)
 
--- a defined answer to the words, over some readings of the files that they name: the bytes that files tell, where they tell them, and
--- nothing where a read failed
-pub record Defined (words : List (List ℕ)) (told : Option (List ℕ → List ℕ)) (before now : List ℕ → ℕ) (answer : Answer) : Type 0 where
+-- a defined answer to a question, over some readings of the files that the task names: the bytes that files tell, where they tell them,
+-- and nothing where a read failed
+pub record Defined (task : Option Task) (question : Question) (told : Option (List ℕ → List ℕ))
+    (before now : List ℕ → ℕ) (answer : Answer) : Type 0 where
   pub programs : List File
   pub tables : List File
-  pub named : AreNamed (task_of words) programs tables
+  pub named : AreNamed task programs tables
   pub read : All (WasRead told before now) (programs ++ tables)
   -- a read of them failed only where the answer says so
   pub whole : answer.status ≢ 3 → All IsRead (programs ++ tables)
-  pub is_answer : IsAnswer words programs tables answer
+  pub is_answer : IsAnswerTo question programs tables answer
 
 -- ---- sinks
 
@@ -104,42 +113,47 @@ pub record Shows (answer : Answer) (out err : Sunk) (status : ℕ) : Type 0 wher
   pub err_took : TookLine err answer.err
 
 -- the run ended with a defined answer
-pub record Answered (words : List (List ℕ)) (told : Option (List ℕ → List ℕ)) (before now : List ℕ → ℕ) (out err : Sunk) (status : ℕ)
-    : Type 0 where
+pub record Answered (task : Option Task) (question : Question) (told : Option (List ℕ → List ℕ))
+    (before now : List ℕ → ℕ) (out err : Sunk) (status : ℕ) : Type 0 where
   pub answer : Answer
-  pub defined : Defined words told before now answer
+  pub defined : Defined task question told before now answer
   pub shows : Shows answer out err status
 
 -- out took only a front of a defined answer, for which it wasn't certain to have room
-pub record AnsweredInPart (words : List (List ℕ)) (told : Option (List ℕ → List ℕ)) (before now : List ℕ → ℕ) (out : Sunk) : Type 0 where
+pub record AnsweredInPart (task : Option Task) (question : Question) (told : Option (List ℕ → List ℕ))
+    (before now : List ℕ → ℕ) (out : Sunk) : Type 0 where
   pub answer : Answer
-  pub defined : Defined words told before now answer
+  pub defined : Defined task question told before now answer
   pub shown : answer.status ≤ 1
   pub front : TookFront out answer.out
   pub no_room : out.room_before < length answer.out
 
--- a read of a file that the words name has failed, and the line says so
-pub record Unread (words : List (List ℕ)) (before now : List ℕ → ℕ) (err : Sunk) : Type 0 where
+-- a read of a file that the task names has failed, and the line says so
+pub record Unread (task : Option Task) (before now : List ℕ → ℕ) (err : Sunk) : Type 0 where
   pub name : List ℕ
-  pub named : Contains (files_of words) name
+  pub named : Contains (files_of_some task) name
   pub rose : Rose (before name) (now name)
   pub line : TookLine err (message name (codes ": read failed"))
 
--- each status has its cause
-pub record HasCauses (words : List (List ℕ)) (told : Option (List ℕ → List ℕ)) (before now : List ℕ → ℕ) (out err : Sunk) (status : ℕ)
-    : Type 0 where
+-- each status has its cause, by the task that is asked for, where there is one, and the question about its files
+pub record CausesOf (task : Option Task) (question : Question) (told : Option (List ℕ → List ℕ))
+    (before now : List ℕ → ℕ) (out err : Sunk) (status : ℕ) : Type 0 where
   -- every status but write failed and want of memory is that of a defined answer
-  pub answered : status ≢ 4 → status ≢ 12 → Answered words told before now out err status
-  pub usage : status ≡ 2 → (task_of words ≡ None) × TookLine err usage.line
-  pub usage_shown : task_of words ≡ None → status ≢ 12 → status ≡ 2
-  pub read : status ≡ 3 → Unread words before now err
+  pub answered : status ≢ 4 → status ≢ 12 → Answered task question told before now out err status
+  pub usage : status ≡ 2 → (task ≡ None) × TookLine err usage.line
+  pub usage_shown : task ≡ None → status ≢ 12 → status ≡ 2
+  pub read : status ≡ 3 → Unread task before now err
   -- where no read failed, each file's count stays
   pub counted : status ≢ 3 → now ≡ before
   pub write : status ≡ 4 → HasFailed out × TookLine err (message [] (codes "write failed"))
   pub write_shown : out.faults_before < out.faults → status ≡ 4
   -- what out took before its fault is a front of a defined answer
-  pub part : status ≡ 4 → AnsweredInPart words told before now out
+  pub part : status ≡ 4 → AnsweredInPart task question told before now out
   pub memory : status ≡ 12 → TookLine err (message [] (codes "want of memory"))
+
+-- the causes of a run of words
+abbrev pub HasCauses : List (List ℕ) → Option (List ℕ → List ℕ) → (List ℕ → ℕ) → (List ℕ → ℕ) → Sunk → Sunk → ℕ → Type 0
+HasCauses words = CausesOf (task_of words) (Outcome words)
 
 -- nothing is written before the answer is whole, and err gets a line only with a status above 1
 pub record IsQuiet (out err : Sunk) (status : ℕ) : Type 0 where

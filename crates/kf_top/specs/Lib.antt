@@ -5,5 +5,6 @@ pub mod Answer
 -- For bodies
 pub mod Stops
 pub mod TaskAnswers
+pub mod Written
 pub mod CapacityViews
 pub mod Views

@@ -8,7 +8,7 @@ use Rattle.kf_load.specs.Steps.{Step}
 use Rattle.kf_load.specs.Stops as load
 use Rattle.kf_load.specs.Texts.{File}
 use Rattle.kf_load.specs.declared.refusal.Refusal.TheVariants as load_refusal
-use Rattle.kf_top.specs.Ends.{names_of}
+use Rattle.kf_top.specs.Ends.{Question, names_of}
 use Rattle.kf_top.specs.Outcome.{TaskOutcome}
 use Rattle.kf_top.specs.Stops.{Answers}
 use Rattle.kf_top.specs.Views.{shown}
@@ -59,15 +59,20 @@ pub record FilesAnswer {A B : Type 0} (told : Option (List ℕ → List ℕ)) (b
   pub fails : All (λ file. MayFail file.reading (stop_in r)) files
   pub answer : Answers seen r (step files)
 
--- the result is that of a task
-pub record TaskAnswer (told : Option (List ℕ → List ℕ)) (before now : List ℕ → ℕ) (task : Task) (r : Result Done Stop) : Type 0 where
+-- the result is that of a question about the files of a task, with readings that the call may have had
+pub record AnswerTo (told : Option (List ℕ → List ℕ)) (before now : List ℕ → ℕ) (task : Task)
+    (question : Question) (r : Result Done Stop) : Type 0 where
   pub programs : List File
   pub tables : List File
   pub programs_named : names_of programs ≡ task.files
   pub tables_named : names_of tables ≡ tables_of task.command
   pub read : All (WasRead told before now) (programs ++ tables)
   pub fails : All (λ file. MayFail file.reading (stop_in r)) (programs ++ tables)
-  pub answer : Answers shown r (TaskOutcome task programs tables)
+  pub answer : Answers shown r (question programs tables)
+
+-- the result is that of a task
+abbrev pub TaskAnswer : Option (List ℕ → List ℕ) → (List ℕ → ℕ) → (List ℕ → ℕ) → Task → Result Done Stop → Type 0
+TaskAnswer told before now task = AnswerTo told before now task (TaskOutcome task)
 
 -- a failed read of one of these files raised its count; with any other refusal the counts stay
 abbrev pub RefusalCounts : List (List ℕ) → (List ℕ → ℕ) → (List ℕ → ℕ) → Refusal → Type 0

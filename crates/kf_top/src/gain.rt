@@ -53,7 +53,7 @@ fn table_in<'a, F: Files>(
 }
 
 /// The gain of this word, whose table is read now.
-pub(crate) fn gain_in<'a, F: Files>(
+pub fn gain_in<'a, F: Files>(
     alloc: Global,
     files: &mut F,
     target: &Target,

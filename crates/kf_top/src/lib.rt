@@ -16,7 +16,9 @@ mod top;
 mod verdict;
 mod work;
 
+pub use gain::gain_in;
 pub use kf_load::place;
 pub use kf_make::make_source;
 pub use kf_words::{GainWord, Job, WordsError, read_words};
-pub use top::run;
+pub use refusal::{Done, Refusal, Stop, lift};
+pub use top::{finish, refuse_words, run};

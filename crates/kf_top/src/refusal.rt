@@ -52,7 +52,7 @@ pub enum Stop<'a> {
 }
 
 /// Why there is no program, as why there is no answer.
-pub(crate) fn lift(stop: LoadStop<'_>) -> Stop<'_>
+pub fn lift(stop: LoadStop<'_>) -> Stop<'_>
     ensures { result ≡ lifted stop.entry }
 {
     match stop {

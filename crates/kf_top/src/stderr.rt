@@ -1,6 +1,6 @@
 //! The lines on standard error.
 
-ghost use Rattle.std.specs.Prelude.{◌≡◌, ◌++◌, [], codes};
+ghost use Rattle.std.specs.Prelude.{◌≡◌, ◌≤◌, ◌++◌, [], codes};
 ghost use Rattle.std.specs.Fmt.{decimal};
 ghost use Rattle.std.specs.List.{flat_map};
 ghost use Rattle.kf_gain.specs.declared.error.TableError.TheVariants as table;
@@ -134,6 +134,7 @@ fn write_statements<E: Sink>(err: &mut E, name: &str, statements: usize)
 fn refuse_file<E: Sink>(err: &mut E, refusal: &LoadRefusal<'_>) -> u8
     ensures line { TookLine (sunk E.taken E.faults E.room err.old err.new) (load_refused refusal.now).line }
     ensures status { result ≡ (load_refused refusal.now).status }
+    ensures bound { result ≤ 13 }
 {
     match refusal {
         LoadRefusal::ReadFailed(name) => {
@@ -167,6 +168,7 @@ fn refuse_file<E: Sink>(err: &mut E, refusal: &LoadRefusal<'_>) -> u8
 pub fn refuse<E: Sink>(err: &mut E, refusal: &Refusal<'_>) -> u8
     ensures line { TookLine (sunk E.taken E.faults E.room err.old err.new) (refused refusal.now).line }
     ensures status { result ≡ (refused refusal.now).status }
+    ensures bound { result ≤ 13 }
 {
     match refusal {
         Refusal::Load(refusal) => refuse_file(err, refusal),

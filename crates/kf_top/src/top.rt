@@ -1,14 +1,62 @@
-ghost use Rattle.std.specs.Prelude.{◌≡◌, ℕ, List, Some, map, string_bytes};
-ghost use Rattle.kf_top.specs.Ends.{sunk, HasCauses, IsQuiet};
+ghost use Rattle.std.specs.Prelude.{◌≡◌, ◌≤◌, ℕ, List, Some, map, string_bytes};
+ghost use Rattle.kf_top.specs.Answer.{usage as usage_refusal};
+ghost use Rattle.kf_top.specs.Ends.{sunk, HasCauses, IsQuiet, Sunk, TookNothing};
+ghost use Rattle.kf_top.specs.Written.{IsRefused, WrittenOf, want_of_memory};
 ghost use Rattle.kf_words.specs.Task.{task_of};
 ghost use Rattle.kf_words.specs.Jobs.{task_of_job, HasTurns, IsInRange};
+ghost use Rattle.kf_words.specs.declared.error.WordsError.TheVariants as words_error;
 
-use crate::refusal::Stop;
+use crate::refusal::{Done, Stop};
 use crate::stderr::{refuse, write_message};
 use crate::work::work;
 use kf_io::{Failed, Files, Sink, write_all};
 use kf_words::{Job, WordsError, read_words};
 use std::alloc::Global;
+
+/// Writes why words ask for nothing that can be done: the usage line, or that memory is wanting. Gives the status.
+pub fn refuse_words<E: Sink>(err: &mut E, error: WordsError) -> u8
+    ensures usage { error ≡ words_error.Usage → IsRefused usage_refusal (sunk E.taken E.faults E.room err.old err.new) result }
+    ensures memory { error ≡ words_error.Mem → IsRefused want_of_memory (sunk E.taken E.faults E.room err.old err.new) result }
+    ensures quiet { (out : Sunk) → TookNothing out → IsQuiet out (sunk E.taken E.faults E.room err.old err.new) result }
+    ensures bound { result ≤ 13 }
+{
+    match error {
+        WordsError::Usage => {
+            write_message(
+                err,
+                "",
+                "usage: kuifje COMMAND [FILES] [--gain G] [--turns N] [--json]",
+            );
+            2
+        }
+        WordsError::Mem => {
+            write_message(err, "", "want of memory");
+            12
+        }
+    }
+}
+
+/// Writes an answer, or why there is none, and gives the status.
+pub fn finish<O: Sink, E: Sink>(answer: Result<Done, Stop<'_>>, out: &mut O, err: &mut E) -> u8
+    ensures written { WrittenOf answer.entry (sunk O.taken O.faults O.room out.old out.new) (sunk E.taken E.faults E.room err.old err.new) result }
+    ensures quiet { IsQuiet (sunk O.taken O.faults O.room out.old out.new) (sunk E.taken E.faults E.room err.old err.new) result }
+    ensures bound { result ≤ 13 }
+{
+    match answer {
+        Ok(done) => match write_all(out, &done.bytes) {
+            Ok(()) => { if done.yes { 0 } else { 1 } }
+            Err(Failed) => {
+                write_message(err, "", "write failed");
+                4
+            }
+        },
+        Err(Stop::Refused(refusal)) => refuse(err, &refusal),
+        Err(Stop::Mem) => {
+            write_message(err, "", "want of memory");
+            12
+        }
+    }
+}
 
 // Does the job, and writes its answer, or why there is none.
 fn carry_out<F: Files, O: Sink, E: Sink>(
@@ -24,21 +72,10 @@ fn carry_out<F: Files, O: Sink, E: Sink>(
         → HasCauses words (F.contents files.old) (F.faults files.old) (F.faults files.new)
         (sunk O.taken O.faults O.room out.old out.new) (sunk E.taken E.faults E.room err.old err.new) result }
     ensures quiet { IsQuiet (sunk O.taken O.faults O.room out.old out.new) (sunk E.taken E.faults E.room err.old err.new) result }
+    ensures bound { result ≤ 13 }
 {
-    match work(alloc, files, job) {
-        Ok(done) => match write_all(out, &done.bytes) {
-            Ok(()) => { if done.yes { 0 } else { 1 } }
-            Err(Failed) => {
-                write_message(err, "", "write failed");
-                4
-            }
-        },
-        Err(Stop::Refused(refusal)) => refuse(err, &refusal),
-        Err(Stop::Mem) => {
-            write_message(err, "", "want of memory");
-            12
-        }
-    }
+    let answer = work(alloc, files, job);
+    finish(answer, out, err)
 }
 
 /// Does what the words ask for: reads their files, writes the answer to `out`, and gives the status.
@@ -55,21 +92,10 @@ pub fn run<F: Files, O: Sink, E: Sink>(
     ensures causes { HasCauses (map string_bytes words.now) (F.contents files.old) (F.faults files.old) (F.faults files.new)
         (sunk O.taken O.faults O.room out.old out.new) (sunk E.taken E.faults E.room err.old err.new) result }
     ensures quiet { IsQuiet (sunk O.taken O.faults O.room out.old out.new) (sunk E.taken E.faults E.room err.old err.new) result }
+    ensures bound { result ≤ 13 }
 {
-    let job = match read_words(alloc, words) {
-        Ok(job) => job,
-        Err(WordsError::Usage) => {
-            write_message(
-                err,
-                "",
-                "usage: kuifje COMMAND [FILES] [--gain G] [--turns N] [--json]",
-            );
-            return 2;
-        }
-        Err(WordsError::Mem) => {
-            write_message(err, "", "want of memory");
-            return 12;
-        }
-    };
-    carry_out(alloc, files, &job, out, err)
+    match read_words(alloc, words) {
+        Ok(job) => carry_out(alloc, files, &job, out, err),
+        Err(error) => refuse_words(err, error),
+    }
 }

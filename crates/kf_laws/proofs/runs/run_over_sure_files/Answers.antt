@@ -1,10 +1,10 @@
-use Rattle.std.proofs.Common.{◌≡◌, ℕ, ◌≤◌, ◌<◌, arith, ⊎_elim}
+use Rattle.std.proofs.Common.{◌≡◌, ℕ, ◌≤◌, ◌<◌, arith, map, string_bytes, ⊎_elim}
 use Rattle.std.proofs.lemmas.Bool.{cases_lt}
 use Rattle.kf_laws.proofs.runs.run_over_sure_files.Goals as goal
 
 pub returns-clause-no_write_fails : goal.returns-clause-no_write_fails
 returns-clause-no_write_fails g c room failed =
-    let part = (c.told_answers.ensures _ _ _ _ _ _ _ c.run.ensures.causes).part failed in
+    let part = (c.told_answers.ensures (map string_bytes c.args.words.now) _ _ _ _ _ _ c.run.ensures.causes).part failed in
     absurd (omega (arith, part.no_room, room part.answer part.is_answer))
 
 pub returns-clause-no_fault : goal.returns-clause-no_fault
@@ -16,4 +16,4 @@ returns-clause-no_fault g c room =
 pub returns-clause-answered : goal.returns-clause-answered
 returns-clause-answered g c room had =
     let read : c.run.result ≡ 3 → ⊥ = λ failed. let rose = (c.run.ensures.causes.read failed).rose in absurd (omega (arith, rose)) in
-    (c.told_answers.ensures _ _ _ _ _ _ _ c.run.ensures.causes).decided read (returns-clause-no_write_fails g c room) had
+    (c.told_answers.ensures (map string_bytes c.args.words.now) _ _ _ _ _ _ c.run.ensures.causes).decided read (returns-clause-no_write_fails g c room) had

@@ -1,32 +1,15 @@
-use Rattle.std.proofs.Common.{◌≤◌, ◌≡◌, IsOk, ap, subst, Ok, Err, ◌∙◌}
-use Rattle.kf_frac.specs.Fractions.{limit}
-use Rattle.kf_core.specs.Programs.{ProgramTree}
-use Rattle.kf_core.specs.Scale.{scale_of}
-use Rattle.kf_core.specs.Support.{program_pass}
+use Rattle.std.proofs.Common.{ℕ, List, subst}
+use Rattle.kf_ast.specs.Views.{source_tree}
 use Rattle.kf_core.specs.Views.{program_tree}
-use Rattle.kf_support.specs.Answers.{halted}
-use Rattle.kf_support.specs.Cleared.{turns_of}
-use Rattle.kf_load.specs.Views.{text_of}
-use Rattle.kf_load.proofs.Faults.{halts, fits, too_wide}
+use Rattle.kf_load.specs.Steps.{Gives}
+use Rattle.kf_load.specs.Stops.{Answers}
+use Rattle.kf_load.specs.Texts.{cleared}
+use Rattle.kf_load.specs.Views.{program_in}
 use Rattle.kf_load.proofs.clear.cleared.Goals as goal
 
-pub returns-in-Ok-clause-answer : goal.returns-in-Ok-clause-answer
-returns-in-Ok-clause-answer c =
-    let cleared = c.in-Ok.cleared in
-    let q = program_tree c.args.text.program in
-    let turns = c.args.turns in
-    let same = ap program_tree c.in-Ok.ensures.cleared.0 in
-    let clear = subst (λ n. IsOk (program_pass n q)) c.in-Ok.ensures.cleared.1 (subst (λ (p : ProgramTree). IsOk (program_pass (turns_of cleared) p)) same cleared.clear) in
-    let few = subst (λ n. scale_of n q ≤ limit) c.in-Ok.ensures.cleared.1
-    (subst (λ (p : ProgramTree). scale_of (turns_of cleared) p ≤ limit) same (subst (λ n. n ≤ limit) cleared.scale_is cleared.fits)) in
-    ap (λ (p : ProgramTree). Ok p) same ∙ fits turns (text_of c.args.name.now c.args.text) clear few
-
-pub returns-in-Err-Fault-clause-answer : goal.returns-in-Err-Fault-clause-answer
-returns-in-Err-Fault-clause-answer c =
-    rw (c.place-line.ensures.line, c.place-line.ensures.column, c.fault_word-word.ensures, c.deref.ensures.value)
-    (halts c.args.turns (text_of c.args.name.now c.args.text) (halted c.in-Err-Fault.kind c.in-Err-Fault.at) (c.in-Err-Fault.ensures.fault c.in-Err-Fault.kind c.in-Err-Fault.at (ap Err c.in-Err-Fault.field-0-is)))
-
-pub returns-in-Err-Scale-clause-answer : goal.returns-in-Err-Scale-clause-answer
-returns-in-Err-Scale-clause-answer c =
-    let wide = c.in-Err-Scale.ensures.scale (ap Err c.in-Err-Scale.field-0-is) in
-    too_wide c.args.turns (text_of c.args.name.now c.args.text) wide.0 wide.1
+pub returns-clause-answer : goal.returns-clause-answer
+returns-clause-answer c =
+    let source = source_tree c.args.text.source in
+    subst (λ (bytes : List ℕ). Answers program_in c.cleared_text.result
+    (Gives (cleared c.args.turns (record { name = c.args.name.now; bytes = bytes; source = source; program = program_tree c.args.text.program }))))
+    c.deref.ensures.value (c.cleared_text.ensures.answer source)

@@ -13,8 +13,8 @@ returns-in_err-bytes-clause-answer g c =
 
 pub returns-clause-answer : goal.returns-clause-answer
 returns-clause-answer g c =
-    file_next _ _ _ c.args.name.now (λ file. Gives (source_of file)) (λ file bytes. TypedOf file.name bytes) (text_of c.args.name.now) c.in_ok-bytes.bytes.items c.typed.result
-    c.in_ok-bytes.ensures.answer (λ bytes. c.typed.ensures.answer)
+    file_next _ _ _ c.args.name.now (λ file. Gives (source_of file)) (λ file bytes. TypedOf file.name bytes) (text_of c.args.name.now) c.in_ok-bytes.bytes.items c.text_of_bytes.result
+    c.in_ok-bytes.ensures.answer (λ bytes. c.text_of_bytes.ensures.answer)
 
 pub returns-in_err-bytes-clause-counts : goal.returns-in_err-bytes-clause-counts
 returns-in_err-bytes-clause-counts g c =
@@ -22,4 +22,4 @@ returns-in_err-bytes-clause-counts g c =
     rw (p.1, p.2) c.in_err-bytes.ensures.counts
 
 pub returns-clause-counts : goal.returns-clause-counts
-returns-clause-counts g c = counts_next (c.args.name.now ∷ []) _ _ c.typed.result c.in_ok-bytes.ensures.counts c.typed.ensures.read
+returns-clause-counts g c = counts_next (c.args.name.now ∷ []) _ _ c.text_of_bytes.result c.in_ok-bytes.ensures.counts c.text_of_bytes.ensures.read

@@ -1,21 +1,17 @@
-use Rattle.std.proofs.Common.{◌≡◌, ◌∙◌}
-use Rattle.kf_ast.specs.Views.{source_tree}
-use Rattle.kf_make.specs.Made.{IsMade, made_tree}
+use Rattle.std.proofs.Common.{◌≡◌, [], Err, subst}
+use Rattle.kf_core.specs.Views.{program_tree}
+use Rattle.kf_load.specs.Steps.{Gives}
+use Rattle.kf_load.specs.Stops.{Stopped, refused}
+use Rattle.kf_load.specs.Texts.{Text, cleared}
+use Rattle.kf_load.specs.declared.refusal.Stop.{Stop}
+use Rattle.kf_make.specs.Made.{made_tree}
+use Rattle.kf_make.proofs.Refusing.{made_clears}
 use Rattle.kf_make.proofs.unrefused.made.Goals as goal
 
-pub tokens_of-requires : goal.tokens_of-requires
-tokens_of-requires c = (c.args.count, record { few = c.requires.few; is = c.as_slice-text.ensures.value ∙ c.in_ok-bytes.ensures })
-
-pub source_of-requires-clause-text : goal.source_of-requires-clause-text
-source_of-requires-clause-text c = (c.args.count, record { few = c.requires.few; is = c.as_slice-text.ensures.value ∙ c.in_ok-bytes.ensures })
-
-pub typed-requires : goal.typed-requires
-typed-requires c =
-    let made : IsMade c.args.count c.as_slice-text.result.now = record { few = c.requires.few; is = c.as_slice-text.ensures.value ∙ c.in_ok-bytes.ensures } in
-    (c.args.count, c.in_ok-source.ensures c.args.count made)
-
-pub cleared-requires-clause-made : goal.cleared-requires-clause-made
-cleared-requires-clause-made c =
-    let made : IsMade c.args.count c.as_slice-text.result.now = record { few = c.requires.few; is = c.as_slice-text.ensures.value ∙ c.in_ok-bytes.ensures } in
-    let source : source_tree c.in_ok-source.source ≡ made_tree c.args.count = c.in_ok-source.ensures c.args.count made in
-    (c.args.count, c.requires.few, c.in_ok-program.ensures.program c.args.count source)
+pub unreachable-requires : goal.unreachable-requires
+unreachable-requires c =
+    let t : Text = record { name = []; bytes = c.deref.result.now; source = made_tree c.args.count; program = program_tree c.in_ok-bytes.field-0.program } in
+    let r = c.in-Err-Refused.field-0-0 in
+    let stopped : Err (refused r) ≡ cleared c.args.turns t =
+    subst (λ (s : Stop). Stopped s (Gives (cleared c.args.turns t))) c.in-Err-Refused.field-0-is (c.in-Err-Refused.ensures.answer (made_tree c.args.count)) in
+    made_clears c.made_laws.ensures.clear c.made_laws.ensures.scale c.args.turns c.args.count t (refused r) c.requires.few c.in_ok-bytes.ensures.program stopped

@@ -1,29 +1,28 @@
-use Rattle.std.proofs.Common.{◌≡◌, None, Some, sym, subst}
-use Rattle.kf_ast.specs.Sources.{SourceTree}
-use Rattle.kf_ast.specs.Views.{source_tree}
-use Rattle.kf_check.specs.Laws.{IsWellBuilt}
-use Rattle.kf_check.specs.Translation.{Typed}
-use Rattle.kf_core.specs.Views.{program_tree}
-use Rattle.kf_make.specs.Made.{made_program, made_tree}
-use Rattle.kf_make.specs.Making.{make_source}
+use Rattle.std.proofs.Common.{ℕ, List, [], length, ap, subst, Ok, Err, arith}
+use Rattle.kf_load.specs.Texts.{TypedOf}
+use Rattle.kf_load.specs.Stops.{Stopped, refused}
+use Rattle.kf_load.specs.Views.{text_of}
+use Rattle.kf_load.specs.declared.refusal.Stop.{Stop}
+use Rattle.kf_make.proofs.Refusing.{made_short_text, made_typed, made_unrefused}
 use Rattle.kf_make.proofs.unrefused.typed.Goals as goal
 
-pub check-requires : goal.check-requires
-check-requires c =
-    let count = c.requires.0 in
-    let read = c.made_laws.ensures.parsed count in
-    subst IsWellBuilt (sym c.requires.1) (c.grammar.ensures.built (make_source count) read.0 (made_tree count) read.2.program)
+pub text_of_bytes-requires : goal.text_of_bytes-requires
+text_of_bytes-requires c =
+    let long = ap length c.in_ok-bytes.ensures in
+    omega (arith, long, made_short_text c.args.count c.requires.few)
 
 pub unreachable-requires : goal.unreachable-requires
 unreachable-requires c =
-    let count = c.requires.0 in
-    let tree = source_tree c.args.source.now in
-    let typed = subst (λ (s : SourceTree). Typed s (made_program count)) (sym c.requires.1) (c.made_laws.ensures.typed count) in
-    let both : None ≡ Some c.in-Err.error = c.type_laws.ensures.one tree None (Some c.in-Err.error) typed.judged (c.in-Err.ensures.broken c.in_default.not-Mem) in
-    absurd (cc)
+    let r = c.in-Err-Refused.field-0-0 in
+    let stopped : TypedOf [] c.in_ok-bytes.bytes.items (Err (refused r)) =
+    subst (λ (s : Stop). Stopped s (TypedOf [] c.in_ok-bytes.bytes.items)) c.in-Err-Refused.field-0-is c.in-Err-Refused.ensures.answer in
+    made_unrefused c.one_reading.ensures c.grammar.ensures.one c.refusals.ensures.both c.type_laws.ensures.one c.type_laws.ensures.typed
+    c.made_laws.ensures.parsed c.made_laws.ensures.typed c.args.count [] (refused r)
+    (subst (λ (bytes : List ℕ). TypedOf [] bytes (Err (refused r))) c.in_ok-bytes.ensures stopped)
 
 pub returns-in-Ok-clause-program : goal.returns-in-Ok-clause-program
-returns-in-Ok-clause-program c count is =
-    let tree = source_tree c.args.source.now in
-    let typed = subst (λ (s : SourceTree). Typed s (made_program count)) (sym is) (c.made_laws.ensures.typed count) in
-    c.type_laws.ensures.typed tree (program_tree c.in-Ok.program) (made_program count) c.in-Ok.ensures.typed typed
+returns-in-Ok-clause-program c =
+    let t = text_of [] c.in-Ok.text in
+    made_typed c.one_reading.ensures c.grammar.ensures.one c.refusals.ensures.both c.type_laws.ensures.one c.type_laws.ensures.typed
+    c.made_laws.ensures.parsed c.made_laws.ensures.typed c.args.count [] t
+    (subst (λ (bytes : List ℕ). TypedOf [] bytes (Ok t)) c.in_ok-bytes.ensures c.in-Ok.ensures.answer)

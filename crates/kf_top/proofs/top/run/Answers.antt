@@ -1,10 +1,11 @@
-use Rattle.std.proofs.Common.{Err, refl, ap}
-use Rattle.kf_top.proofs.Ends.{ends_usage, untouched}
+use Rattle.std.proofs.Common.{Err, ap, refl}
+use Rattle.kf_top.proofs.Ends.{causes_of_words, untouched, usage_of_words}
 use Rattle.kf_top.proofs.top.run.Goals as goal
 
-pub returns-in-Err-Usage-clause-causes : goal.returns-in-Err-Usage-clause-causes
-returns-in-Err-Usage-clause-causes g c =
-    ends_usage _ _ _ _ _ _ refl refl (c.in-Err-Usage.ensures.usage (ap Err c.in-Err-Usage.field-0-is)) (untouched (g.O.Sink.taken c.args.out.now)) c.write_message.ensures
+pub returns-in-Ok-clause-causes : goal.returns-in-Ok-clause-causes
+returns-in-Ok-clause-causes g c = c.carry_out.ensures.causes _ c.in-Ok.ensures.job
 
-pub returns-clause-causes : goal.returns-clause-causes
-returns-clause-causes g c = c.carry_out.ensures.causes _ c.in-Ok.ensures.job
+pub returns-in-Err-clause-causes : goal.returns-in-Err-clause-causes
+returns-in-Err-clause-causes g c =
+    causes_of_words _ _ _ _ _ _ _ c.in-Err.error (λ usage. usage_of_words _ (c.in-Err.ensures.usage (ap Err usage))) c.refuse_words.ensures.usage c.refuse_words.ensures.memory
+    refl (untouched (g.O.Sink.taken c.args.out.now))

@@ -6,7 +6,7 @@ use Rattle.kf_load.specs.Steps.{After}
 use Rattle.kf_load.specs.Texts.{TokensOf, SourceOf, TextWith, TypedOf}
 use Rattle.kf_load.specs.Views.{text_of}
 use Rattle.kf_load.proofs.Stepwise.{next_answers}
-use Rattle.kf_load.proofs.text.typed.Goals as goal
+use Rattle.kf_load.proofs.text.text_of_bytes.Goals as goal
 
 pub returns-clause-answer : goal.returns-clause-answer
 unfolding TypedOf

@@ -1,0 +1,13 @@
+pub mod Chaining
+pub mod Hushing
+pub mod SilentSplits
+pub mod Ranges
+pub mod Averages
+pub mod SilentGoes
+pub mod Leaving
+pub mod SilentLeads
+pub mod Retracing
+pub mod Worths
+pub mod Refining
+pub mod OnePath
+pub mod SilentStatement

@@ -1,0 +1,4 @@
+-- Believed
+pub mod Silent
+-- For bodies
+pub mod Laws

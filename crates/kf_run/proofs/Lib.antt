@@ -1,6 +1,10 @@
 pub mod Trails
+pub mod Onward
 pub mod Blocks
 pub mod Turns
+pub mod Silencing
+pub mod SilentForms
+pub mod SilentPrograms
 pub mod Forms
 pub mod Parts
 pub mod Outermost

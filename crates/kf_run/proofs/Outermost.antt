@@ -33,6 +33,7 @@ use Rattle.kf_quiet.specs.Following.{Goes}
 use Rattle.kf_quiet.specs.Meanings.{AreApart, IsFinished, IsMeaning, Meaning, runs_between, store_count}
 use Rattle.kf_hyper.proofs.Beliefs.{merged_columns, merged_distinct, merged_has, merged_weights, some_merged}
 use Rattle.kf_quiet.proofs.Carrying.{Matrix, Runner, pushed_again, pushed_chain, pushed_columns, pushed_stay}
+use Rattle.kf_run.specs.Behind.{Behind, front}
 use Rattle.kf_run.proofs.Parts.{part, sound_behind}
 use Rattle.kf_quiet.proofs.Programs.{begun_rows, program_hyper, start_goes}
 use Rattle.kf_quiet.proofs.Statements.{blocks_split, goes_first}
@@ -99,19 +100,6 @@ front_more : {X : Type 0} (at to : ℕ) (xs : List X) → at ≤ to → take to 
 front_more at to xs order =
     let more : to ≡ at + (to - at) = omega (arith, order) in
     ap (λ n. take n xs) more ∙ take-add at (to - at) xs
-
--- a meaning's runs of the first statements, so many
-abbrev pub front : Meaning → ℕ → Runner
-front m at = all_runs m.program.types m.turns (sts (take at m.program.body))
-
--- columns behind so many statements
-pub record Behind (m : Meaning) (at : ℕ) (column : List Entry) (now : Joint) : Type 0 where
-  pub start : IsStart m.turns m.program column
-  pub pushed : IsPushed (front m at) (column ∷ []) now.columns
-  pub scale : now.scale ≡ m.scale
-  pub below : All (IsBelow (store_count m)) now.columns
-  pub whole : mass now.columns ≡ m.scale
-  pub ready : IsReady m.program.types m.turns (drop at m.program.body) now.columns
 
 -- so many counts of beliefs
 pub record Counted (m : Meaning) (at : ℕ) (column : List Entry) (counts : List ℕ) : Type 0 where

@@ -1,51 +1,26 @@
 -- Columns pushed through a loop, turn by turn.
-use Rattle.std.proofs.Common.{◌≡◌, ℕ, zero, suc, ◌+◌, ◌≤◌, true, false, List, [], ◌∷◌, ◌++◌, All, length, refl, sym, ◌∙◌, subst, arith}
+use Rattle.std.proofs.Common.{◌≡◌, ℕ, zero, suc, ◌+◌, ◌≤◌, true, false, [], ◌∷◌, ◌++◌, All, length, refl, sym, ◌∙◌, subst, arith}
 use Rattle.std.proofs.lemmas.List.Elements.{All-append, All-nil}
-use Rattle.kf_value.specs.Kinds.{TruthKind}
-use Rattle.kf_value.specs.Shapes.{shape_size, shape_types}
-use Rattle.kf_value.specs.declared.shape.Shape.{Shape}
 use Rattle.kf_hyper.specs.Columns.{IsColumn}
 use Rattle.kf_hyper.specs.Joint.{Joint, mass}
 use Rattle.kf_hyper.specs.Merged.{AreMerged}
 use Rattle.kf_hyper.specs.Shapes.{IsBelow}
-use Rattle.kf_core.specs.Checked.{AreSound, DistKinded}
-use Rattle.kf_core.specs.Dxs.{DxTree}
-use Rattle.kf_core.specs.Runs.{LoopBound, Tried, all_runs, chain, looped, place, stay, stopped, tried}
-use Rattle.kf_core.specs.Sts.{StTree, sts}
+use Rattle.kf_core.specs.Runs.{LoopBound, Tried, chain, looped, stay, stopped}
 use Rattle.kf_core.proofs.Filled.{Filled, chain_full, looped_full}
-use Rattle.kf_core.proofs.Solid.{all_solid, dist_filled}
-use Rattle.kf_eval.specs.Kinds.{shape_kinds}
 use Rattle.kf_quiet.specs.Following.{Goes, observed, side}
 use Rattle.kf_run.specs.Going.{CanGo, HasGone}
-use Rattle.kf_quiet.specs.Merging.{SplitsOnce}
 use Rattle.kf_hyper.proofs.Beliefs.{merged_again, merged_below, merged_columns, merged_mass, merged_none}
-use Rattle.kf_run.proofs.Blocks.{AreSides, block_full, mass_both}
+use Rattle.kf_run.proofs.Onward.{AreSides, Carries, carried_mass, mass_both}
 use Rattle.kf_quiet.proofs.Carrying.{Runner, Matrix, pushed_columns}
-use Rattle.kf_quiet.proofs.Statements.{ComesTo, all_turned, block_mass, blocks_split, goes_body, goes_guard, goes_next, turned, turned_last, turned_none}
+use Rattle.kf_quiet.proofs.Statements.{ComesTo, all_turned, goes_body, goes_guard, goes_next, turned, turned_last, turned_none}
 
-module _ (shape : Shape) (turns : ℕ) (test : DxTree) (xs : List StTree) (kinded : DistKinded (shape_kinds shape) test TruthKind)
-    (sound : AreSound (shape_kinds shape) xs) where
-  abbrev size : ℕ
-  size = shape_size shape
-
-  abbrev guard : ℕ → Tried
-  guard = tried (shape_types shape) test
-
-  abbrev body : Runner
-  body = all_runs (shape_types shape) turns (sts xs)
-
+module _ (size : ℕ) (guard : ℕ → Tried) (filled : (n : ℕ) → Filled (guard n)) (at turns : ℕ) (body : Runner) (carries : Carries body) where
   -- the loop with so many turns to come
   abbrev pub loop_of : ℕ → Runner
-  loop_of rest = looped rest guard (place test) body
-
-  abbrev filled : (n : ℕ) → Filled (guard n)
-  filled = dist_filled (shape_types shape) test kinded
-
-  abbrev splits : SplitsOnce body
-  splits = blocks_split (shape_types shape) turns (sts xs)
+  loop_of rest = looped rest guard at body
 
   abbrev comes : ℕ → Matrix → Matrix → Matrix → Type 0
-  comes = ComesTo guard filled (place test) body (block_full shape turns xs sound) splits
+  comes = ComesTo guard filled at body carries.full carries.splits
 
   -- behind some turns: what those that ask and those that have left come to from here, the loop comes to
   pub record LoopOn (before : Joint) (rest : ℕ) (asking left : Joint) : Type 0 where
@@ -76,7 +51,7 @@ module _ (shape : Shape) (turns : ℕ) (test : DxTree) (xs : List StTree) (kinde
   all_gone : (before after : Joint) → comes turns before.columns [] after.columns → after.scale ≡ before.scale → All (IsBelow size) after.columns
       → HasGone (loop_of turns) size before after
   all_gone before after come scale below = record {
-    pushed = all_turned guard filled (place test) body (block_full shape turns xs sound) splits turns
+    pushed = all_turned guard filled at body carries.full carries.splits turns
         before.columns after.columns come;
     scale = scale;
     below = below;
@@ -88,18 +63,18 @@ module _ (shape : Shape) (turns : ℕ) (test : DxTree) (xs : List StTree) (kinde
   loop_none before rest asking left on none =
       all_gone before left
       (on.leads left.columns (subst (λ cs. comes rest cs left.columns left.columns) (sym none)
-      (turned_none guard filled (place test) body (block_full shape turns xs sound) splits rest left.columns left.columns on.were on.left_merged)))
+      (turned_none guard filled at body carries.full carries.splits rest left.columns left.columns on.were on.left_merged)))
       on.left_scale on.left_below
 
   -- the guard can be asked
   pub asks : (rest : ℕ) (columns : Matrix) → Goes (loop_of rest) columns → Goes (observed guard) columns
-  asks zero columns goes = goes_guard guard filled (λ n. stopped LoopBound (place test)) stay (λ n. tt) (λ n. tt) columns goes
+  asks zero columns goes = goes_guard guard filled (λ n. stopped LoopBound at) stay (λ n. tt) (λ n. tt) columns goes
   asks (suc rest) columns goes =
       goes_guard guard filled (λ n. chain (body n) (loop_of rest)) stay
-      (λ n. chain_full (loop_of rest) (looped_full guard filled rest (place test) body (block_full shape turns xs sound)) (body n)
-      (block_full shape turns xs sound n)) (λ n. tt) columns goes
+      (λ n. chain_full (loop_of rest) (looped_full guard filled rest at body carries.full) (body n)
+      (carries.full n)) (λ n. tt) columns goes
 
-  module _ (before : Joint) (asking left taken gone : Joint) (sides : AreSides shape test asking taken gone) where
+  module _ (before : Joint) (asking left taken gone : Joint) (sides : AreSides size guard asking taken gone) where
     module _ (rest : ℕ) (on : LoopOn before rest asking left) where
       gone_are : All IsColumn gone.columns
       gone_are = pushed_columns (side false guard) asking.columns gone.columns sides.to_left
@@ -122,22 +97,20 @@ module _ (shape : Shape) (turns : ℕ) (test : DxTree) (xs : List StTree) (kinde
         are = pushed_columns (side true guard) asking.columns taken.columns sides.to_taken;
         below = sides.below_taken;
         fits = omega (arith, sides.whole, sides.scale_taken, on.can.fits);
-        goes = goes_body guard filled (place test) body (block_full shape turns xs sound) splits rest asking.columns taken.columns on.can.are on.can.goes
+        goes = goes_body guard filled at body carries.full carries.splits rest asking.columns taken.columns on.can.are on.can.goes
             sides.to_taken;
       }
 
       pub loop_step : (more next : Joint) → AreMerged (left.columns ++ gone.columns) more.columns → more.scale ≡ left.scale → HasGone body size taken next
           → LoopOn before rest next more
       loop_step more next merged scale went =
-          let kept : mass next.columns ≡ mass taken.columns =
-          block_mass (shape_types shape) turns (sts xs) taken.columns next.columns (all_solid (shape_types shape) (shape_kinds shape) sound) turn_can.are
-          turn_can.goes went.pushed in
+          let kept = carried_mass body taken.columns next.columns carries turn_can.goes went.pushed in
           record {
             can = record {
               are = pushed_columns body taken.columns next.columns went.pushed;
               below = went.below;
               fits = omega (arith, kept, went.scale, turn_can.fits);
-              goes = goes_next guard filled (place test) body (block_full shape turns xs sound) splits rest asking.columns taken.columns next.columns
+              goes = goes_next guard filled at body carries.full carries.splits rest asking.columns taken.columns next.columns
                   on.can.are on.can.goes sides.to_taken went.pushed;
             };
             were = merged_columns (left.columns ++ gone.columns) more.columns (both_are (suc rest) on more merged scale) merged;
@@ -148,7 +121,7 @@ module _ (shape : Shape) (turns : ℕ) (test : DxTree) (xs : List StTree) (kinde
             fits = omega (arith, kept, more_mass (suc rest) on more merged scale, sides.whole, on.fits);
             leads = λ after come.
                 on.leads after
-                (turned guard filled (place test) body (block_full shape turns xs sound) splits rest asking.columns left.columns taken.columns gone.columns
+                (turned guard filled at body carries.full carries.splits rest asking.columns left.columns taken.columns gone.columns
                 next.columns more.columns after
                 on.can.are on.were on.can.goes sides.to_taken sides.to_left went.pushed merged come);
           }
@@ -158,15 +131,15 @@ module _ (shape : Shape) (turns : ℕ) (test : DxTree) (xs : List StTree) (kinde
         → HasGone (loop_of turns) size before after
     loop_end on after merged scale =
         all_gone before after
-        (on.leads after.columns (turned_last guard filled (place test) body (block_full shape turns xs sound) splits asking.columns left.columns
+        (on.leads after.columns (turned_last guard filled at body carries.full carries.splits asking.columns left.columns
         gone.columns after.columns on.can.are on.were on.can.goes sides.to_left merged))
         (scale ∙ on.left_scale) (more_below zero on after merged scale)
 
--- the same, where the guard and the body are sound
-pub record Looping (shape : Shape) (turns : ℕ) (test : DxTree) (xs : List StTree) (before : Joint) (rest : ℕ) (asking left : Joint) : Type 0 where
-  pub kinded : DistKinded (shape_kinds shape) test TruthKind
-  pub sound : AreSound (shape_kinds shape) xs
-  pub on : LoopOn shape turns test xs kinded sound before rest asking left
+-- the same, of a guard that chooses something and a body that carries all weight on
+pub record Looping (size : ℕ) (guard : ℕ → Tried) (at turns : ℕ) (body : Runner) (before : Joint) (rest : ℕ) (asking left : Joint) : Type 0 where
+  pub filled : (n : ℕ) → Filled (guard n)
+  pub carries : Carries body
+  pub on : LoopOn size guard filled at turns body carries before rest asking left
 
 -- a list without length is empty
 pub none_there : (columns : Matrix) → length columns ≡ 0 → columns ≡ []

@@ -6,3 +6,6 @@ pub mod Ways
 pub mod Spreading
 pub mod Pushings
 pub mod Groups
+pub mod Behind
+pub mod Before
+pub mod Silence

@@ -1,6 +1,7 @@
 //! A cleared program run on whole hypers: columns of one posterior are added up behind each statement.
 #![tactic(auto)]
 
+mod before;
 mod choosing;
 mod cleared_stages;
 mod grouping;
@@ -10,12 +11,14 @@ mod pushes;
 mod pushing;
 mod showing;
 mod siding;
+mod silence;
 mod spreading;
 mod stages;
 mod starting;
 mod steps;
 mod ways;
 
+pub use before::Before;
 pub use kf_hyper::CountList;
 pub use kf_quiet::merge_law;
 pub use laws::trail_laws;

@@ -25,14 +25,14 @@ use kf_value::{Mem, Shape};
 use std::alloc::Global;
 
 /// No columns, over the scale of these.
-fn none_of(alloc: Global, columns: &Columns) -> Columns
+pub(crate) fn none_of(alloc: Global, columns: &Columns) -> Columns
     ensures { result ≡ record { scale = columns.now.scale; columns = [] } }
 {
     Columns::new(columns.scale(), ColumnList::new(Vec::new(alloc)))
 }
 
 /// Both lists as one, with those of one posterior added up.
-fn merge_both(alloc: Global, one: Columns, other: Columns) -> Result<Columns, Mem>
+pub(crate) fn merge_both(alloc: Global, one: Columns, other: Columns) -> Result<Columns, Mem>
     requires one_scale { one.scale ≡ other.scale }
     requires fits { mass one.columns + mass other.columns ≤ one.scale }
     ensures merged { IfOk result (λ after. AreMerged (one.columns ++ other.columns) after.columns) }
@@ -55,7 +55,7 @@ fn merge_copy(alloc: Global, columns: &Columns) -> Result<Columns, Mem>
 
 /// What columns become in a statement, with those of one posterior added up. They needn't be merged before.
 #[cycle(push)]
-fn push_one(
+pub(crate) fn push_one(
     alloc: Global,
     shape: &Shape,
     turns: u32,
@@ -130,7 +130,7 @@ fn push_loop(
 
 /// What merged columns become in statements, one after the other. A `skip` leaves them as they are.
 #[cycle(push)]
-fn push_all(
+pub(crate) fn push_all(
     alloc: Global,
     shape: &Shape,
     turns: u32,

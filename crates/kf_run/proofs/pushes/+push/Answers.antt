@@ -8,10 +8,12 @@ use Rattle.kf_eval.specs.Kinds.{shape_kinds}
 use Rattle.kf_core.proofs.SoundParts as sound
 use Rattle.kf_hyper.specs.Joint.{Joint}
 use Rattle.kf_hyper.proofs.Beliefs.{merged_below}
-use Rattle.kf_core.specs.Runs.{tried}
+use Rattle.kf_core.specs.Runs.{place, tried}
+use Rattle.kf_core.proofs.Solid.{dist_filled}
 use Rattle.kf_quiet.specs.Following.{Goes, side}
 use Rattle.kf_run.specs.Going.{CanGo, HasGone}
 use Rattle.kf_run.proofs.Blocks as blocks
+use Rattle.kf_run.proofs.Onward as onward
 use Rattle.kf_quiet.proofs.Carrying.{pushed_again, pushed_stay}
 use Rattle.kf_run.proofs.Forms as form
 use Rattle.kf_run.proofs.Turns as loop
@@ -58,20 +60,24 @@ push_all-returns t c =
 pub push_loop-loop-turn-init : goal.push_loop-loop-turn-init
 push_loop-loop-turn-init t c =
     let all : c.args.turns ≡ c.args.turns - 0 = omega arith in
+    let filled = dist_filled (shape_types c.args.shape.now) (dx_tree c.args.test.now) c.requires.kinded in
+    let carries = blocks.block_carries c.args.shape.now c.args.turns (map st_tree c.args.body.now) c.requires.sound in
     record {
-      kinded = c.requires.kinded;
-      sound = c.requires.sound;
+      filled = filled;
+      carries = carries;
       on =
-          subst (λ (at : ℕ × Joint). loop.LoopOn c.args.shape.now c.args.turns (dx_tree c.args.test.now) (map st_tree c.args.body.now) c.requires.kinded
-          c.requires.sound c.args.columns.now at.0 at.1 c.none_of-left.result) (λ i. (all i, sym c.in_ok-asking.ensures i))
-          (loop.loop_start c.args.shape.now c.args.turns (dx_tree c.args.test.now) (map st_tree c.args.body.now) c.requires.kinded c.requires.sound
+          subst (λ (at : ℕ × Joint). loop.LoopOn (shape_size c.args.shape.now) (tried (shape_types c.args.shape.now) (dx_tree c.args.test.now)) filled (place (dx_tree c.args.test.now)) c.args.turns
+          (blocks.block c.args.shape.now c.args.turns (map st_tree c.args.body.now)) carries c.args.columns.now at.0 at.1 c.none_of-left.result) (λ i. (all i, sym c.in_ok-asking.ensures i))
+          (loop.loop_start (shape_size c.args.shape.now) (tried (shape_types c.args.shape.now) (dx_tree c.args.test.now)) filled (place (dx_tree c.args.test.now)) c.args.turns
+          (blocks.block c.args.shape.now c.args.turns (map st_tree c.args.body.now)) carries
           c.args.columns.now c.none_of-left.result c.none_of-left.ensures c.requires.can);
     }
 
 pub push_loop-returns-then-is_empty : goal.push_loop-returns-then-is_empty
 push_loop-returns-then-is_empty t c =
     let i = c.loop-turn.invariant in
-    loop.loop_none c.args.shape.now c.args.turns (dx_tree c.args.test.now) (map st_tree c.args.body.now) i.kinded i.sound c.args.columns.now
+    loop.loop_none (shape_size c.args.shape.now) (tried (shape_types c.args.shape.now) (dx_tree c.args.test.now)) i.filled (place (dx_tree c.args.test.now)) c.args.turns
+    (blocks.block c.args.shape.now c.args.turns (map st_tree c.args.body.now)) i.carries c.args.columns.now
     (c.args.turns - c.loop-turn._turn) c.loop-turn.asking c.loop-turn.left i.on
     (loop.none_there c.loop-turn.asking.columns (search rules))
 
@@ -81,7 +87,8 @@ push_loop-guard-requires-clause-below t c = c.loop-turn.invariant.on.can.below
 pub push_loop-guard-requires-clause-goes : goal.push_loop-guard-requires-clause-goes
 push_loop-guard-requires-clause-goes t c =
     let i = c.loop-turn.invariant in
-    loop.asks c.args.shape.now c.args.turns (dx_tree c.args.test.now) (map st_tree c.args.body.now) i.kinded i.sound (c.args.turns - c.loop-turn._turn)
+    loop.asks (shape_size c.args.shape.now) (tried (shape_types c.args.shape.now) (dx_tree c.args.test.now)) i.filled (place (dx_tree c.args.test.now)) c.args.turns
+    (blocks.block c.args.shape.now c.args.turns (map st_tree c.args.body.now)) i.carries (c.args.turns - c.loop-turn._turn)
     c.loop-turn.asking.columns i.on.can.goes
 
 pub push_loop-merge_both-requires-clause-one_scale : goal.push_loop-merge_both-requires-clause-one_scale
@@ -99,11 +106,13 @@ push_loop-push_all-requires t c =
     let i = c.loop-turn.invariant in
     let rest = c.args.turns - (c.loop-turn._turn + 1) in
     let later : c.args.turns - c.loop-turn._turn ≡ suc rest = omega arith in
-    let on : loop.LoopOn c.args.shape.now c.args.turns (dx_tree c.args.test.now) (map st_tree c.args.body.now) i.kinded i.sound c.args.columns.now (suc rest)
+    let on : loop.LoopOn (shape_size c.args.shape.now) (tried (shape_types c.args.shape.now) (dx_tree c.args.test.now)) i.filled (place (dx_tree c.args.test.now)) c.args.turns
+    (blocks.block c.args.shape.now c.args.turns (map st_tree c.args.body.now)) i.carries c.args.columns.now (suc rest)
     c.loop-turn.asking c.loop-turn.left =
-    subst (λ k. loop.LoopOn c.args.shape.now c.args.turns (dx_tree c.args.test.now) (map st_tree c.args.body.now) i.kinded i.sound c.args.columns.now k
+    subst (λ k. loop.LoopOn (shape_size c.args.shape.now) (tried (shape_types c.args.shape.now) (dx_tree c.args.test.now)) i.filled (place (dx_tree c.args.test.now)) c.args.turns
+    (blocks.block c.args.shape.now c.args.turns (map st_tree c.args.body.now)) i.carries c.args.columns.now k
     c.loop-turn.asking c.loop-turn.left) later i.on in
-    let sides : blocks.AreSides c.args.shape.now (dx_tree c.args.test.now) c.loop-turn.asking c.in_ok-sides.sides.taken c.in_ok-sides.sides.left = record {
+    let sides : onward.AreSides (shape_size c.args.shape.now) (tried (shape_types c.args.shape.now) (dx_tree c.args.test.now)) c.loop-turn.asking c.in_ok-sides.sides.taken c.in_ok-sides.sides.left = record {
       to_taken = c.in_ok-sides.ensures.taken;
       to_left = c.in_ok-sides.ensures.left;
       scale_taken = c.in_ok-sides.ensures.scale_taken;
@@ -118,7 +127,8 @@ push_loop-push_all-requires t c =
         (
           pushed_again (side true (tried (shape_types c.args.shape.now) (dx_tree c.args.test.now))) c.loop-turn.asking.columns c.in_ok-sides.sides.taken.columns
               sides.to_taken,
-          loop.turn_can c.args.shape.now c.args.turns (dx_tree c.args.test.now) (map st_tree c.args.body.now) i.kinded i.sound c.args.columns.now
+          loop.turn_can (shape_size c.args.shape.now) (tried (shape_types c.args.shape.now) (dx_tree c.args.test.now)) i.filled (place (dx_tree c.args.test.now)) c.args.turns
+              (blocks.block c.args.shape.now c.args.turns (map st_tree c.args.body.now)) i.carries c.args.columns.now
               c.loop-turn.asking c.loop-turn.left c.in_ok-sides.sides.taken c.in_ok-sides.sides.left sides rest on,
         ),
       ),
@@ -129,11 +139,13 @@ push_loop-loop-turn-preserved t c =
     let i = c.loop-turn.invariant in
     let rest = c.args.turns - (c.loop-turn._turn + 1) in
     let later : c.args.turns - c.loop-turn._turn ≡ suc rest = omega arith in
-    let on : loop.LoopOn c.args.shape.now c.args.turns (dx_tree c.args.test.now) (map st_tree c.args.body.now) i.kinded i.sound c.args.columns.now (suc rest)
+    let on : loop.LoopOn (shape_size c.args.shape.now) (tried (shape_types c.args.shape.now) (dx_tree c.args.test.now)) i.filled (place (dx_tree c.args.test.now)) c.args.turns
+    (blocks.block c.args.shape.now c.args.turns (map st_tree c.args.body.now)) i.carries c.args.columns.now (suc rest)
     c.loop-turn.asking c.loop-turn.left =
-    subst (λ k. loop.LoopOn c.args.shape.now c.args.turns (dx_tree c.args.test.now) (map st_tree c.args.body.now) i.kinded i.sound c.args.columns.now k
+    subst (λ k. loop.LoopOn (shape_size c.args.shape.now) (tried (shape_types c.args.shape.now) (dx_tree c.args.test.now)) i.filled (place (dx_tree c.args.test.now)) c.args.turns
+    (blocks.block c.args.shape.now c.args.turns (map st_tree c.args.body.now)) i.carries c.args.columns.now k
     c.loop-turn.asking c.loop-turn.left) later i.on in
-    let sides : blocks.AreSides c.args.shape.now (dx_tree c.args.test.now) c.loop-turn.asking c.in_ok-sides.sides.taken c.in_ok-sides.sides.left = record {
+    let sides : onward.AreSides (shape_size c.args.shape.now) (tried (shape_types c.args.shape.now) (dx_tree c.args.test.now)) c.loop-turn.asking c.in_ok-sides.sides.taken c.in_ok-sides.sides.left = record {
       to_taken = c.in_ok-sides.ensures.taken;
       to_left = c.in_ok-sides.ensures.left;
       scale_taken = c.in_ok-sides.ensures.scale_taken;
@@ -143,10 +155,11 @@ push_loop-loop-turn-preserved t c =
       whole = c.in_ok-sides.ensures.mass;
     } in
     record {
-      kinded = i.kinded;
-      sound = i.sound;
+      filled = i.filled;
+      carries = i.carries;
       on =
-          loop.loop_step c.args.shape.now c.args.turns (dx_tree c.args.test.now) (map st_tree c.args.body.now) i.kinded i.sound c.args.columns.now
+          loop.loop_step (shape_size c.args.shape.now) (tried (shape_types c.args.shape.now) (dx_tree c.args.test.now)) i.filled (place (dx_tree c.args.test.now)) c.args.turns
+          (blocks.block c.args.shape.now c.args.turns (map st_tree c.args.body.now)) i.carries c.args.columns.now
           c.loop-turn.asking c.loop-turn.left c.in_ok-sides.sides.taken c.in_ok-sides.sides.left sides rest on
           c.in_ok-left.left c.in_ok-asking-2.asking c.in_ok-left.ensures.merged c.in_ok-left.ensures.scale c.in_ok-asking-2.ensures;
     }
@@ -157,7 +170,8 @@ push_loop-guard-requires-2-clause-below t c = c.loop-turn.invariant.on.can.below
 pub push_loop-guard-requires-2-clause-goes : goal.push_loop-guard-requires-2-clause-goes
 push_loop-guard-requires-2-clause-goes t c =
     let i = c.loop-turn.invariant in
-    loop.asks c.args.shape.now c.args.turns (dx_tree c.args.test.now) (map st_tree c.args.body.now) i.kinded i.sound (c.args.turns - c.loop-turn._turn)
+    loop.asks (shape_size c.args.shape.now) (tried (shape_types c.args.shape.now) (dx_tree c.args.test.now)) i.filled (place (dx_tree c.args.test.now)) c.args.turns
+    (blocks.block c.args.shape.now c.args.turns (map st_tree c.args.body.now)) i.carries (c.args.turns - c.loop-turn._turn)
     c.loop-turn.asking.columns i.on.can.goes
 
 pub push_loop-merge_both-requires-2-clause-one_scale : goal.push_loop-merge_both-requires-2-clause-one_scale
@@ -174,11 +188,13 @@ pub push_loop-returns : goal.push_loop-returns
 push_loop-returns t c =
     let i = c.loop-turn.invariant in
     let last : c.args.turns - c.loop-turn._turn ≡ 0 = omega arith in
-    let on : loop.LoopOn c.args.shape.now c.args.turns (dx_tree c.args.test.now) (map st_tree c.args.body.now) i.kinded i.sound c.args.columns.now 0
+    let on : loop.LoopOn (shape_size c.args.shape.now) (tried (shape_types c.args.shape.now) (dx_tree c.args.test.now)) i.filled (place (dx_tree c.args.test.now)) c.args.turns
+    (blocks.block c.args.shape.now c.args.turns (map st_tree c.args.body.now)) i.carries c.args.columns.now 0
     c.loop-turn.asking c.loop-turn.left =
-    subst (λ k. loop.LoopOn c.args.shape.now c.args.turns (dx_tree c.args.test.now) (map st_tree c.args.body.now) i.kinded i.sound c.args.columns.now k
+    subst (λ k. loop.LoopOn (shape_size c.args.shape.now) (tried (shape_types c.args.shape.now) (dx_tree c.args.test.now)) i.filled (place (dx_tree c.args.test.now)) c.args.turns
+    (blocks.block c.args.shape.now c.args.turns (map st_tree c.args.body.now)) i.carries c.args.columns.now k
     c.loop-turn.asking c.loop-turn.left) last i.on in
-    let sides : blocks.AreSides c.args.shape.now (dx_tree c.args.test.now) c.loop-turn.asking c.in_ok-sides-2.sides.taken c.in_ok-sides-2.sides.left =
+    let sides : onward.AreSides (shape_size c.args.shape.now) (tried (shape_types c.args.shape.now) (dx_tree c.args.test.now)) c.loop-turn.asking c.in_ok-sides-2.sides.taken c.in_ok-sides-2.sides.left =
     record {
       to_taken = c.in_ok-sides-2.ensures.taken;
       to_left = c.in_ok-sides-2.ensures.left;
@@ -188,7 +204,8 @@ push_loop-returns t c =
       below_left = c.in_ok-sides-2.ensures.below_left;
       whole = c.in_ok-sides-2.ensures.mass;
     } in
-    loop.loop_end c.args.shape.now c.args.turns (dx_tree c.args.test.now) (map st_tree c.args.body.now) i.kinded i.sound c.args.columns.now c.loop-turn.asking
+    loop.loop_end (shape_size c.args.shape.now) (tried (shape_types c.args.shape.now) (dx_tree c.args.test.now)) i.filled (place (dx_tree c.args.test.now)) c.args.turns
+    (blocks.block c.args.shape.now c.args.turns (map st_tree c.args.body.now)) i.carries c.args.columns.now c.loop-turn.asking
     c.loop-turn.left c.in_ok-sides-2.sides.taken c.in_ok-sides-2.sides.left sides on
     c.in_ok-after.after c.in_ok-after.ensures.merged c.in_ok-after.ensures.scale
 
@@ -234,7 +251,10 @@ push_one-guard-requires-clause-goes t c =
     (st_items c.in-If.yes) refl in
     let sound_other = sound.no_sound (shape_kinds c.args.shape.now) c.args.statement.now c.requires.sound c.in-If.test c.in-If.yes c.in-If.no c.in-If.is
     (st_items c.in-If.no) refl in
-    blocks.can_guard c.args.shape.now c.args.turns (dx_tree c.in-If.test) one other kinded sound_one sound_other c.args.columns.now can
+    onward.can_guard (shape_size c.args.shape.now) (tried (shape_types c.args.shape.now) (dx_tree c.in-If.test))
+    (dist_filled (shape_types c.args.shape.now) (dx_tree c.in-If.test) kinded) (blocks.block c.args.shape.now c.args.turns one)
+    (blocks.block c.args.shape.now c.args.turns other) (blocks.block_carries c.args.shape.now c.args.turns one sound_one)
+    (blocks.block_carries c.args.shape.now c.args.turns other sound_other) c.args.columns.now can
 
 pub push_one-push_all-requires : goal.push_one-push_all-requires
 push_one-push_all-requires t c =
@@ -248,7 +268,7 @@ push_one-push_all-requires t c =
     c.as_slice.result.now c.as_slice.ensures in
     let sound_other = sound.no_sound (shape_kinds c.args.shape.now) c.args.statement.now c.requires.sound c.in-If.test c.in-If.yes c.in-If.no c.in-If.is
     (st_items c.in-If.no) refl in
-    let sides : blocks.AreSides c.args.shape.now (dx_tree c.in-If.test) c.args.columns.now c.in_ok-sides-in-If.sides.taken c.in_ok-sides-in-If.sides.left =
+    let sides : onward.AreSides (shape_size c.args.shape.now) (tried (shape_types c.args.shape.now) (dx_tree c.in-If.test)) c.args.columns.now c.in_ok-sides-in-If.sides.taken c.in_ok-sides-in-If.sides.left =
     record {
       to_taken = c.in_ok-sides-in-If.ensures.taken;
       to_left = c.in_ok-sides-in-If.ensures.left;
@@ -264,7 +284,10 @@ push_one-push_all-requires t c =
         (
           pushed_again (side true (tried (shape_types c.args.shape.now) (dx_tree c.in-If.test))) c.args.columns.now.columns c.in_ok-sides-in-If.sides.taken.columns
               sides.to_taken,
-          blocks.can_take c.args.shape.now c.args.turns (dx_tree c.in-If.test) one other kinded sound_one sound_other
+          onward.can_take (shape_size c.args.shape.now) (tried (shape_types c.args.shape.now) (dx_tree c.in-If.test))
+              (dist_filled (shape_types c.args.shape.now) (dx_tree c.in-If.test) kinded) (blocks.block c.args.shape.now c.args.turns one)
+              (blocks.block c.args.shape.now c.args.turns other) (blocks.block_carries c.args.shape.now c.args.turns one sound_one)
+              (blocks.block_carries c.args.shape.now c.args.turns other sound_other)
               c.args.columns.now can c.in_ok-sides-in-If.sides.taken c.in_ok-sides-in-If.sides.left sides,
         ),
       ),
@@ -282,7 +305,7 @@ push_one-push_all-requires-in-If t c =
     c.as_slice.result.now c.as_slice.ensures in
     let sound_other = sound.no_sound (shape_kinds c.args.shape.now) c.args.statement.now c.requires.sound c.in-If.test c.in-If.yes c.in-If.no c.in-If.is
     c.as_slice-in-If.result.now c.as_slice-in-If.ensures in
-    let sides : blocks.AreSides c.args.shape.now (dx_tree c.in-If.test) c.args.columns.now c.in_ok-sides-in-If.sides.taken c.in_ok-sides-in-If.sides.left =
+    let sides : onward.AreSides (shape_size c.args.shape.now) (tried (shape_types c.args.shape.now) (dx_tree c.in-If.test)) c.args.columns.now c.in_ok-sides-in-If.sides.taken c.in_ok-sides-in-If.sides.left =
     record {
       to_taken = c.in_ok-sides-in-If.ensures.taken;
       to_left = c.in_ok-sides-in-If.ensures.left;
@@ -298,7 +321,10 @@ push_one-push_all-requires-in-If t c =
         (
           pushed_again (side false (tried (shape_types c.args.shape.now) (dx_tree c.in-If.test))) c.args.columns.now.columns c.in_ok-sides-in-If.sides.left.columns
               sides.to_left,
-          blocks.can_leave c.args.shape.now c.args.turns (dx_tree c.in-If.test) one other kinded sound_one sound_other
+          onward.can_leave (shape_size c.args.shape.now) (tried (shape_types c.args.shape.now) (dx_tree c.in-If.test))
+              (dist_filled (shape_types c.args.shape.now) (dx_tree c.in-If.test) kinded) (blocks.block c.args.shape.now c.args.turns one)
+              (blocks.block c.args.shape.now c.args.turns other) (blocks.block_carries c.args.shape.now c.args.turns one sound_one)
+              (blocks.block_carries c.args.shape.now c.args.turns other sound_other)
               c.args.columns.now can c.in_ok-sides-in-If.sides.taken c.in_ok-sides-in-If.sides.left sides,
         ),
       ),
@@ -316,7 +342,7 @@ push_one-merge_both-requires-clause-fits t c =
     c.as_slice.result.now c.as_slice.ensures in
     let sound_other = sound.no_sound (shape_kinds c.args.shape.now) c.args.statement.now c.requires.sound c.in-If.test c.in-If.yes c.in-If.no c.in-If.is
     c.as_slice-in-If.result.now c.as_slice-in-If.ensures in
-    let sides : blocks.AreSides c.args.shape.now (dx_tree c.in-If.test) c.args.columns.now c.in_ok-sides-in-If.sides.taken c.in_ok-sides-in-If.sides.left =
+    let sides : onward.AreSides (shape_size c.args.shape.now) (tried (shape_types c.args.shape.now) (dx_tree c.in-If.test)) c.args.columns.now c.in_ok-sides-in-If.sides.taken c.in_ok-sides-in-If.sides.left =
     record {
       to_taken = c.in_ok-sides-in-If.ensures.taken;
       to_left = c.in_ok-sides-in-If.ensures.left;
@@ -326,7 +352,10 @@ push_one-merge_both-requires-clause-fits t c =
       below_left = c.in_ok-sides-in-If.ensures.below_left;
       whole = c.in_ok-sides-in-If.ensures.mass;
     } in
-    blocks.joined_fit c.args.shape.now c.args.turns (dx_tree c.in-If.test) one other kinded sound_one sound_other c.args.columns.now can
+    onward.joined_fit (shape_size c.args.shape.now) (tried (shape_types c.args.shape.now) (dx_tree c.in-If.test))
+    (dist_filled (shape_types c.args.shape.now) (dx_tree c.in-If.test) kinded) (blocks.block c.args.shape.now c.args.turns one)
+    (blocks.block c.args.shape.now c.args.turns other) (blocks.block_carries c.args.shape.now c.args.turns one sound_one)
+    (blocks.block_carries c.args.shape.now c.args.turns other sound_other) c.args.columns.now can
     c.in_ok-sides-in-If.sides.taken c.in_ok-sides-in-If.sides.left sides c.in_ok-one-in-If.one c.in_ok-other-in-If.other c.in_ok-one-in-If.ensures
     c.in_ok-other-in-If.ensures
 
@@ -389,7 +418,7 @@ push_one-returns-in_ok-after-in-If t c =
     c.as_slice.result.now c.as_slice.ensures in
     let sound_other = sound.no_sound (shape_kinds c.args.shape.now) c.args.statement.now c.requires.sound c.in-If.test c.in-If.yes c.in-If.no c.in-If.is
     c.as_slice-in-If.result.now c.as_slice-in-If.ensures in
-    let sides : blocks.AreSides c.args.shape.now (dx_tree c.in-If.test) c.args.columns.now c.in_ok-sides-in-If.sides.taken c.in_ok-sides-in-If.sides.left =
+    let sides : onward.AreSides (shape_size c.args.shape.now) (tried (shape_types c.args.shape.now) (dx_tree c.in-If.test)) c.args.columns.now c.in_ok-sides-in-If.sides.taken c.in_ok-sides-in-If.sides.left =
     record {
       to_taken = c.in_ok-sides-in-If.ensures.taken;
       to_left = c.in_ok-sides-in-If.ensures.left;
@@ -400,7 +429,10 @@ push_one-returns-in_ok-after-in-If t c =
       whole = c.in_ok-sides-in-If.ensures.mass;
     } in
     subst (λ f. HasGone f (shape_size c.args.shape.now) c.args.columns.now c.in_ok-after-in-If.after) same
-    (blocks.branches_joined c.args.shape.now c.args.turns (dx_tree c.in-If.test) one other kinded sound_one sound_other c.args.columns.now can
+    (onward.branches_joined (shape_size c.args.shape.now) (tried (shape_types c.args.shape.now) (dx_tree c.in-If.test))
+    (dist_filled (shape_types c.args.shape.now) (dx_tree c.in-If.test) kinded) (blocks.block c.args.shape.now c.args.turns one)
+    (blocks.block c.args.shape.now c.args.turns other) (blocks.block_carries c.args.shape.now c.args.turns one sound_one)
+    (blocks.block_carries c.args.shape.now c.args.turns other sound_other) c.args.columns.now can
     c.in_ok-sides-in-If.sides.taken c.in_ok-sides-in-If.sides.left sides c.in_ok-one-in-If.one c.in_ok-other-in-If.other c.in_ok-one-in-If.ensures
     c.in_ok-other-in-If.ensures c.in_ok-after-in-If.after c.in_ok-after-in-If.ensures.merged c.in_ok-after-in-If.ensures.scale)
 

@@ -1,6 +1,6 @@
 use Rattle.std.proofs.Common.{List}
 use Rattle.kf_hyper.specs.declared.entry.Entry.{Entry}
-use Rattle.kf_run.proofs.Outermost.{Behind}
+use Rattle.kf_run.specs.Behind.{Behind}
 use Rattle.kf_run.proofs.stages.hyper_of.Given as goal
 
 abbrev pub invariant-loop-at : goal.invariant-loop-at

@@ -1,15 +1,9 @@
-//! The program as a call from C: words and files as bytes in memory, and the answer as bytes in memory.
+//! The program as a call from C: `answer_call` under its name there, and the version.
 #![tactic(auto)]
 
-mod call;
-mod files;
-mod guess;
-mod line;
-mod memory;
-mod sink;
-mod spans;
+mod run;
 mod version;
 
-pub use call::{Lengths, kuifje_run};
-pub use spans::{FileSpans, Span};
+pub use kf_call::{FileSpans, Lengths, Span};
+pub use run::kuifje_run;
 pub use version::kuifje_version;

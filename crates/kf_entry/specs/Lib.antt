@@ -1,0 +1,2 @@
+-- Believed
+pub mod Asked

@@ -1,0 +1,6 @@
+//! The call above all commands: words of `lines` go to `lines`, all others to `run`.
+#![tactic(auto)]
+
+mod entry;
+
+pub use entry::start;

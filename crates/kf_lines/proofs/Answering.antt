@@ -1,0 +1,132 @@
+-- What is answered about a text, and about the file that a request names.
+use Rattle.std.proofs.Common.{◌≡◌, ℕ, ◌*◌, ◌≤◌, List, [], ◌∷◌, All, le-leb, if◌then◌else◌, codes, Option, Some, Result, Ok, Err, sym, ap, subst, ◌∙◌}
+use Rattle.std.proofs.lemmas.List.Elements.{All-append, All-cons, All-nil}
+use Rattle.kf_ast.specs.Sources.{SourceTree}
+use Rattle.kf_core.specs.Joint.{joint_of}
+use Rattle.kf_core.specs.Programs.{ProgramTree}
+use Rattle.kf_core.specs.Rows.{IsHyperOf}
+use Rattle.kf_core.specs.Scale.{scale_of}
+use Rattle.kf_frac.specs.Fractions.{limit}
+use Rattle.kf_gain.specs.Gains.{GainOf, TableTree, over_of}
+use Rattle.kf_gain.specs.Views.{gain_tree}
+use Rattle.kf_gain.specs.Vulnerabilities.{IsWidth}
+use Rattle.kf_gain.specs.declared.gain.Gain.{Gain}
+use Rattle.kf_hyper.specs.Hypers.{Inner}
+use Rattle.kf_lines.specs.LineTexts.{lines_text}
+use Rattle.kf_lines.specs.Outcome.{LinesIn, LinesUnder, TaskLines}
+use Rattle.kf_lines.specs.Sites.{program_sites}
+use Rattle.kf_lines.specs.Summaries.{AreLines, IsSummary, LineTree, SummaryTree}
+use Rattle.kf_load.specs.Readings.{WasRead}
+use Rattle.kf_load.specs.Steps.{After, Gives, Step, refusal}
+use Rattle.kf_load.specs.Stops as load
+use Rattle.kf_load.specs.Stops.{Told, file_as}
+use Rattle.kf_load.specs.Texts.{File, Text, TextOf, cleared}
+use Rattle.kf_load.specs.declared.refusal.Stop as load_code
+use Rattle.kf_top.specs.Answer.{GainIn, Shown, prints}
+use Rattle.kf_top.specs.Stops.{Answers, Stopped, lifted}
+use Rattle.kf_top.specs.TaskAnswers.{AnswerTo, FilesAnswer, MayFail, names_in, stop_in}
+use Rattle.kf_top.specs.Views.{shown}
+use Rattle.kf_top.specs.declared.refusal.Done.{Done}
+use Rattle.kf_top.specs.declared.refusal.Stop.{Stop}
+use Rattle.kf_top.proofs.Readings.{files_next, files_stop, leak_tables, lift_fails, some_files}
+use Rattle.kf_top.proofs.Steps.{first_stops, lift_stops, next_answers}
+use Rattle.kf_words.specs.Task.{Leak, on_file, tables_of}
+
+-- ---- the lines of a program
+
+-- where the width fits and everything is there, it is printed
+pub lines_print : (turns : ℕ) (bytes : List ℕ) (tree : SourceTree) (p : ProgramTree) (g : GainOf TableTree) (scale : ℕ) → scale ≡ scale_of turns p
+    → (inners : List Inner) → IsHyperOf (joint_of turns p) inners → (m : ℕ) → IsWidth g inners m → scale * m ≤ limit
+    → (all : SummaryTree) → IsSummary g (joint_of turns p) all → (lines : List LineTree) → AreLines g turns p (program_sites tree p) lines
+    → (text : List ℕ) → text ≡ lines_text bytes (scale * over_of g) all lines → LinesIn turns bytes tree p g (prints text)
+lines_print turns bytes tree p g scale same inners is m width few all summary lines are text told =
+    let narrow : scale_of turns p * m ≤ limit = subst (λ (n : ℕ). n * m ≤ limit) same few in (
+      m,
+      (
+        m,
+        record { inners = inners; is_hyper = is; is_width = width },
+        ap (λ b. if b then Ok m else Err (refusal 7 [] (codes "gain passes 2^127 - 1"))) (sym (le-leb (scale_of turns p * m) limit narrow)),
+      ),
+      (all, lines, summary, are, ap prints (told ∙ ap (λ (n : ℕ). lines_text bytes (n * over_of g) all lines) same)),
+    )
+
+-- ---- a step that reads no file, and then one on what it gave
+
+module _ {A B : Type 0} (told : Option (List ℕ → List ℕ)) (before now : List ℕ → ℕ) (names : List (List ℕ)) (first : Step A) (next : A → List File → Step B) where
+  -- what stops the first stops both
+  pub own_stops : {X : Type 0} (seen : X → B) (s : Stop) → Stopped s first → FilesAnswer told before now names seen (Err s) (λ files. After first (λ x. next x files))
+  own_stops seen s h =
+      let others = some_files told before now (Some s) names in
+      record { files = others.files; named = others.named; read = others.read; fails = others.fails; answer = first_stops first (λ x. next x others.files) s h }
+
+  -- what comes of the next
+  pub own_next : {X : Type 0} (seen : X → B) (x : A) (r : Result X Stop) → first (Ok x) → FilesAnswer told before now names seen r (next x)
+      → FilesAnswer told before now names seen r (λ files. After first (λ y. next y files))
+  own_next seen x r done h =
+      record { files = h.files; named = h.named; read = h.read; fails = h.fails; answer = next_answers seen first (λ y. next y h.files) r x done h.answer }
+
+-- ---- a text
+
+module _ (told : Option (List ℕ → List ℕ)) (before now : List ℕ → ℕ) (word : GainOf (List ℕ)) (turns : ℕ) (t : Text) where
+  abbrev lines_after : ProgramTree → List File → Step Shown
+  lines_after p tables = After (GainIn p.target word tables) (LinesIn turns t.bytes t.source p)
+
+  -- what stops its program
+  pub not_cleared : (s : load_code.Stop) → load.Stopped s (Gives (cleared turns t))
+      → FilesAnswer told before now (names_in word) shown (Err (lifted s)) (λ tables. LinesUnder word turns tables t)
+  not_cleared s h = own_stops told before now (names_in word) (Gives (cleared turns t)) lines_after shown (lifted s) (lift_stops (Gives (cleared turns t)) s h)
+
+  -- what stops the gain
+  pub no_gain : (p : ProgramTree) → Ok p ≡ cleared turns t → (s : Stop) → FilesAnswer told before now (names_in word) gain_tree (Err s) (GainIn p.target word)
+      → FilesAnswer told before now (names_in word) shown (Err s) (λ tables. LinesUnder word turns tables t)
+  no_gain p is s h =
+      own_next told before now (names_in word) (Gives (cleared turns t)) lines_after shown p (Err s) is
+      (files_stop told before now (names_in word) (GainIn p.target word) (LinesIn turns t.bytes t.source p) gain_tree shown s h)
+
+  -- what is answered once both are there
+  pub all_there : (p : ProgramTree) → Ok p ≡ cleared turns t → (gain : Gain) (r : Result Done Stop)
+      → FilesAnswer told before now (names_in word) gain_tree (Ok gain) (GainIn p.target word) → Answers shown r (LinesIn turns t.bytes t.source p (gain_tree gain))
+      → FilesAnswer told before now (names_in word) shown r (λ tables. LinesUnder word turns tables t)
+  all_there p is gain r h answer =
+      own_next told before now (names_in word) (Gives (cleared turns t)) lines_after shown p r is
+      (files_next told before now (names_in word) (GainIn p.target word) (LinesIn turns t.bytes t.source p) gain_tree shown gain r h answer)
+
+-- ---- the file that a request names
+
+single : (P : File → Type 0) (file : File) → P file → All P (file ∷ [])
+single P file h = All-cons P file [] h (All-nil P)
+
+module _ (told : Option (List ℕ → List ℕ)) (before now : List ℕ → ℕ) (gain : GainOf (List ℕ)) (turns : ℕ) (name read : List ℕ) (same : read ≡ name) where
+  -- what is answered about its text
+  pub text_answers : (t : Text) (r : Result Done Stop) → ((bytes : List ℕ) × Told told read bytes × TextOf (file_as read (Some bytes)) (Ok t))
+      → FilesAnswer told before now (names_in gain) shown r (λ tables. LinesUnder gain turns tables t)
+      → AnswerTo told before now (on_file (Leak gain) name turns) (TaskLines (Leak gain) turns) r
+  text_answers t r h answer =
+      let file = file_as read (Some h.0) in
+      record {
+        programs = file ∷ [];
+        tables = answer.files;
+        programs_named = ap (λ (n : List ℕ). n ∷ []) same;
+        tables_named = answer.named ∙ leak_tables gain;
+        read = All-append (WasRead told before now) (file ∷ []) answer.files (single (WasRead told before now) file h.1) answer.read;
+        fails = All-append (λ f. MayFail f.reading (stop_in r)) (file ∷ []) answer.files (single (λ f. MayFail f.reading (stop_in r)) file tt) answer.fails;
+        answer = next_answers shown (TextOf file) (LinesUnder gain turns answer.files) r t h.2 answer.answer;
+      }
+
+  -- what stops its text
+  pub text_stops : (s : load_code.Stop)
+      → ((reading : Option (List ℕ)) × load.ReadingFor told before now s read reading × load.Stopped s (TextOf (file_as read reading)))
+      → AnswerTo told before now (on_file (Leak gain) name turns) (TaskLines (Leak gain) turns) (Err (lifted s))
+  text_stops s h =
+      let file = file_as read h.0 in
+      let others = some_files told before now (Some (lifted s)) (tables_of (Leak gain)) in
+      record {
+        programs = file ∷ [];
+        tables = others.files;
+        programs_named = ap (λ (n : List ℕ). n ∷ []) same;
+        tables_named = others.named;
+        read = All-append (WasRead told before now) (file ∷ []) others.files (single (WasRead told before now) file h.1.read) others.read;
+        fails = All-append (λ f. MayFail f.reading (Some (lifted s))) (file ∷ []) others.files
+            (single (λ f. MayFail f.reading (Some (lifted s))) file (lift_fails h.0 s h.1.fails)) others.fails;
+        answer = first_stops (TextOf file) (LinesUnder gain turns others.files) (lifted s) (lift_stops (TextOf file) s h.2);
+      }

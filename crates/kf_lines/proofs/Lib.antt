@@ -1,0 +1,6 @@
+mod Answering
+mod Asking
+mod Ending
+mod EachLine
+mod Texts
+mod Walking

@@ -1,7 +1,0 @@
-use Rattle.std.proofs.Common.{◌≡◌, drop}
-use Rattle.kuifje_c.specs.Calls.{files_in}
-use Rattle.kuifje_c.specs.Contents.{file_named}
-use Rattle.kuifje_c.proofs.line.is_missing.Given as goal
-
-abbrev pub invariant-loop-file : goal.invariant-loop-file
-invariant-loop-file l = record { ahead : file_named (files_in l.bytes l.files) l.name ≡ file_named (files_in l.bytes (drop l.file-index l.files)) l.name }

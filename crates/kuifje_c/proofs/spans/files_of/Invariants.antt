@@ -1,6 +1,0 @@
-use Rattle.std.proofs.Common.{◌≡◌, take}
-use Rattle.kuifje_c.specs.Calls.{files_in}
-use Rattle.kuifje_c.proofs.spans.files_of.Given as goal
-
-abbrev pub invariant-loop-file : goal.invariant-loop-file
-invariant-loop-file l = record { files : l.made.items ≡ files_in l.bytes (take l.file-index l.files) }

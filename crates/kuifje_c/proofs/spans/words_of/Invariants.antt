@@ -1,6 +1,0 @@
-use Rattle.std.proofs.Common.{◌≡◌, map, take, string_bytes}
-use Rattle.kuifje_c.specs.Calls.{words_in}
-use Rattle.kuifje_c.proofs.spans.words_of.Given as goal
-
-abbrev pub invariant-loop-span : goal.invariant-loop-span
-invariant-loop-span l = record { words : map string_bytes l.made.items ≡ words_in l.bytes (take l.span-index l.spans) }

@@ -1,17 +1,16 @@
 """A plain reading of Kuifje: every way through a program from each store alone, with fractions, after docs/LANGUAGE.md and docs/FORMATS.md.
 
-It shares no code with the crates, and nothing here is clever: a program's text becomes tuples, a store is a tuple of values, and what runs
-leave is a table from traces and stores to probabilities. A text is taken to be a program that keeps the type rules."""
-import re
+It shares no code with the crates, and nothing here is clever: the Python package's reader makes a tree of a text, a store is a tuple of values, and
+what runs leave is a table from traces and stores to probabilities. A text is taken to be a program that keeps the type rules."""
+import sys
 from collections import defaultdict
 from fractions import Fraction
 from math import gcd, lcm
+from pathlib import Path
 
-LEVELS = [("or", "xor", "implies"), ("and",), ("not",), ("=", "!=", "<", "<=", ">", ">=", "in", "subset"), ("+", "-", "union", "less"),
-          ("*", "div", "mod", "inter"), ("-",)]
-NOT, COMPARISONS, MINUS = 2, 3, 6
-CALLS = {"size", "cond", "min", "max", "abs"}
-TOKEN = re.compile(r"(?:[ \t\r\n]|#[^\n]*)*(:=|\.\.|!=|<=|>=|[:;,(){}./=<>+\-*]|[0-9]+|(?:\w|[^\x00-\x7f])+|$)")
+sys.path.insert(0, str(Path(__file__).resolve().parent.parent / "python" / "src"))
+from kuifje.source import Assign, Call, Choose, Flip, If, Literal, Name, Observe, Part, Range, SetOf, Tuple, Uniform, While, read
+
 MOST_WAYS = 3000
 
 
@@ -25,152 +24,6 @@ class Fault(Exception):
 
 class Large(Exception):
     """There are more ways than are gone here."""
-
-
-# ---- texts
-
-class Reader:
-    def __init__(self, text):
-        self.tokens, end = [], 0
-        while not self.tokens or self.tokens[-1][0]:
-            found = TOKEN.match(text, end)
-            self.tokens.append((found[1], len(text[:found.start(1)].encode())))
-            end = found.end()
-        self.next = 0
-
-    def peek(self):
-        return self.tokens[self.next][0]
-
-    def at(self):
-        return self.tokens[self.next][1]
-
-    def take(self, *wanted):
-        token = self.peek()
-        if wanted and token not in wanted:
-            raise ValueError(f"{token!r} where {wanted} should stand, at {self.at()}")
-        self.next += 1
-        return token
-
-    def took(self, word):
-        if self.peek() != word:
-            return False
-        self.next += 1
-        return True
-
-    def listed(self, one, close):
-        found = [one()]
-        while self.took(","):
-            found.append(one())
-        self.take(close)
-        return found
-
-    def program(self):
-        """The declarations, as (visible, name, type, distribution), the target's items, as (initial, name), and the statements."""
-        decls = []
-        while self.peek() in ("var", "vis"):
-            visible, name = self.take() == "vis", self.take()
-            self.take(":")
-            type_ = self.type()
-            self.take(":=")
-            decls.append((visible, name, type_, self.distribution()))
-            self.take(";")
-        items = self.listed(lambda: (self.took("old"), self.take()), ";") if self.took("about") else [(False, name) for _, name, _, _ in decls]
-        return decls, items, self.statements("")
-
-    def type(self):
-        if self.took("bool"):
-            return ("bool",)
-        if self.took("set"):
-            self.take("of")
-            return "set", self.type()
-        if self.took("("):
-            return "tuple", self.listed(self.type, ")")
-        low = self.bound()
-        self.take("..")
-        return "range", low, self.bound()
-
-    def bound(self):
-        return -int(self.take()) if self.took("-") else int(self.take())
-
-    def statements(self, close):
-        found = []
-        while not self.took(close):
-            found.append(self.statement())
-        return found
-
-    def statement(self):
-        word = self.take()
-        if word in ("if", "while"):
-            guard = self.distribution()
-            self.take("{")
-            parts = [word, guard, self.statements("}")]
-            if word == "if":
-                self.take("else")
-                self.take("{")
-                parts.append(self.statements("}"))
-            return tuple(parts)
-        if word == "skip":
-            found = (word,)
-        elif word == "observe":
-            found = word, self.distribution()
-        else:
-            self.take(":=")
-            found = ":=", word, self.distribution()
-        self.take(";")
-        return found
-
-    def distribution(self):
-        at, word = self.at(), self.peek()
-        if word not in ("uniform", "choose", "flip"):
-            return at, "sure", self.expression()
-        self.take()
-        if word == "flip":
-            over = int(self.take())
-            self.take("/")
-            return at, word, over, int(self.take())
-        if word == "choose":
-            self.take("{")
-            return at, word, self.listed(self.case, "}")
-        first = self.expression()
-        return (at, "range", first, self.expression()) if self.took("..") else (at, "set", first)
-
-    def case(self):
-        value = self.expression()
-        self.take(":")
-        return value, self.expression()
-
-    def expression(self, level=0):
-        if level == len(LEVELS):
-            return self.parts()
-        if level in (NOT, MINUS):
-            word = LEVELS[level][0]
-            return (word, self.expression(level + 1)) if self.took(word) else self.expression(level + 1)
-        found = self.expression(level + 1)
-        while self.peek() in LEVELS[level]:
-            found = self.take(), found, self.expression(level + 1)
-            if level == COMPARISONS:
-                break
-        return found
-
-    def parts(self):
-        found = self.operand()
-        while self.took("."):
-            found = "part", found, int(self.take())
-        return found
-
-    def operand(self):
-        token = self.take()
-        if token == "(":
-            found = self.listed(self.expression, ")")
-            return found[0] if len(found) == 1 else ("tuple", *found)
-        if token == "{":
-            return "set", *self.listed(self.expression, "}")
-        if token in CALLS:
-            self.take("(")
-            return token, *self.listed(self.expression, ")")
-        if token in ("true", "false"):
-            return "value", token == "true"
-        return ("value", int(token)) if token.isdigit() else ("name", token)
 
 
 # ---- values
@@ -200,11 +53,11 @@ def trace_shown(trace):
 
 def is_of(value, type_):
     match type_:
-        case ("range", low, high):
+        case Range(low, high):
             return low <= value <= high
-        case ("tuple", parts):
+        case Tuple(parts):
             return all(map(is_of, value, parts))
-        case ("set", base):
+        case SetOf(base):
             return all(is_of(member, base) for member in value)
     return True
 
@@ -237,39 +90,38 @@ OPERATORS = {
 
 def value_of(expression, store):
     """The value in a store, which has a value for each name; the first fault from left to right is raised."""
-    word, *rest = expression
-    match word:
-        case "value":
-            return rest[0]
-        case "name":
-            return store[rest[0]]
-        case "part":
-            return value_of(rest[0], store)[rest[1]]
-        case "or":
-            return value_of(rest[0], store) or value_of(rest[1], store)
-        case "and":
-            return value_of(rest[0], store) and value_of(rest[1], store)
-        case "cond":
-            return value_of(rest[1 if value_of(rest[0], store) else 2], store)
-    return OPERATORS[word](*[value_of(part, store) for part in rest])
+    match expression:
+        case Literal(value):
+            return value
+        case Name(name):
+            return store[name]
+        case Part(whole, number):
+            return value_of(whole, store)[number]
+        case Call("or", (first, second)):
+            return value_of(first, store) or value_of(second, store)
+        case Call("and", (first, second)):
+            return value_of(first, store) and value_of(second, store)
+        case Call("cond", (test, yes, no)):
+            return value_of(yes if value_of(test, store) else no, store)
+        case Call(operator, parts):
+            return OPERATORS[operator](*[value_of(part, store) for part in parts])
 
 
 def listed_by(distribution, store):
     """What a distribution lists, each value with its weight."""
-    _, form, *rest = distribution
-    match form:
-        case "flip":
-            return [(True, rest[0]), (False, rest[1] - rest[0])]
-        case "set":
-            return [(value, 1) for value in value_of(rest[0], store)]
-        case "range":
-            low, high = (value_of(bound, store) for bound in rest)
+    match distribution:
+        case Flip(over, under):
+            return [(True, over), (False, under - over)]
+        case Uniform(elements, None):
+            return [(value, 1) for value in value_of(elements, store)]
+        case Uniform(first, last):
+            low, high = value_of(first, store), value_of(last, store)
             if high - low >= 65536:
                 raise Fault("RangeLong")
             return [(value, 1) for value in range(low, high + 1)]
-        case "choose":
-            return [(value, weight) for case in rest[0] for value, weight in case_of(*case, store)]
-    return [(value_of(rest[0], store), 1)]
+        case Choose(cases):
+            return [(value, weight) for case in cases for value, weight in case_of(case.value, case.weight, store)]
+    return [(value_of(distribution.value, store), 1)]
 
 
 def case_of(value, weight, store):
@@ -288,7 +140,7 @@ def choices(distribution, store):
         if not any(weights.values()):
             raise Fault("NoWeight")
     except Fault as fault:
-        raise Fault(fault.word, distribution[0]) from fault
+        raise Fault(fault.word, distribution.at) from fault
     common = gcd(*weights.values())
     found = [(value, weights[value] // common) for value in sorted(weights, key=rank) if weights[value]]
     return found, sum(weight for _, weight in found)
@@ -301,16 +153,18 @@ class Program:
 
     def __init__(self, text, turns=1024):
         self.text, self.turns = text, turns
-        self.decls, self.items, self.body = Reader(text).program()
-        self.names = [name for _, name, _, _ in self.decls]
-        self.types = {name: type_ for _, name, type_, _ in self.decls}
-        self.visible = {name for visible, name, _, _ in self.decls if visible}
+        source = read(text)
+        self.decls, self.body = source.declarations, source.statements
+        self.items = [(item.old, item.name) for item in source.target.items]
+        self.names = [decl.name for decl in self.decls]
+        self.types = {decl.name: decl.type for decl in self.decls}
+        self.visible = {decl.name for decl in self.decls if decl.visible}
         self.copied = [name for initial, name in self.items if initial]
 
     def place(self, at):
-        """The line and the column of a byte."""
-        before = self.text.encode()[:at]
-        return f"{before.count(10) + 1}:{at - before.rfind(10)}"
+        """The line and the column, in bytes, of a place in the text."""
+        before = self.text[:at].encode()
+        return f"{before.count(10) + 1}:{len(before) - before.rfind(10)}"
 
     def values(self, store):
         return dict(zip(self.names, store))
@@ -332,30 +186,29 @@ class Program:
 
     def scale(self):
         stores = {(): 1}
-        for _, name, _, distribution in self.decls:
+        for decl in self.decls:
             ends = defaultdict(lambda: 1)
             for store in sorted(stores, key=rank):
-                found, total = choices(distribution, self.values(store))
+                found, total = choices(decl.value, self.values(store))
                 for value, _ in found:
-                    if not is_of(value, self.types[name]):
-                        raise Fault("OutOfRange", distribution[0])
+                    if not is_of(value, decl.type):
+                        raise Fault("OutOfRange", decl.value.at)
                     ends[store + (value,)] = lcm(ends[store + (value,)], stores[store] * total)
             stores = ends
         return lcm(*self.passed(self.body, self.with_copies(stores)).values())
 
     def passed(self, statements, stores):
-        for word, *rest in statements:
-            match word:
-                case ":=":
-                    name, distribution = rest
-                    stores = self.stepped(distribution, stores, lambda store, value: self.moved(store, name, value, distribution[0]))
-                case "observe":
-                    stores = self.stepped(rest[0], stores, lambda store, value: store)
-                case "if":
-                    sides = self.sides(rest[0], stores)
-                    stores = both(self.passed(rest[1], sides[True]), self.passed(rest[2], sides[False]))
-                case "while":
-                    stores = self.turned(*rest, stores)
+        for statement in statements:
+            match statement:
+                case Assign(name, value):
+                    stores = self.stepped(value, stores, lambda store, drawn: self.moved(store, name, drawn, value.at))
+                case Observe(value):
+                    stores = self.stepped(value, stores, lambda store, drawn: store)
+                case If(guard, then, otherwise):
+                    sides = self.sides(guard, stores)
+                    stores = both(self.passed(then, sides[True]), self.passed(otherwise, sides[False]))
+                case While(guard, body):
+                    stores = self.turned(guard, body, stores)
         return stores
 
     def turned(self, guard, body, stores):
@@ -369,7 +222,7 @@ class Program:
         for store in sorted(stores, key=rank):
             # the store's own fault comes first, then that it goes on, and only then what the next store meets
             if any(value for value, _ in choices(guard, self.values(store))[0]):
-                raise Fault("LoopBound", guard[0])
+                raise Fault("LoopBound", guard.at)
         return both(left, self.sides(guard, stores)[False])
 
     def stepped(self, distribution, stores, end):
@@ -393,37 +246,39 @@ class Program:
 
     def starts(self):
         found = {(): Fraction(1)}
-        for *_, distribution in self.decls:
+        for decl in self.decls:
             found = gathered((store + (value,), chance * part) for store, chance in found.items()
-                             for value, part in self.chances(distribution, store))
+                             for value, part in self.chances(decl.value, store))
         return {((), store): chance for store, chance in self.with_copies(found).items()}
 
     def chances(self, distribution, store):
         found, total = choices(distribution, self.values(store))
         return [(value, Fraction(weight, total)) for value, weight in found]
 
-    def run(self, statements, ways, quiet=False):
-        for word, *rest in statements:
-            match word:
-                case ":=":
-                    ways = gathered(self.assigned(*rest, ways, quiet))
-                case "observe":
-                    ways = gathered((way, chance) for _, way, chance in self.leaked(rest[0], ways, quiet))
-                case "if":
-                    yes, no = self.split(rest[0], ways, quiet)
-                    ways = gathered([*self.run(rest[1], yes, quiet).items(), *self.run(rest[2], no, quiet).items()])
-                case "while":
+    def run(self, statements, ways, quiet=False, silent=None):
+        """The ways after statements; where `quiet` they show nothing, and the statement that is `silent` never does."""
+        for statement in statements:
+            hides = quiet or statement is silent
+            match statement:
+                case Assign(name, value):
+                    ways = gathered(self.assigned(name, value, ways, hides))
+                case Observe(value):
+                    ways = gathered((way, chance) for _, way, chance in self.leaked(value, ways, hides))
+                case If(guard, then, otherwise):
+                    yes, no = self.split(guard, ways, hides)
+                    ways = gathered([*self.run(then, yes, hides, silent).items(), *self.run(otherwise, no, hides, silent).items()])
+                case While(guard, body):
                     left = []
                     while ways:
-                        going, done = self.split(rest[0], ways, quiet)
+                        going, done = self.split(guard, ways, hides)
                         left += done.items()
-                        ways = self.run(rest[1], going, quiet)
+                        ways = self.run(body, going, hides, silent)
                     ways = gathered(left)
         return ways
 
     def assigned(self, name, distribution, ways, quiet):
         for value, (trace, store), chance in self.leaked(distribution, ways, quiet or name not in self.visible):
-            yield (trace, self.moved(store, name, value, distribution[0])), chance
+            yield (trace, self.moved(store, name, value, distribution.at)), chance
 
     def leaked(self, distribution, ways, quiet):
         for (trace, store), chance in ways.items():
@@ -480,14 +335,37 @@ class Program:
             ways = self.run(self.body[number:number + 1], ways)
         return lines
 
-    def answer(self, command):
+    def showing(self, statements):
+        """The statements that may show something, wherever they stand, in the order of the text."""
+        for statement in statements:
+            match statement:
+                case Observe() | If() | While():
+                    yield statement
+                case Assign(name, _) if name in self.visible:
+                    yield statement
+            match statement:
+                case If(_, then, otherwise):
+                    yield from self.showing(then)
+                    yield from self.showing(otherwise)
+                case While(_, body):
+                    yield from self.showing(body)
+
+    def lines(self, gain="bayes"):
+        """How much is seen, and how much where each statement alone that may show something is silent."""
+        lines = []
+        for name, silent in [("all", None), *((self.place(statement.at), statement) for statement in self.showing(self.body))]:
+            inners = beliefs(self.rows(self.run(self.body, self.starts(), silent=silent)).values())
+            lines.append(f"{name} inners {len(inners)} posterior {posterior(inners, gain)}")
+        return lines
+
+    def answer(self, command, *options):
         """The status of a command, and the lines of its answer or of its refusal."""
         try:
             if self.scale() >= 2 ** 127:
                 return 7, ["scale passes 2^127 - 1"]
         except Fault as fault:
             return 6, [f"{self.place(fault.at)}: {fault.word}"]
-        return 0, getattr(self, command)()
+        return 0, getattr(self, command)(*options)
 
 
 def gathered(pairs):
@@ -510,6 +388,19 @@ def beliefs(columns):
         outer = sum(column.values())
         found[tuple((value, column[value] / outer) for value in sorted(column, key=rank) if column[value])] += outer
     return found
+
+
+def posterior(inners, gain):
+    """The posterior vulnerability of inners with their outers, under a gain without a table."""
+    name, _, tries = gain.partition(":")
+    total = Fraction(0)
+    for inner, outer in inners.items():
+        chances = sorted((chance for _, chance in inner), reverse=True)
+        if name == "guessing":
+            total += outer * sum(number * chance for number, chance in enumerate(chances, 1))
+        else:
+            total += outer * sum(chances[:int(tries or 1)])
+    return total
 
 
 def order_of(inner):

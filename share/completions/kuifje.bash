@@ -1,7 +1,7 @@
 # Completions of kuifje for bash: commands, options, gains and files. .ci/words compares the words with the code.
 _kuifje() {
-    local commands='hyper traces channel trail leak attack reach blame quiet capacity cascade parallel choice refine covers check make'
-    local with_gain='leak attack' with_json='refine' gains='bayes tries: guessing table:'
+    local commands='hyper traces channel trail leak attack reach lines blame quiet capacity cascade parallel choice refine covers check make'
+    local with_gain='leak lines attack' with_json='refine' gains='bayes tries: guessing table:'
     local words word before command='' values=0 place
 
     # Words are parted by blanks here: bash parts them at : and = too, and table:FILE is one word.

@@ -7,6 +7,7 @@ set -l commands \
     'leak:how much better an adversary does for what it sees' \
     'attack:what an adversary does best at each inner' \
     'reach:with how many tries the target is guessed' \
+    'lines:what is left where each statement, wherever it stands, shows nothing' \
     'blame:what is left where each statement in turn shows nothing' \
     'quiet:the hyper where some statements show nothing' \
     'capacity:by how much a look helps at most, for any prior on the declared values' \
@@ -17,7 +18,7 @@ set -l commands \
     'covers:whether B leaks no more than A, for every prior' \
     'check:whether a certificate proves what it says' \
     'make:a summary of a large program that kuifje makes itself'
-set -l with_gain leak attack
+set -l with_gain leak lines attack
 set -l with_json refine
 set -l gains bayes tries: guessing table:
 

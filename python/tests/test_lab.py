@@ -47,7 +47,19 @@ def test_an_order_is_printed_and_drawn(tmp_path):
         ("pin", "pin_whole", True, "yes"), ("pin_whole", "pin", False, "no")]  # fmt: skip
 
 
-@pytest.mark.parametrize("kind", ["bars", "blame", "channel", "trail"])
+def test_two_programs_are_decided(tmp_path):
+    """A bet on (0, 0) that loses as much at (1, 0): these are told apart digit by digit alone, which makes it worth the probability of (0, 0)."""
+    found = lab("decide", PIN, WHOLE)
+    assert (found.exit_code, found.output) == (0, "refines yes\nfound peeling\ncertificate 122 bytes, accepted\n")
+    found = lab("decide", WHOLE, PIN, "--json", "-o", tmp_path / "no.json")
+    read = json.loads(found.output)
+    assert (found.exit_code, read["refines"], read["worth"]) == (1, False, ["0", "1/9"])
+    assert json.loads((tmp_path / "no.json").read_text()) == read["certificate"]
+    found = lab("decide", PIN, WHOLE, "--seconds", "0", "-o", tmp_path / "none.json")
+    assert (found.exit_code, found.output) == (2, "not decided\nreason no time is left\n") and not (tmp_path / "none.json").exists()
+
+
+@pytest.mark.parametrize("kind", ["bars", "blame", "channel", "lines", "trail"])
 def test_a_picture_is_drawn(tmp_path, kind):
     pytest.importorskip("matplotlib")
     for ending, begins in ((".svg", b"<?xml"), (".png", b"\x89PNG")):

@@ -15,6 +15,7 @@ def test_cells_by_hand():
     assert isinstance(answer("hyper", TEXT), Hyper) and len(answer("hyper", TEXT).inners) == 2
     assert answer("leak --gain tries:2", TEXT).posterior_vulnerability == 1
     assert answer("leak", TEXT).posterior_vulnerability == Fraction(1, 2)
+    assert answer("lines --gain guessing", TEXT).all.posterior == Fraction(3, 2)
     assert answer("capacity", TEXT) == 2
     assert answer("reach 9/10", TEXT).tries == 2
     assert len(answer("quiet 0..1", TEXT).inners) == 1

@@ -8,7 +8,7 @@ import pytest
 matplotlib = pytest.importorskip("matplotlib")
 
 from kuifje import Order, Pair, Program, channels, pictures  # noqa: E402
-from kuifje.texts import Blame, BlameLine, Trail  # noqa: E402
+from kuifje.texts import Blame, BlameLine, Lines, Trail  # noqa: E402
 
 STORED = Path(__file__).parent / "pictures"
 HALF, THIRD, QUARTER = Fraction(1, 2), Fraction(1, 3), Fraction(1, 4)
@@ -92,6 +92,18 @@ def test_the_least_leak_stands_above():
 def test_blame_stands_beside_its_line():
     places = [(text.get_text(), text.get_position()[1]) for text in pictures.blame(Program(TEXT), BLAME).texts]
     assert {("1/4", 2), ("0", 5), ("1/4", 6), ("if a = 3 {", 2), ("observe a mod 2;", 6)} <= set(places)
+
+
+def test_lines_stand_beside_their_statements():
+    """Two statements of line 3 are marked together, and the longest bar is that of the greatest change; a line that isn't there is refused."""
+    text = "var a : 0..1 := uniform 0..1;\nabout old a;\nif a = 1 { observe flip 1/2; } else { skip; }\nobserve 0;\n"
+    answer = "all inners 2 posterior 1\n3:1 inners 1 posterior 1/2\n3:12 inners 2 posterior 1\n4:1 inners 2 posterior 1\n"
+    axes = pictures.lines(Program(text), Lines.parse(answer))
+    places = [(found.get_text(), found.get_position()[1]) for found in axes.texts]
+    assert {("1/2, 0", 2), ("0", 3), ("observe 0;", 3)} <= set(places)
+    assert [(round(-bar.get_width() / 0.12, 9), round(bar.get_y() + 0.4)) for bar in axes.patches] == [(1, 2)]
+    with pytest.raises(ValueError, match="no line 4"):
+        pictures.lines(Program(text.removesuffix("observe 0;\n")), Lines.parse(answer))
 
 
 def test_beliefs_stand_beside_their_lines():

@@ -6,11 +6,15 @@ from fractions import Fraction
 import pytest
 
 import kuifje
-from kuifje import Engine, Program, Refusal, TooLarge, channels, measures
+from kuifje import Action, Engine, GainTable, Program, Refusal, TooLarge, channels, measures
 
 pytestmark = pytest.mark.usefixtures("built")
 
 PARITY = Program("var x : 0..3 := uniform 0..3;\nabout old x;\nobserve x mod 2;\n", name="parity.kf")
+BRANCHES = Program("var a : 0..1 := uniform 0..1;\nvar b : 0..1 := uniform 0..1;\nabout old a, old b;\nif a = 1 { observe b; } else { observe a; }\n")
+BITS = Program(
+    "var x : 0..3 := uniform 0..3;\nvar n : 0..2 := 0;\nabout old x;\nwhile n < 2 {\n  observe x mod 2;\n  x := x div 2;\n  n := n + 1;\n}\n"
+)
 WHOLE = Program("var x : 0..3 := uniform 0..3;\nabout old x;\nobserve x;\n", name="whole.kf")
 
 
@@ -29,6 +33,35 @@ def test_leakage_by_hand():
     assert PARITY.capacity() == 2
     assert PARITY.reach(Fraction(9, 10)).tries == 2
     assert [line.bayes for line in PARITY.blame().without] == [Fraction(1, 4)]
+
+
+def test_lines_by_hand():
+    """The guard shows a, and b is seen where a is 1: without the guard nothing, without b its halves; that a is 0 the guard shows, too."""
+    found = BRANCHES.lines()
+    assert (found.all.inners, found.all.posterior, found.question) == (3, Fraction(3, 4), BRANCHES.question)
+    assert [(line.place, line.inners, line.posterior) for line in found.without] == [
+        ("4:1", 1, Fraction(1, 4)),
+        ("4:12", 2, Fraction(1, 2)),
+        ("4:32", 3, Fraction(3, 4)),
+    ]
+    guesses = BRANCHES.lines("guessing")
+    assert [left.posterior for left in (guesses.all, *guesses.without)] == [Fraction(5, 4), Fraction(5, 2), Fraction(3, 2), Fraction(5, 4)]
+
+
+def test_lines_of_a_loop_show_nothing_in_any_turn():
+    """Two turns show both bits, and the guard shows nothing but for them; a table that asks for the upper bit alone is half right without them."""
+    table = GainTable(1, 0, (Action("low", {0: 1, 1: 1}), Action("high", {2: 1, 3: 1})))
+    for gain, most, least in (("bayes", Fraction(1), Fraction(1, 4)), (table, Fraction(1), Fraction(1, 2))):
+        found = BITS.lines(gain)
+        assert (found.all.inners, found.all.posterior) == (4, most)
+        assert [(line.line, line.column, line.inners, line.posterior) for line in found.without] == [(4, 1, 1, least), (5, 3, 1, least)]
+
+
+def test_neither_of_two_lines_is_to_blame():
+    """What each of two equal observations shows, the other shows, too."""
+    found = Program("var x : 0..3 := uniform 0..3;\nabout old x;\nobserve x;\nobserve x;\n").lines()
+    assert [(line.line, line.inners, line.posterior) for line in found.without] == [(3, 4, 1), (4, 4, 1)]
+    assert (found.all.inners, found.all.posterior) == (4, 1)
 
 
 def test_measures_of_a_hyper_by_hand():

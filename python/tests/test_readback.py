@@ -22,6 +22,7 @@ KINDS = {
     "covers": texts.Verdict,
     "hyper": texts.Hyper,
     "leak": texts.Leakage,
+    "lines": texts.Lines,
     "make": texts.Made,
     "parallel": texts.Composition,
     "quiet": texts.Hyper,

@@ -62,7 +62,8 @@ def test_a_report_by_hand(pins):
     assert ["pin", "yes", "yes"] in page.rows and ["pin_whole", "no", "yes"] in page.rows and "pin_whole leaks less than pin" in page.text
     assert "What an observer learns about first and second, as they were before the first statement" in page.text
     assert ["least ratio e^ε of local differential privacy", "infinite"] in page.rows and "Warning" not in page.text
-    assert page.text.count("computed here, not proved") == 3 and "Two <PINs>" in page.text
+    assert page.text.count("computed here, not proved") == 5 and "Two <PINs>" in page.text
+    assert "├─ false: guess (0, 0) (value 1/6, probability 2/3)" in page.text and "true: guess (1, 1) (value 1, probability 1/9)" in page.text
 
 
 def test_a_report_needs_no_other_file(pins):

@@ -21,6 +21,11 @@ from kuifje import Channel, Hyper, texts
         (texts.Verdict, "refines perhaps\n"),
         (texts.Mark, "rejected colour\n"),
         (texts.Capacity, "capacity 1\ncapacity 1\n"),
+        (texts.Lines, "2:1 inners 1 posterior 1\n"),
+        (texts.Lines, "all inners 1 posterior 1\n2 inners 1 posterior 1\n"),
+        (texts.Lines, "all inners 1 posterior 1\n2:0 inners 1 posterior 1\n"),
+        (texts.Lines, "all inners 1 posterior 1\n3:1 inners 1 posterior 1\n2:4 inners 1 posterior 1\n"),
+        (texts.Lines, "all inners 1 posterior 1\n3:1 inners 1 posterior 1\n3:1 inners 1 posterior 1\n"),
     ],
 )
 def test_other_texts_are_not_taken(kind, text):
@@ -62,6 +67,10 @@ def test_an_answer_is_json():
         "scale": 4,
         "inners": [{"outer": "3/4", "distribution": {"{0}": "1"}}, {"outer": "1/4", "distribution": {"{}": "1/2", "{1}": "1/2"}}],
     }
+    assert json.loads(texts.Lines.parse("all inners 2 posterior 1\n3:12 inners 1 posterior 1/2\n").to_json()) == {
+        "all": {"inners": 2, "posterior": "1"},
+        "without": [{"line": 3, "column": 12, "inners": 1, "posterior": "1/2"}],
+    }
     assert json.loads(texts.Leakage("bayes", HALF, HALF, None, Fraction(0)).to_json())["multiplicative_leakage"] is None
 
 
@@ -78,6 +87,7 @@ def test_an_answer_is_a_data_frame():
     [
         ("gain bayes\ninner 0 outer 1 value 1/2\n  0 1/2\n  1 1/2\n", texts.Attack, 2),
         ("all inners 2 bayes 1\nwithout 0 inners 1 bayes 1/2\n", texts.Blame, 2),
+        ("all inners 2 posterior 1\n3:12 inners 1 posterior 1/2\n", texts.Lines, 2),
         ("target old x\nscale 2\ntraces 1\ntrace [] weight 1\n  0 1/2\n  1 1/2\n", texts.TraceTable, 2),
         ("refines yes\nmatrix 2 1\n1\n1\n", texts.Verdict, 2),
         ("refines no\nover 2\nrest 1\nactions 1\naction b0\n  0 2\n  1 0\n", texts.Verdict, 2),

@@ -2,7 +2,7 @@
 import { button, element, fill, table } from "./elements.mjs";
 import { MOST, hyperOf, reportOf, verdictOf } from "./answers.mjs";
 import { shown } from "./fractions.mjs";
-import { flowPicture, heatMap } from "./pictures.mjs";
+import { flowPicture, heatMap, priorOf } from "./pictures.mjs";
 import { tooMany } from "./views.mjs";
 
 /** @typedef {import("./views.mjs").Context} Context */
@@ -37,6 +37,22 @@ function meaningOf(there, back, isForEvery) {
         return `A refines B: A leaks no more than B to any adversary, whatever it gains${prior}. To some adversary B leaks more.`;
     }
     return "Neither is safer for everybody: to some adversary B leaks more than A, and to another one A leaks more than B.";
+}
+
+/**
+ * The first value whose probability differs between the priors of two texts, in a sentence. It is null where there is none, where the texts are about
+ * different targets, or where not all inners were read.
+ * @param {Groups[] | null} hypers
+ */
+function priorsApart(hypers) {
+    if (hypers === null || !hypers.every((it) => it.isWhole) || hypers[0].target !== hypers[1].target) {
+        return null;
+    }
+    const [first, second] = hypers.map((it) => new Map(priorOf(it).map(({ value, share }) => [value, share])));
+    const values = priorOf({ ...hypers[0], groups: hypers.flatMap((it) => it.groups) }).map(({ value }) => value);
+    const apart = values.find((value) => first.get(value) !== second.get(value));
+    return apart === undefined ? null : element("p", { class: "note" }, `⚠ The priors of ${hypers[0].target} differ, so there is no yes: ${apart} has the `,
+        "probability ", shown(first.get(apart) || "0"), " in A, and ", shown(second.get(apart) || "0"), " in B.");
 }
 
 /** @param {Extract<Verdict, { isYes: false }>} verdict */
@@ -151,7 +167,7 @@ export async function refineView(context, command) {
         await context.ask([command, "a.kf", "b.kf"]);
     }
     return [
-        choice, element("p", { class: "meaning" }, meaningOf(there.verdict, back.verdict, isForEvery)),
+        choice, element("p", { class: "meaning" }, meaningOf(there.verdict, back.verdict, isForEvery)), priorsApart(hypers),
         await sectionOf(context, there), await sectionOf(context, back),
     ];
 }

@@ -158,6 +158,11 @@ def compares_two_texts(page: Page) -> None:
     page.write("var x : 0..2 := uniform 0..2;\nobserve x = 1;\n", "b")
     page.view("refine")
     has(page.answer(), "Neither is safer for everybody", "b0\t3\t0\t3", "b1\t3\t3\t0", "after A it expects 2, after B 3")
+    expect("priors" not in page.answer(), "the page says of equal priors that they differ")
+    page.write("var x : 0..2 := choose { 0 : 1, 1 : 2 };\nobserve x = 1;\n", "b")
+    has(page.answer(), "The priors of x differ, so there is no yes: 1 has the probability 1/3", "in A, and 2/3", "in B.")
+    page.write("var x : 0..2 := uniform 0..1;\nobserve x = 1;\n", "b")
+    has(page.answer(), "so there is no yes: 0 has the probability 1/3", "in A, and 1/2", "in B.")
 
 
 def edits_gains(page: Page) -> None:

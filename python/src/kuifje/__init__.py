@@ -7,6 +7,8 @@ Science of Quantitative Information Flow* (2020).
 from .channels import Channel
 from .engine import Engine, default_engine
 from .errors import KuifjeError, Refusal, TooLarge
+from .observations import Label, Labels, Plan, labels, plan
+from .lints import Hint, Hints, lint
 from .notebook import load_ipython_extension
 from .orders import Order, Pair, order
 from .program import Certificate, Program, cascade, certificate, check, choice, covers, parallel, refine
@@ -19,6 +21,7 @@ from .texts import (
     Hyper,
     Inner,
     Leakage,
+    Lines,
     Mark,
     Reach,
     TraceTable,
@@ -36,13 +39,19 @@ __all__ = [
     "Composition",
     "Engine",
     "GainTable",
+    "Hint",
+    "Hints",
     "Hyper",
     "Inner",
     "KuifjeError",
+    "Label",
+    "Labels",
     "Leakage",
+    "Lines",
     "Mark",
     "Order",
     "Pair",
+    "Plan",
     "Program",
     "Reach",
     "Refusal",
@@ -58,9 +67,12 @@ __all__ = [
     "covers",
     "default_engine",
     "format_value",
+    "labels",
+    "lint",
     "load_ipython_extension",
     "order",
     "parallel",
     "parse_value",
+    "plan",
     "refine",
 ]

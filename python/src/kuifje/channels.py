@@ -6,14 +6,14 @@ values.
 
 from __future__ import annotations
 
-from collections.abc import Mapping, Sequence
+from collections.abc import Iterable, Mapping, Sequence
 from dataclasses import dataclass
 from fractions import Fraction
 from functools import cmp_to_key
 from math import gcd, lcm
 
 from .expressions import choose, lookup
-from .texts import Hyper, Inner, Item, Lines, Printed, Target, read_fraction, read_number
+from .texts import Hyper, Inner, Item, Printed, Reader, Target, read_fraction, read_number
 from .values import Value, ascending, compare, format_value, parse_value, split_values
 
 __all__ = [
@@ -50,7 +50,7 @@ class Channel(Printed):
     rows: Mapping[Value, tuple[Fraction, ...]]
 
     @classmethod
-    def _read(cls, lines: Lines) -> Channel:
+    def _read(cls, lines: Reader) -> Channel:
         target, columns = Target.parse(lines.take("target")), []
         for j in range(read_number(lines.take("columns"))):
             number, blank, shown = lines.take("column").partition(" ")
@@ -161,11 +161,19 @@ def hyper(channel: Channel, prior: Mapping[Value, Rational]) -> Hyper:
     distribution, or gives a probability above 0 to a value without a row.
     """
     weights = _distribution(channel, prior)
-    secrets = ascending(weights)
+    columns = [{x: weights[x] * channel.rows[x][j] for x in weights if channel.rows[x][j]} for j in range(len(channel.columns))]
+    return hyper_of_columns(channel.target, columns)
+
+
+def hyper_of_columns(target: Target, columns: Iterable[Mapping[Value, Fraction]], scales: Iterable[int] = ()) -> Hyper:
+    """The hyper-distribution of the columns of a joint matrix, each with the probabilities above 0 of values together with one trace.
+
+    Its scale is the least common multiple of these scales, and where none is given the least over which all probabilities are whole.
+    """
     outers: dict[tuple[tuple[Value, int], ...], Fraction] = {}
-    for j in range(len(channel.columns)):
-        joint = {x: weights[x] * channel.rows[x][j] for x in secrets if channel.rows[x][j]}
-        if joint:
+    for column in columns:
+        if column:
+            joint = {x: column[x] for x in ascending(column)}
             inner = tuple(zip(joint, _lowest(list(joint.values()))))
             outers[inner] = outers.get(inner, Fraction(0)) + sum(joint.values())
 
@@ -179,8 +187,8 @@ def hyper(channel: Channel, prior: Mapping[Value, Rational]) -> Hyper:
     for inner in sorted(outers, key=cmp_to_key(by_values)):
         whole = sum(weight for _, weight in inner)
         inners.append(Inner(outers[inner], {x: Fraction(weight, whole) for x, weight in inner}))
-    scale = lcm(*((inner.outer * p).denominator for inner in inners for p in inner.distribution.values()))
-    return Hyper(channel.target, scale, tuple(inners))
+    common = lcm(*scales) if (scales := list(scales)) else lcm(*((i.outer * p).denominator for i in inners for p in i.distribution.values()))
+    return Hyper(target, common, tuple(inners))
 
 
 def from_hyper(found: Hyper) -> Channel:

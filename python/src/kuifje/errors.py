@@ -8,9 +8,9 @@ from collections.abc import Mapping
 from dataclasses import astuple, dataclass
 from functools import cache
 from importlib.resources import files as resources
-from typing import TypedDict
+from typing import Protocol, TypedDict
 
-__all__ = ["KuifjeError", "Refusal", "TooLarge", "refusal_of"]
+__all__ = ["KuifjeError", "Origin", "Refusal", "TooLarge", "refusal_of"]
 
 _PLACED = re.compile(r"(?P<file>.*):(?P<line>[0-9]+):(?P<column>[0-9]+): (?P<kind>\w+)", re.DOTALL)
 _OF_FILE = re.compile(
@@ -102,6 +102,13 @@ class Refusal(KuifjeError):
 
     def __reduce__(self) -> tuple[type[Refusal], tuple[object, ...]]:
         return Refusal, astuple(self)
+
+
+class Origin(Protocol):
+    """What the text of a program was made of: it knows where each place of the text comes from."""
+
+    def placed(self, refusal: Refusal) -> Refusal:
+        """The same refusal, placed there."""
 
 
 def refusal_of(status: int, line_of_error: str, files: Mapping[str, bytes]) -> Refusal:

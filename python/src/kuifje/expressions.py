@@ -11,8 +11,8 @@ from .values import format_value
 __all__ = ["choose", "lookup"]
 
 
-def lookup(name: str, numbers: Sequence[int]) -> str:
-    """An expression that is the number at the place, from 0 on, that a variable says.
+def lookup(name: str, numbers: Sequence[int | str]) -> str:
+    """An expression that is the number (or the text of an expression) at the place, from 0 on, that a variable says.
 
     It halves what is left by ``<``, so it has fewer than 17 open brackets for 65,536 numbers; equal neighbours are one leaf. With n leaves it has
     5n - 4 nodes, and more than 1,000 are refused as ``Long``. Raises ``ValueError`` where there are no numbers.

@@ -1,7 +1,7 @@
-"""The command ``kuifje-lab``: reports, orders, pictures, sweeps, expanded templates, and a check for pipelines.
+"""The command ``kuifje-lab``: reports, orders, pictures, attack plans, hints, sweeps, expanded templates, and a check for pipelines.
 
 Each command ends with 0, or with 2 and a line on standard error where it can't be done, which a refusal of a program is, too. ``gate`` ends with 1 as
-well: where a rule doesn't hold.
+well, where a rule doesn't hold, and so do ``decide`` for a no and ``lint`` where it has a hint; ``decide`` ends with 2 where it comes to no verdict.
 """
 
 from __future__ import annotations
@@ -19,6 +19,8 @@ import click
 
 from . import gates
 from .errors import KuifjeError
+from .observations import plan
+from .lints import SLOW, lint
 from .orders import order
 from .program import Program
 from .questions import AsItIsLeft
@@ -95,7 +97,26 @@ def order_(files: tuple[Path, ...], as_json: bool, output: Path | None, turns: i
 
 
 @main.command()
-@click.argument("kind", type=click.Choice(["bars", "blame", "channel", "trail", "triangle", "vulnerability"]))
+@click.argument("a", type=FILE)
+@click.argument("b", type=FILE)
+@click.option("--json", "as_json", is_flag=True, help="Prints the answer as JSON, with the certificate.")
+@click.option("--seconds", type=float, default=10.0, show_default=True, help="How long the search for a certificate may take.")
+@click.option("-o", "--output", type=FILE, help="Writes the certificate to this file.")
+@_asking
+def decide(a: Path, b: Path, as_json: bool, seconds: float, output: Path | None, turns: int, timeout: float | None) -> None:
+    """Prints whether B leaks no more than A, to any adversary, where `kuifje refine` meets its bounds. A certificate is found, and the proved program
+    checks it. Ends with 0 where it is so, with 1 where it isn't, and with 2 where that isn't decided."""
+    from . import refinement
+
+    found = refinement.decide(Program.from_file(a, turns=turns), Program.from_file(b, turns=turns), seconds, timeout)
+    click.echo(found.to_json() + "\n" if as_json else str(found), nl=False)
+    if output is not None and found.certificate is not None:
+        output.write_bytes(found.certificate.text)
+    sys.exit({True: 0, False: 1, None: 2}[found.refines])
+
+
+@main.command()
+@click.argument("kind", type=click.Choice(["bars", "blame", "channel", "lines", "trail", "triangle", "vulnerability"]))
 @click.argument("file", type=FILE)
 @click.option("-o", "--output", type=FILE, required=True, help="The file to draw, which ends with .svg or .png.")
 @_asking
@@ -108,11 +129,36 @@ def plot(kind: str, file: Path, output: Path, turns: int, timeout: float | None)
         "bars": lambda: pictures.bars(program.hyper(timeout)),
         "blame": lambda: pictures.blame(program, program.blame(timeout)),
         "channel": lambda: pictures.channel(program.channel(timeout)),
+        "lines": lambda: pictures.lines(program, program.lines(timeout=timeout)),
         "trail": lambda: pictures.trail(program, program.trail(timeout)),
         "triangle": lambda: pictures.triangle(program.hyper(timeout)),
         "vulnerability": lambda: pictures.vulnerability(program.channel(timeout)),
     }
     pictures.save(drawn[kind](), output)
+
+
+@main.command("plan")
+@click.argument("file", type=FILE)
+@click.option("--gain", default="bayes", show_default=True, help='As for kuifje attack: bayes, "tries:3", guessing, or table:FILE.')
+@_asking
+def plan_(file: Path, gain: str, turns: int, timeout: float | None) -> None:
+    """Prints what an adversary does best after what is seen, as a tree."""
+    click.echo(str(plan(Program.from_file(file, turns=turns), gain, timeout=timeout)), nl=False)
+
+
+@main.command("lint")
+@click.argument("files", type=FILE, nargs=-1, required=True)
+@click.option("--attacker", multiple=True, metavar="NAME", help="A variable that is the attacker's: to show it must not change what is learned.")
+@click.option("--refine", is_flag=True, help="Compares the priors of each program with those of the first, as refine does.")
+@click.option("--covers", is_flag=True, help="Looks for variables that covers takes as secrets.")
+@click.option("--slow", type=float, default=SLOW, show_default=True, help="The seconds after which a program is looked at for unread variables.")
+@_asking
+def lint_(files: tuple[Path, ...], attacker: tuple[str, ...], refine: bool, covers: bool, slow: float, turns: int, timeout: float | None) -> None:
+    """Prints what may be meant otherwise in programs, with the lines. Ends with 0 where there is nothing, and with 1 where there is."""
+    programs = [Program.from_file(file, turns=turns) for file in files]
+    found = lint(*programs, attacker=attacker, refine=refine, covers=covers, slow=slow, timeout=timeout)
+    click.echo(str(found), nl=False)
+    sys.exit(1 if found else 0)
 
 
 def _value(text: str) -> object:

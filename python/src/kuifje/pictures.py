@@ -21,10 +21,10 @@ from .measures import bayes_vulnerability, posterior_vulnerability
 from .orders import Order
 from .program import Program
 from .questions import statement_lines, target_of
-from .texts import Blame, Hyper, Trail
+from .texts import Blame, Hyper, Lines, Trail
 from .values import Value, format_value
 
-__all__ = ["bars", "blame", "channel", "hasse", "save", "show", "svg", "trail", "triangle", "vulnerability"]
+__all__ = ["bars", "blame", "channel", "hasse", "lines", "save", "show", "svg", "trail", "triangle", "vulnerability"]
 
 BLUE, VERMILION, GREEN, AMBER, PURPLE, SKY, YELLOW, BLACK = ("#0072B2", "#D55E00", "#009E73", "#E69F00", "#CC79A7", "#56B4E9", "#F0E442", "#000000")
 GREY = "#666666"
@@ -308,6 +308,24 @@ def blame(program: Program, found: Blame, axes: Axes | None = None) -> Axes:
     whole = f"the posterior Bayes vulnerability of {target_of(text)}, {_number(found.all.bayes)},"
     caption = f"margin: by how much {whole} falls if that statement alone shows nothing"
     return _listing(axes, text, marks, caption)
+
+
+def lines(program: Program, found: Lines, axes: Axes | None = None) -> Axes:
+    """The program's text, and in its margin what the statements that begin on a line show that no others do, by the gain that was asked about.
+
+    That is how far the posterior vulnerability is from the program's own where one of them alone shows nothing (under ``guessing``: how many more
+    guesses are to be expected). Raises ``ValueError`` where the answer has a line that the text hasn't.
+    """
+    text = program.text.decode(errors="replace")
+    if found.without and found.without[-1].line > len(text.rstrip("\n").split("\n")):
+        raise ValueError(f"the text has no line {found.without[-1].line}")
+    changes = [abs(found.all.posterior - silent.posterior) for silent in found.without]
+    greatest = max(changes, default=Fraction(0)) or Fraction(1)
+    marks: dict[int, list[tuple[str, float]]] = {}
+    for silent, change in zip(found.without, changes):
+        marks.setdefault(silent.line - 1, []).append((_number(change), float(change / greatest)))
+    whole = f"the posterior vulnerability of {target_of(text)}, {_number(found.all.posterior)},"
+    return _listing(axes, text, marks, f"margin: by how much {whole} changes if that statement alone shows nothing, wherever it stands")
 
 
 def trail(program: Program, found: Trail, axes: Axes | None = None) -> Axes:

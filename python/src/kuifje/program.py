@@ -8,11 +8,11 @@ from collections.abc import Mapping
 from dataclasses import replace
 from fractions import Fraction
 from pathlib import Path
-from typing import TYPE_CHECKING, TypeVar
+from typing import TypeVar
 
 from .channels import Channel
 from .engine import Answer, Engine, default_engine
-from .errors import KuifjeError, refusal_of
+from .errors import KuifjeError, Origin, refusal_of
 from .questions import sentence, warn_of
 from .texts import (
     Attack,
@@ -22,6 +22,7 @@ from .texts import (
     GainTable,
     Hyper,
     Leakage,
+    Lines,
     Mark,
     Printed,
     Reach,
@@ -31,13 +32,11 @@ from .texts import (
 )
 from .values import format_value
 
-if TYPE_CHECKING:
-    from .templates import Expansion
-
 __all__ = ["Certificate", "Gain", "Program", "cascade", "certificate", "check", "choice", "covers", "parallel", "refine"]
 
 TABLE = "gain.json"
 CERTIFICATE = "certificate.json"
+FORMAT = "kuifje-cert-2"  # the format of certificates that is written
 Gain = str | GainTable
 P = TypeVar("P", bound=Printed)
 
@@ -77,13 +76,14 @@ class Program:
     """A program, by its text (docs/LANGUAGE.md).
 
     ``name`` is what refusals call it, ``turns`` how many turns a loop may take each time it is entered, ``engine`` what answers (the default engine
-    where none is given), and ``expansion`` the template's expansion that the text is, if it is one. Each question takes ``timeout`` seconds at most
+    where none is given), and ``expansion`` what the text was made of: a template, or
+    a model in Python. Each question takes ``timeout`` seconds at most
     (none: the engine's), and raises ``Refusal`` where the program gives no answer and ``TooLarge`` where that takes too much time or memory.
     Raises ``ValueError`` where the name can't be a file's.
     """
 
     def __init__(
-        self, text: str | bytes, *, name: str = "program.kf", turns: int = 1024, engine: Engine | None = None, expansion: Expansion | None = None
+        self, text: str | bytes, *, name: str = "program.kf", turns: int = 1024, engine: Engine | None = None, expansion: Origin | None = None
     ) -> None:
         if name.startswith("-") or "/" in name or "\0" in name or name in ("", ".", "..", TABLE, CERTIFICATE):
             raise ValueError(f"{name!r} can't be the name of a program")
@@ -154,6 +154,15 @@ class Program:
         """How many inners there are and their posterior Bayes vulnerability: as it is, and where each top-level statement alone shows nothing."""
         return self._answer(Blame, ["blame", self.name], timeout)
 
+    def lines(self, gain: Gain = "bayes", timeout: float | None = None) -> Lines:
+        """How many inners there are and their posterior vulnerability: as it is, and where each statement alone shows nothing, wherever it stands.
+
+        Each observation, conditional, loop and assignment to a visible variable has its place; in a loop it shows nothing in any turn. ``gain`` is as
+        for ``leak``.
+        """
+        word, files = _gain(gain)
+        return self._answer(Lines, ["lines", self.name, "--gain", word], timeout, files)
+
     def quiet(self, start: int, end: int, timeout: float | None = None) -> Hyper:
         """The hyper-distribution where the top-level statements from ``start`` up to but not with ``end`` show nothing, both counted from 0.
 
@@ -181,6 +190,22 @@ class Certificate:
 
     def __init__(self, text: str | bytes) -> None:
         self.text = text.encode() if isinstance(text, str) else bytes(text)
+
+    @classmethod
+    def of_matrix(cls, rows: int, columns: int, entries: Mapping[tuple[int, int], Fraction]) -> Certificate:
+        """The certificate of a yes by a matrix with so many rows and columns, whose entries that aren't named are 0."""
+        named = [[str(i), str(j), str(entry)] for (i, j), entry in sorted(entries.items()) if entry]
+        return cls._of({"columns": str(columns), "entries": named, "format": FORMAT, "rows": str(rows), "verdict": "yes"})
+
+    @classmethod
+    def of_table(cls, table: GainTable) -> Certificate:
+        """The certificate of a no by a gain table."""
+        actions = [{"gains": [[format_value(x), str(gain)] for x, gain in action.gains.items()], "name": action.name} for action in table.actions]
+        return cls._of({"actions": actions, "format": FORMAT, "over": str(table.over), "rest": str(table.rest), "verdict": "no"})
+
+    @classmethod
+    def _of(cls, members: Mapping[str, object]) -> Certificate:
+        return cls(json.dumps(members, separators=(",", ":")) + "\n")
 
     def __repr__(self) -> str:
         return f"<Certificate, {len(self.text)} bytes>"

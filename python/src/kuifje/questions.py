@@ -5,14 +5,13 @@ from __future__ import annotations
 import re
 import warnings
 
+from .source import read
 from .texts import Target
 
 __all__ = ["AsItIsLeft", "sentence", "statement_lines", "target_of", "warning_of"]
 
 _COMMENT = re.compile(r"#[^\n]*")
 _ABOUT = re.compile(r"\babout\b([^;]*);")
-_TOKEN = re.compile(r"#[^\n]*|\w+|:=|\S")
-_STATEMENT = re.compile(r"(?:\s|#[^\n]*\n)*(?:(?:skip|observe|if|while)\b|\w+\s*:=|$)")
 _DECLARED = re.compile(r"\b(?:var|vis)\s+(\w+)\s*:")
 
 
@@ -68,18 +67,9 @@ def warn_of(text: str) -> None:
 
 
 def statement_lines(text: str) -> list[int]:
-    """The lines, from 0 on, on which the top-level statements of a program begin.
-
-    A statement ends at a semicolon outside of all brackets, or after a brace outside of all others that a statement or the end follows.
-    """
-    found: list[int] = []
-    depth, begins = 0, True
-    for token in _TOKEN.finditer(text):
-        word = token[0]
-        if word.startswith("#"):
-            continue
-        if begins and word not in ("var", "vis", "about"):
-            found.append(text.count("\n", 0, token.start()))
-        depth += (word in "({") - (word in ")}")
-        begins = depth == 0 and (word == ";" or word == "}" and _STATEMENT.match(text, token.end()) is not None)
-    return found
+    """The lines, from 0 on, on which the top-level statements of a program begin; none where the text can't be read."""
+    try:
+        source = read(text)
+    except ValueError:
+        return []
+    return [source.line(statement.at) - 1 for statement in source.statements]

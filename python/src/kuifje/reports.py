@@ -17,6 +17,7 @@ from . import measures
 from .channels import Channel
 from .engine import default_engine
 from .errors import KuifjeError
+from .observations import plan
 from .orders import Order, order
 from .program import Program
 from .questions import AsItIsLeft, statement_lines, warning_of
@@ -27,6 +28,7 @@ __all__ = ["report"]
 GAINS = ("bayes", "tries:2", "tries:3", "guessing")
 CELLS = 150  # of a channel that is drawn, at most
 BARS = 40  # inners of a hyper that is drawn, at most
+LINES = 60  # of an attack that is shown, at most
 
 
 @dataclass(frozen=True)
@@ -129,6 +131,11 @@ def _parts(program: Program, hyper: Hyper, timeout: float | None) -> Iterator[Pa
         if len(hyper.inners) <= BARS and len(hyper.prior) <= 20:
             part.pictures.append(picture(lambda p: p.bars(hyper), "The posteriors as bars"))
 
+    def attack(part: Part) -> None:
+        lines = str(plan(program, timeout=timeout)).splitlines()
+        more = [f".. and {len(lines) - LINES} more lines"] if len(lines) > LINES else []
+        part.table = Markup("<pre>{}</pre>").format("\n".join(lines[:LINES] + more))
+
     def beliefs(part: Part) -> None:
         found = program.trail(timeout)
         part.table = _table(found.records())
@@ -136,6 +143,7 @@ def _parts(program: Program, hyper: Hyper, timeout: float | None) -> Iterator[Pa
 
     yield _part("Vulnerabilities and leakages", True, vulnerabilities)
     yield _part("The hyper-distribution: which posteriors a run may leave", True, posteriors)
+    yield _part("What an adversary with one guess does best after what is seen", False, attack)
     channels: list[Channel] = []
 
     def matrix(part: Part) -> None:
@@ -179,8 +187,9 @@ def _order(programs: Sequence[Program], timeout: float | None) -> Part:
 def report(programs: Sequence[Program], title: str = "What programs leak", timeout: float | None = None) -> str:
     """The report on some programs, as HTML: one file that needs no other.
 
-    For each program its question, its text with what each line is to blame for, vulnerabilities, hyper, channel, trail, and the measures that are
-    computed here; for several the order of refinement. A question that takes more than ``timeout`` seconds, or is refused, is reported as such.
+    For each program its question, its text with what each line is to blame for, vulnerabilities, hyper, best attack, channel, trail, and the
+    measures that are computed here; for several the order of refinement. A question that takes more than ``timeout`` seconds, or is refused, is
+    reported as such.
     """
     with warnings.catch_warnings():
         warnings.simplefilter("ignore", AsItIsLeft)

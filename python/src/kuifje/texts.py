@@ -32,11 +32,14 @@ __all__ = [
     "Inner",
     "Item",
     "Leakage",
+    "Left",
+    "Lines",
     "Made",
     "Mark",
     "Matrix",
     "Move",
     "Reach",
+    "Silent",
     "Target",
     "Trace",
     "TraceTable",
@@ -68,7 +71,7 @@ def read_number(text: str) -> int:
     return int(text)
 
 
-class Lines:
+class Reader:
     """The lines of a printed text, one taken after the other."""
 
     def __init__(self, text: str) -> None:
@@ -129,7 +132,7 @@ def _print_weights(weights: Mapping[Value, Fraction]) -> str:
     return "".join(f"  {format_value(value)} {fraction}\n" for value, fraction in weights.items())
 
 
-def _keyed(lines: Lines, word: str, *keys: str) -> tuple[str, ...]:
+def _keyed(lines: Reader, word: str, *keys: str) -> tuple[str, ...]:
     """The values of a line of words: of ``inner 0 outer 1/2`` the texts after ``inner`` and ``outer``."""
     rest = lines.take(word)
     found = []
@@ -193,7 +196,7 @@ class Printed:
     @classmethod
     def parse(cls: type[T], text: str) -> T:
         """The object of a printed text. Raises ``ValueError`` where it isn't one of this kind."""
-        lines = Lines(text)
+        lines = Reader(text)
         found = cls._read(lines)  # type: ignore[attr-defined]
         lines.end()
         return found  # type: ignore[no-any-return]
@@ -273,7 +276,7 @@ class Hyper(Printed):
     inners: tuple[Inner, ...]
 
     @classmethod
-    def _read(cls, lines: Lines) -> Hyper:
+    def _read(cls, lines: Reader) -> Hyper:
         target, scale = Target.parse(lines.take("target")), read_number(lines.take("scale"))
         inners = []
         for i in range(read_number(lines.take("inners"))):
@@ -333,7 +336,7 @@ class TraceTable(Printed):
     traces: tuple[Trace, ...]
 
     @classmethod
-    def _read(cls, lines: Lines) -> TraceTable:
+    def _read(cls, lines: Reader) -> TraceTable:
         target, scale = Target.parse(lines.take("target")), read_number(lines.take("scale"))
         traces = []
         for _ in range(read_number(lines.take("traces"))):
@@ -361,7 +364,7 @@ class Leakage(Printed):
     additive_leakage: Fraction
 
     @classmethod
-    def _read(cls, lines: Lines) -> Leakage:
+    def _read(cls, lines: Reader) -> Leakage:
         gain = lines.take("gain")
         prior, posterior, quotient = lines.take("prior"), lines.take("posterior"), lines.take("quotient")
         return cls(
@@ -397,7 +400,7 @@ class Attack(Printed):
     moves: tuple[Move, ...]
 
     @classmethod
-    def _read(cls, lines: Lines) -> Attack:
+    def _read(cls, lines: Reader) -> Attack:
         gain = lines.take("gain")
         moves: list[Move] = []
         while lines.peek() is not None:
@@ -432,7 +435,7 @@ class Reach(Printed):
     before: Fraction
 
     @classmethod
-    def _read(cls, lines: Lines) -> Reach:
+    def _read(cls, lines: Reader) -> Reach:
         return cls(read_number(lines.take("tries")), read_fraction(lines.take("posterior")), read_fraction(lines.take("before")))
 
     def __str__(self) -> str:
@@ -446,7 +449,7 @@ class Trail(Printed):
     inners: tuple[int, ...]
 
     @classmethod
-    def _read(cls, lines: Lines) -> Trail:
+    def _read(cls, lines: Reader) -> Trail:
         counts: list[int] = []
         while lines.peek() is not None:
             number, count = _keyed(lines, "after", "inners")
@@ -479,7 +482,7 @@ class Blame(Printed):
     without: tuple[BlameLine, ...]
 
     @classmethod
-    def _read(cls, lines: Lines) -> Blame:
+    def _read(cls, lines: Reader) -> Blame:
         def line(word: str) -> BlameLine:
             inners, bayes = _keyed(lines, word, "bayes")
             return BlameLine(read_number(inners), read_fraction(bayes))
@@ -500,6 +503,65 @@ class Blame(Printed):
         return found + "".join(f"without {i} inners {b.inners} bayes {b.bayes}\n" for i, b in enumerate(self.without))
 
 
+@dataclass(frozen=True)
+class Left:
+    """How many inners a hyper has, and its posterior vulnerability under a gain function (for guessing the expected number of guesses)."""
+
+    inners: int
+    posterior: Fraction
+
+
+@dataclass(frozen=True)
+class Silent:
+    """A statement that may show something, by the place where it begins, and what is left where it alone shows nothing.
+
+    ``line`` and ``column`` are counted from 1, columns in bytes.
+    """
+
+    line: int
+    column: int
+    inners: int
+    posterior: Fraction
+
+    @property
+    def place(self) -> str:
+        """Where the statement begins, as the program prints it: ``3:12``."""
+        return f"{self.line}:{self.column}"
+
+
+@dataclass(frozen=True, repr=False)
+class Lines(Printed):
+    """How much the program leaks, and how much where each statement alone shows nothing, wherever it stands; these are in the order of the text."""
+
+    all: Left
+    without: tuple[Silent, ...]
+
+    @classmethod
+    def _read(cls, lines: Reader) -> Lines:
+        inners, posterior = _keyed(lines, "all inners", "posterior")
+        whole = Left(read_number(inners), read_fraction(posterior))
+        without: list[Silent] = []
+        last = 1, 0
+        while (text := lines.peek()) is not None:
+            place = text.partition(" ")[0]
+            line, _, column = place.partition(":")
+            inners, posterior = _keyed(lines, f"{place} inners", "posterior")
+            without.append(Silent(read_number(line), read_number(column), read_number(inners), read_fraction(posterior)))
+            before, last = last, (without[-1].line, without[-1].column)
+            if last[1] == 0 or last <= before:
+                raise ValueError(f"{place} stands where a later place should")
+        return cls(whole, tuple(without))
+
+    def records(self) -> list[dict[str, object]]:
+        """A row for the whole program, and one for each statement without which it was run: ``place``, ``inners``, ``posterior``."""
+        rows: list[tuple[str, Left | Silent]] = [("all", self.all), *((silent.place, silent) for silent in self.without)]
+        return [{"place": place, "inners": found.inners, "posterior": found.posterior} for place, found in rows]
+
+    def __str__(self) -> str:
+        found = f"all inners {self.all.inners} posterior {self.all.posterior}\n"
+        return found + "".join(f"{s.place} inners {s.inners} posterior {s.posterior}\n" for s in self.without)
+
+
 @dataclass(frozen=True, repr=False)
 class Capacity(Printed):
     """The Bayes capacity of a channel: the sum of its columns' greatest cells."""
@@ -507,7 +569,7 @@ class Capacity(Printed):
     capacity: Fraction
 
     @classmethod
-    def _read(cls, lines: Lines) -> Capacity:
+    def _read(cls, lines: Reader) -> Capacity:
         return cls(read_fraction(lines.take("capacity")))
 
     def __str__(self) -> str:
@@ -525,7 +587,7 @@ class Composition(Printed):
     both: Fraction
 
     @classmethod
-    def _read(cls, lines: Lines) -> Composition:
+    def _read(cls, lines: Reader) -> Composition:
         sizes = read_number(lines.take("rows")), read_number(lines.take("columns"))
         return cls(*sizes, *(read_fraction(lines.take(word)) for word in ("first", "second", "both")))
 
@@ -543,7 +605,7 @@ class Made(Printed):
     last: Fraction
 
     @classmethod
-    def _read(cls, lines: Lines) -> Made:
+    def _read(cls, lines: Reader) -> Made:
         observations, scale, inners = (read_number(lines.take(word)) for word in ("observations", "scale", "inners"))
         return cls(observations, scale, inners, read_fraction(lines.take("last")))
 
@@ -592,7 +654,7 @@ class Verdict(Printed):
     table: GainTable | None
 
     @classmethod
-    def _read(cls, lines: Lines) -> Verdict:
+    def _read(cls, lines: Reader) -> Verdict:
         word = lines.take("refines")
         if word == "yes":
             rows, columns = map(read_number, lines.take("matrix").split(" "))
@@ -631,7 +693,7 @@ class Verdict(Printed):
         )
 
 
-def _matrix_row(lines: Lines, columns: int) -> tuple[Fraction, ...]:
+def _matrix_row(lines: Reader, columns: int) -> tuple[Fraction, ...]:
     row = tuple(map(read_fraction, lines.next_line().split(" ")))
     if len(row) != columns:
         raise ValueError(f"a row has {len(row)} entries for {columns} columns")
@@ -652,7 +714,7 @@ class Mark(Printed):
         return self.rejected is None
 
     @classmethod
-    def _read(cls, lines: Lines) -> Mark:
+    def _read(cls, lines: Reader) -> Mark:
         line = lines.next_line()
         if line == "accepted":
             return cls(None)

@@ -1,0 +1,178 @@
+"""Whether one program leaks no more than another, found by any means and checked by the proved program."""
+
+from __future__ import annotations
+
+import json
+from collections.abc import Callable, Iterator
+from dataclasses import dataclass, replace
+from fractions import Fraction
+from typing import Protocol
+
+from ..errors import KuifjeError, Refusal, TooLarge
+from ..program import Certificate, Program, check
+from ..texts import Hyper
+from .exact import another_prior, equal_inners, neighbours, peeling, tries
+from .problem import Deadline, Problem
+from .proofs import Proof, Undecided
+
+__all__ = ["Decision", "Way", "decide", "ways"]
+
+Way = Callable[[Problem, Deadline], Proof | None]
+"""A way to a proof by a deadline. It gives none where it isn't one for these hypers, and raises ``Undecided`` where it ended for another reason."""
+
+EXACT: tuple[tuple[str, Way], ...] = (
+    ("another prior", another_prior),
+    ("equal inners", equal_inners),
+    ("peeling", peeling),
+    ("tries", tries),
+    ("neighbours", neighbours),
+)
+CELLS = 20_000_000  # of matrices of floats, at most
+SMALL = 3000  # pairs of inners up to which the linear program comes before the interior point method
+TARGETS_DIFFER = 10  # a status of the program (docs/COMMANDS.md)
+
+
+@dataclass(frozen=True)
+class Decision:
+    """What is known of whether B leaks no more than A, to any adversary.
+
+    - ``refines`` is the verdict, and none where it isn't decided. It is said only where the proved program accepted the certificate (``checked``).
+    - ``found`` names the way that found the certificate. What isn't checked was only found, by code that isn't proved.
+    - ``worth`` is what the gain table of a no is worth under A and under B: its posterior vulnerabilities.
+    - ``reason`` says why there is no verdict, and ``certifiable`` whether any certificate could be short and narrow enough for ``check``: false where
+      none could, and none where that isn't known.
+    """
+
+    refines: bool | None
+    found: str | None = None
+    checked: bool = False
+    certificate: Certificate | None = None
+    worth: tuple[Fraction, Fraction] | None = None
+    reason: str | None = None
+    certifiable: bool | None = None
+
+    def __str__(self) -> str:
+        lines = [f"refines {'yes' if self.refines else 'no'}" if self.checked else "not decided"]
+        lines += [f"reason {self.reason}"] if self.reason is not None else []
+        lines += ["certifiable no"] if self.certifiable is False else []
+        lines += [f"found {self.found}"] if self.found is not None else []
+        if self.certificate is not None:
+            lines.append(f"certificate {len(self.certificate.text)} bytes, {'accepted' if self.checked else 'not checked'}")
+        lines += [f"worth {self.worth[0]} {self.worth[1]}"] if self.worth is not None else []
+        return "".join(f"{line}\n" for line in lines)
+
+    def to_json(self) -> str:
+        """The answer as JSON, with the certificate; fractions are texts."""
+        proof = None if self.certificate is None else json.loads(self.certificate.text)
+        worth = None if self.worth is None else list(map(str, self.worth))
+        members = {"refines": self.refines, "found": self.found, "checked": self.checked, "certificate": proof, "worth": worth}
+        return json.dumps({**members, "reason": self.reason, "certifiable": self.certifiable}, ensure_ascii=False)
+
+
+def ways(problem: Problem) -> Iterator[tuple[str, Way]]:
+    """The ways to a proof, each with its name, in the order in which they are tried: what is exact and cheap first.
+
+    Those over floats want ``numpy`` and ``scipy``. Raises ``Undecided`` before them where these aren't installed, or floats would be too many.
+    """
+    yield from EXACT
+    cells = problem.k * (problem.m + problem.n) + problem.m * problem.n
+    if cells > CELLS:
+        raise Undecided(f"the other ways would take {cells:,} numbers, and may take {CELLS:,}")
+    try:
+        from .linear import linear_program
+        from .mending import mended_middle
+        from .numeric import independent_inners, one_inner_of_a, one_inner_of_b, two_values
+    except ImportError as cause:
+        raise Undecided(f"the other ways want {cause.name}, which isn't installed") from None
+    yield "independent inners", independent_inners
+    yield "two values", two_values
+    yield "one inner of A", one_inner_of_a
+    yield "one inner of B", one_inner_of_b
+    last: list[tuple[str, Way]] = [("linear program", linear_program), ("mended middle", mended_middle)]
+    yield from last if problem.m * problem.n <= SMALL else reversed(last)
+
+
+def _found(problem: Problem, deadline: Deadline, reasons: list[str]) -> Iterator[tuple[str, Proof]]:
+    """The proofs that are found, each with the name of its way; ``reasons`` gets why others found none."""
+    try:
+        for name, way in ways(problem):
+            if deadline.passed:
+                reasons.append("no time is left")
+                return
+            try:
+                proof = way(problem, deadline)
+            except Undecided as cause:
+                reasons.append(f"{name}: {cause}")
+                continue
+            if proof is not None:
+                yield proof.name or name, proof
+    except Undecided as cause:
+        reasons.append(str(cause))
+
+
+def _refusal(certificate: Certificate, a: Program, b: Program, timeout: float | None) -> str | None:
+    """Why the proved program doesn't accept a certificate; none where it does. Raises ``Refusal`` of programs, and where their targets differ."""
+    try:
+        mark = check(certificate, a, b, timeout)
+    except TooLarge as cause:
+        return f"the check ends without an answer: {cause}"
+    except Refusal as cause:
+        if cause.status == TARGETS_DIFFER or cause.file in (a.name, b.name):
+            raise
+        return f"the check refuses the certificate: {cause.kind}"
+    return None if mark.accepted else f"the check rejects the certificate: {mark.rejected}"
+
+
+def _says_yes(certificate: Certificate) -> bool:
+    return bool(json.loads(certificate.text)["verdict"] == "yes")
+
+
+def _decided(name: str, proof: Proof, a: Program, b: Program, timeout: float | None) -> Decision:
+    """What the proved program says of a proof. The verdict is what the certificate says that it accepted, and nothing else."""
+    refusal = proof.obstacle or _refusal(proof.certificate, a, b, timeout)
+    decision = Decision(None, name, False, proof.certificate, proof.worth, refusal, False if proof.obstacle and proof.final else None)
+    return decision if refusal else replace(decision, refines=_says_yes(proof.certificate), checked=True, certifiable=True)
+
+
+def _unchecked(name: str, proof: Proof) -> Decision:
+    reason = proof.obstacle or "a certificate is checked for programs, and not for printed hypers"
+    return Decision(None, name, False, proof.certificate, proof.worth, reason, False if proof.obstacle and proof.final else None)
+
+
+class Model(Protocol):
+    """What can be written as a program."""
+
+    def program(self) -> Program:
+        """The program."""
+
+
+def _hyper(of: Program | Hyper, timeout: float | None) -> Hyper:
+    return of.hyper(timeout) if isinstance(of, Program) else of
+
+
+def decide(a: Program | Model | Hyper, b: Program | Model | Hyper, seconds: float = 10.0, timeout: float | None = None) -> Decision:
+    """Whether ``b`` leaks no more than ``a`` under any gain function, past the bounds of ``refine``. In the book (chapter 9): whether A ⊑ B.
+
+    The search for a certificate ends after ``seconds``, the programs' hypers and the check aside; it looks at the time between its steps, of which
+    the longest take some seconds themselves. Each question to the program takes at most ``timeout`` seconds. The search isn't proved, and only what
+    the proved program accepts is a verdict: of two hypers, of which no program is known, there is a certificate and no verdict. Raises ``Refusal``
+    and ``TooLarge`` as questions to programs do, ``KuifjeError`` where two hypers have different targets, and ``ValueError`` where a hyper's weights
+    aren't whole over its scale.
+    """
+    first, second = (of if isinstance(of, (Program, Hyper)) else of.program() for of in (a, b))
+    hypers = _hyper(first, timeout), _hyper(second, timeout)
+    programs = (first, second) if isinstance(first, Program) and isinstance(second, Program) else None
+    if hypers[0].target != hypers[1].target:
+        if programs:
+            _refusal(Certificate.of_matrix(1, 1, {(0, 0): Fraction(1)}), *programs, timeout)
+        raise KuifjeError(f"targets differ: {hypers[0].target}, and {hypers[1].target}")
+    reasons: list[str] = []
+    kept: Decision | None = None
+    for name, proof in _found(Problem.of(*hypers), Deadline(seconds), reasons):
+        decision = _decided(name, proof, *programs, timeout) if programs else _unchecked(name, proof)
+        if decision.checked or not proof.obstacle and not programs or decision.certifiable is False:
+            return decision
+        reasons.append(f"{name}: {decision.reason}")
+        kept = kept or decision
+    reason = "; ".join(reasons) or "no way found a proof"
+    return replace(kept, reason=reason) if kept else Decision(None, reason=reason)

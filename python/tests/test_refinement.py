@@ -261,7 +261,7 @@ def test_a_check_that_takes_too_long_is_no_verdict(monkeypatch):
 
 def test_without_scipy_the_exact_ways_are_gone(monkeypatch):
     for name in [name for name in sys.modules if name.startswith(("kuifje.refinement.", "scipy"))]:
-        if name.rpartition(".")[2] in ("numeric", "linear", "mending", "interior", "lattice") or name.startswith("scipy"):
+        if name.rpartition(".")[2] in ("numeric", "linear", "rounded_matrix", "interior", "lattice") or name.startswith("scipy"):
             monkeypatch.delitem(sys.modules, name)
     monkeypatch.setitem(sys.modules, "scipy", None)
     assert decide(WHOLE, PARITY).refines is True and decide(PARITY, WHOLE).refines is False
@@ -360,10 +360,10 @@ def test_the_middle_is_a_matrix_that_carries_or_a_table_that_separates(monkeypat
 @wanting("scipy")
 @pytest.mark.parametrize("very_many", [0, 10**6])
 def test_a_middle_with_too_many_entries_is_made_of_fewer(monkeypatch, very_many):
-    from kuifje.refinement import mending
+    from kuifje.refinement import rounded_matrix
 
     for name, count in (("MANY", 500), ("VERY_MANY", very_many), ("CHOSEN", 800)):
-        monkeypatch.setattr(mending, name, count)
+        monkeypatch.setattr(rounded_matrix, name, count)
     rng = random.Random(8)
     first, second = pairs.programs(*pairs.dense(rng, pairs.joint(rng, 30, 3, top=9, share=1), 30, 2000))
     proof = way("mended middle")(Problem.of(first.hyper(), second.hyper()), Deadline(60))

@@ -80,7 +80,7 @@ def ways(problem: Problem) -> Iterator[tuple[str, Way]]:
         raise Undecided(f"the other ways would take {cells:,} numbers, and may take {CELLS:,}")
     try:
         from .linear import linear_program
-        from .mending import mended_middle
+        from .rounded_matrix import mended_middle
         from .numeric import independent_inners, one_inner_of_a, one_inner_of_b, two_values
     except ImportError as cause:
         raise Undecided(f"the other ways want {cause.name}, which isn't installed") from None

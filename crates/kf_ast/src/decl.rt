@@ -3,6 +3,7 @@ ghost use Rattle.kf_ast.specs.Views.{decl_items, name_tree, target_items};
 
 use crate::{Dist, StmtList, TyTree};
 use kf_value::{Mem, Name};
+use std::alloc::Global;
 
 /// A name where it stands in the source.
 #[derive(Drop)]
@@ -50,11 +51,11 @@ pub struct ItemList {
 
 impl Ident {
     /// An equal name at the same place.
-    pub fn copy(&self) -> Result<Ident, Mem>
+    pub fn copy(&self, alloc: Global) -> Result<Ident, Mem>
         ensures { IfOk result (λ copied. name_tree copied ≡ name_tree self.now) }
     {
         Ok(Ident {
-            text: self.text.copy()?,
+            text: self.text.copy(alloc)?,
             at: self.at,
         })
     }

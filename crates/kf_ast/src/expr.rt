@@ -70,7 +70,7 @@ impl Expr {
         let node = match &self.node {
             ExprNode::Number(n) => ExprNode::Number(*n),
             ExprNode::Truth(truth) => ExprNode::Truth(*truth),
-            ExprNode::Name(name) => ExprNode::Name(name.copy()?),
+            ExprNode::Name(name) => ExprNode::Name(name.copy(alloc)?),
             ExprNode::Apply { row, args } => ExprNode::Apply {
                 row: *row,
                 args: args.copy(alloc)?,

@@ -74,7 +74,7 @@ impl Stmt {
         let node = match &self.node {
             StmtNode::Skip => StmtNode::Skip,
             StmtNode::Assign { name, dist } => StmtNode::Assign {
-                name: name.copy()?,
+                name: name.copy(alloc)?,
                 dist: dist.copy(alloc)?,
             },
             StmtNode::Observe(dist) => StmtNode::Observe(dist.copy(alloc)?),

@@ -43,7 +43,7 @@ fn check_decl(
     let stores = grow(variables.len(), stores, &ty, at)?;
     let kind = kind_of(alloc, &ty)?;
     let dist = asks_dist(alloc, names, &kind, &decl.dist)?;
-    let name = decl.name.text.copy()?;
+    let name = decl.name.text.copy(alloc)?;
     Ok(Declaration {
         variable: Variable { name, ty },
         kind,

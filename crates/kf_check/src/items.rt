@@ -52,7 +52,7 @@ pub fn variable_item(alloc: Global, initial: bool, variable: &Variable) -> Resul
 {
     Ok(TargetItem {
         initial,
-        name: variable.name.copy()?,
+        name: variable.name.copy(alloc)?,
         ty: variable.ty.copy(alloc)?,
     })
 }

@@ -23,7 +23,7 @@ pub use counts::CountList;
 pub use entry::{Entry, EntryList};
 pub use hyper::{Hyper, abstract_columns};
 pub use law::{hyper_laws, merge_laws, one_hyper, projection_laws, proportional_means};
-pub use merging::merge;
+pub use merging::{merge, merge_owned};
 pub use projection::project;
 pub use sums::column_of;
 pub use traces::{TraceRow, TraceRowList, TraceTable};

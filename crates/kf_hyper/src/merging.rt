@@ -54,8 +54,18 @@ fn summed(alloc: Global, classes: Vec<Class>) -> Result<Vec<Column>, Mem>
 
 /// One column for each class of proportional columns: the sum of the class, over the same scale.
 ///
-/// They ascend by their lists without common factor. The one error is want of memory.
-pub fn merge(alloc: Global, columns: Columns) -> Result<Columns, Mem>
+/// They ascend by their lists without common factor. The one error is want of memory. A caller that needs its columns no more spares the
+/// copy by `merge_owned`.
+pub fn merge(alloc: Global, columns: &Columns) -> Result<Columns, Mem>
+    ensures merged { IfOk result (λ merged. AreMerged columns.now.columns merged.columns) }
+    ensures scale { IfOk result (λ merged. merged.scale ≡ columns.now.scale) }
+{
+    let copied = columns.copy(alloc)?;
+    merge_owned(alloc, copied)
+}
+
+/// The same of columns that are given away: what they hold is changed in place.
+pub fn merge_owned(alloc: Global, columns: Columns) -> Result<Columns, Mem>
     ensures merged { IfOk result (λ merged. AreMerged columns.columns merged.columns) }
     ensures scale { IfOk result (λ merged. merged.scale ≡ columns.scale) }
 {

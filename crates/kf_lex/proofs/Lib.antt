@@ -17,3 +17,4 @@ pub mod EachPiece
 pub mod EachSource
 pub mod Operators
 pub mod Paired
+mod ReservedTexts

@@ -10,7 +10,8 @@ use Rattle.kf_lex.specs.declared.token.LexError.{LexError}
 use Rattle.kf_lex.specs.declared.token.Tok.{Tok}
 use Rattle.kf_lex.specs.declared.token.Tok.TheVariants as tok
 use Rattle.kf_lex.specs.declared.token.Token.{Token}
-use Rattle.kf_lex.specs.Words.{word_of}
+use Rattle.kf_lex.specs.declared.token.Word.{Word}
+use Rattle.kf_lex.specs.Words.{reserved, word_of}
 use Rattle.kf_lex.specs.Lexemes.{IsWord, Spells}
 use Rattle.kf_lex.specs.Operators.{operator_of}
 use Rattle.kf_lex.specs.Readings.{IsFault, IsTokens}
@@ -39,6 +40,10 @@ HasName src t = t.kind ≡ tok.Name → IsUtf8 (slice_range src t.start t.end)
 -- every operator that is written as a word has a reserved word
 abbrev pub AreOperatorsReserved : Type 0
 AreOperatorsReserved = All (λ row. IsWord row.word → IsSome (word_of row.code)) operators
+
+-- a reserved word is written in one way
+abbrev pub HaveOneText : Type 0
+HaveOneText = (text other : List ℕ) (w : Word) → reserved text ≡ Some w → reserved other ≡ Some w → text ≡ other
 
 -- The operators of the table and their tokens: a token stands for an operator exactly where it spells the word of the operator's row, and
 -- each operator has a token, but for the minus before an operand, whose word no token spells.

@@ -7,8 +7,7 @@ use Rattle.kf_lex.specs.contracts.token.Word.{the_type}
 use Rattle.kf_lex.specs.declared.token.Tok.{Tok}
 use Rattle.kf_lex.specs.declared.token.Tok.TheVariants as tok
 use Rattle.kf_lex.specs.declared.token.Word.{Word}
-use Rattle.kf_lex.specs.declared.words.TheConstants.{OPERATOR_WORDS}
-use Rattle.kf_lex.specs.Words.{operator_with, sign_text}
+use Rattle.kf_lex.specs.Words.{operator_with, operator_words, sign_text}
 
 -- the operator that the list pairs with the word
 abbrev pub op_in : List (Op × Word) → Word → Option Op
@@ -16,7 +15,7 @@ op_in [] w = None
 op_in (pair ∷ pairs) w = if sameb the_type pair.1 w then Some pair.0 else op_in pairs w
 
 abbrev pub op_of : Word → Option Op
-op_of w = op_in OPERATOR_WORDS w
+op_of w = op_in operator_words w
 
 -- the operator whose row has the token's text
 abbrev pub operator_of : Tok → Option Op

@@ -7,11 +7,11 @@ use Rattle.std.specs.Str.{bytes_eq}
 use Rattle.kf_ops.specs.Rows.{Row, operators}
 use Rattle.kf_ops.specs.contracts.row.Op.{the_type}
 use Rattle.kf_ops.specs.declared.row.Op.{Op}
+use Rattle.kf_ops.specs.declared.row.Op.TheVariants as op
 use Rattle.kf_lex.specs.declared.token.Sign.{Sign}
 use Rattle.kf_lex.specs.declared.token.Sign.TheVariants as sign
 use Rattle.kf_lex.specs.declared.token.Word.{Word}
 use Rattle.kf_lex.specs.declared.token.Word.TheVariants as word
-use Rattle.kf_lex.specs.declared.words.TheConstants.{OPERATOR_WORDS}
 
 -- the bytes of each sign
 abbrev pub sign_text : Sign → List ℕ
@@ -46,14 +46,23 @@ own_words =
     ∷ (codes "uniform", word.UniformWord) ∷ (codes "choose", word.ChooseWord) ∷ (codes "flip", word.FlipWord)
     ∷ (codes "true", word.TrueWord) ∷ (codes "false", word.FalseWord) ∷ []
 
+-- the operators that are written with letters, each with its word; the letters themselves stand in the operator's row
+abbrev pub operator_words : List (Op × Word)
+operator_words =
+    (op.Or, word.OrWord) ∷ (op.And, word.AndWord) ∷ (op.Not, word.NotWord) ∷ (op.Elem, word.InWord)
+    ∷ (op.Union, word.UnionWord) ∷ (op.Without, word.LessWord) ∷ (op.Div, word.DivWord) ∷ (op.Mod, word.ModWord)
+    ∷ (op.Inter, word.InterWord) ∷ (op.Size, word.SizeWord) ∷ (op.Cond, word.CondWord) ∷ (op.Xor, word.XorWord)
+    ∷ (op.Implies, word.ImpliesWord) ∷ (op.Subset, word.SubsetWord) ∷ (op.Min, word.MinWord) ∷ (op.Max, word.MaxWord)
+    ∷ (op.Abs, word.AbsWord) ∷ []
+
 -- the word that the list pairs with the operator
 abbrev pub word_in : List (Op × Word) → Op → Option Word
-word_in [] op = None
-word_in (pair ∷ pairs) op = if sameb the_type pair.0 op then Some pair.1 else word_in pairs op
+word_in [] o = None
+word_in (pair ∷ pairs) o = if sameb the_type pair.0 o then Some pair.1 else word_in pairs o
 
--- the word of an operator, where it is written with letters; the letters themselves stand in the operator's row
+-- the word of an operator, where it is written with letters
 abbrev pub word_of : Op → Option Word
-word_of op = word_in OPERATOR_WORDS op
+word_of o = word_in operator_words o
 
 -- the operator of the first row with these letters
 abbrev pub operator_with : List Row → List ℕ → Option Op

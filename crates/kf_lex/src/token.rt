@@ -1,6 +1,7 @@
 ghost use Rattle.std.specs.Prelude.{◌≡◌};
 
 use std::marker::Model;
+use thiserror::Error;
 
 /// A token and where it stands in the source.
 #[derive(Clone, Copy, Debug, PartialEq, Eq)]
@@ -117,14 +118,18 @@ impl Tokens {
 }
 
 /// Why a source has no tokens. Each place is a byte offset.
-#[derive(Clone, Copy, Debug, PartialEq, Eq)]
+#[derive(Clone, Copy, Debug, PartialEq, Eq, Error)]
 pub enum LexError {
     /// The first byte of a sequence that isn't UTF-8.
+    #[error("the text is not UTF-8 from byte {at} on")]
     Utf8 { at: u32 },
     /// The first byte of a character that begins no token.
+    #[error("the character at byte {at} begins no token")]
     Char { at: u32 },
     /// The first digit of a number above 1,000,000,000.
+    #[error("the number at byte {at} is above 1000000000")]
     Number { at: u32 },
     /// Want of memory.
+    #[error("want of memory")]
     Mem,
 }

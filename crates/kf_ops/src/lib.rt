@@ -16,4 +16,5 @@ pub use fault::OpFault;
 pub use laws::row_laws;
 pub use lookup::find;
 pub use row::{Op, OpRow, Pat};
+pub use table::OPS;
 pub use values::apply;

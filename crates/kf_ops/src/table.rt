@@ -1,7 +1,8 @@
 use crate::row::{Op, OpRow, Pat};
 
-/// The operators. A row's place is its number, counted from 0.
-pub(crate) const OPS: [OpRow; 27] = [
+/// The operators. A row's place is its number, counted from 0. A clause can't name a constant that holds texts: one that speaks of the
+/// rows calls `operators`.
+pub const OPS: [OpRow; 27] = [
     OpRow {
         word: "or",
         level: 1,

@@ -35,7 +35,7 @@ fn full_decl(alloc: Global, decl: &Decl, ty: &Ty, size: u32) -> Result<Decl, Mem
 {
     Ok(Decl {
         visible: decl.visible,
-        name: decl.name.copy()?,
+        name: decl.name.copy(alloc)?,
         ty: decl.ty.copy(alloc)?,
         dist: uniform_over(alloc, decl.dist.at, ty, size)?,
     })
@@ -93,18 +93,18 @@ pub(crate) fn full_target(alloc: Global, decls: &[Decl]) -> Result<ItemList, Mem
         ≡ map (item_for true) (map decl_tree decls.now) ++ map (item_for false) (map decl_tree decls.now)) }
 {
     let mut items = Vec::new(alloc);
-    add_items(&mut items, decls, true)?;
-    add_items(&mut items, decls, false)?;
+    add_items(alloc, &mut items, decls, true)?;
+    add_items(alloc, &mut items, decls, false)?;
     Ok(ItemList::new(items))
 }
 
-fn add_items(items: &mut Vec<Item>, decls: &[Decl], initial: bool) -> Result<(), Mem>
+fn add_items(alloc: Global, items: &mut Vec<Item>, decls: &[Decl], initial: bool) -> Result<(), Mem>
     ensures { OnOk result (map item_tree items.new.items ≡ map item_tree items.old.items ++ map (item_for initial) (map decl_tree decls.now)) }
 {
     for decl in decls {
         items.push(Item {
             initial,
-            name: decl.name.copy()?,
+            name: decl.name.copy(alloc)?,
         })?;
     }
     Ok(())

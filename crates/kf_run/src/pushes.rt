@@ -18,7 +18,7 @@ ghost use Rattle.kf_run.specs.Going.{CanGo, HasGone};
 
 use crate::steps::{assignment, guard, show};
 use kf_core::{Dx, St, run_laws};
-use kf_hyper::{ColumnList, Columns, join, merge};
+use kf_hyper::{ColumnList, Columns, join, merge, merge_owned};
 use kf_quiet::are_columns;
 use kf_support::Cleared;
 use kf_value::{Mem, Shape};
@@ -39,17 +39,7 @@ pub(crate) fn merge_both(alloc: Global, one: Columns, other: Columns) -> Result<
     ensures scale { IfOk result (λ after. after.scale ≡ one.scale) }
 {
     let joined = join(alloc, one, other)?;
-    let merged = merge(alloc, joined)?;
-    Ok(merged)
-}
-
-/// A copy of the columns, with those of one posterior added up.
-fn merge_copy(alloc: Global, columns: &Columns) -> Result<Columns, Mem>
-    ensures merged { IfOk result (λ after. AreMerged columns.now.columns after.columns) }
-    ensures scale { IfOk result (λ after. after.scale ≡ columns.now.scale) }
-{
-    let copied = columns.copy(alloc)?;
-    let merged = merge(alloc, copied)?;
+    let merged = merge_owned(alloc, joined)?;
     Ok(merged)
 }
 
@@ -68,7 +58,7 @@ pub(crate) fn push_one(
 {
     match statement {
         St::Skip => {
-            let after = merge_copy(alloc, columns)?;
+            let after = merge(alloc, columns)?;
             Ok(after)
         }
         St::Assign { slot, dist, shown } => {
@@ -196,7 +186,7 @@ pub fn push(
 {
     run_laws();
     are_columns(columns);
-    let merged = merge_copy(alloc, columns)?;
+    let merged = merge(alloc, columns)?;
     let program = c.program();
     let statements = &program.body.as_slice()[from..to];
     let after = push_all(alloc, &program.shape, c.turns(), statements, merged)?;

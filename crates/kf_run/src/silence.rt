@@ -21,7 +21,7 @@ ghost use Rattle.kf_run.specs.Silence.{silent_at};
 use crate::pushes::{merge_both, none_of, push_one};
 use crate::steps::guard;
 use kf_core::{Dx, St};
-use kf_hyper::{Column, ColumnList, Columns, merge};
+use kf_hyper::{Column, ColumnList, Columns, merge_owned};
 use kf_quiet::{are_columns, erase};
 use kf_value::{Mem, Shape};
 use std::alloc::Global;
@@ -103,7 +103,7 @@ fn hush(
         list.push(sum)?;
     }
     let hushed = Columns::new(columns.scale(), ColumnList::new(list));
-    let after = merge(alloc, hushed)?;
+    let after = merge_owned(alloc, hushed)?;
     Ok(after)
 }
 

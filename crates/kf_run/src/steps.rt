@@ -21,7 +21,7 @@ use crate::showing::show_column;
 use crate::siding::side_column;
 use kf_core::{Dx, Program};
 use kf_eval::Memo;
-use kf_hyper::{Column, ColumnList, Columns, merge};
+use kf_hyper::{Column, ColumnList, Columns, merge_owned};
 use kf_value::{Mem, Shape};
 use std::alloc::Global;
 
@@ -32,7 +32,7 @@ fn merged(alloc: Global, scale: u128, list: Vec<Column>) -> Result<Columns, Mem>
         → IsPushed from columns after.columns × (after.scale ≡ scale) × All (IsBelow size) after.columns) }
 {
     let behind = Columns::new(scale, ColumnList::new(list));
-    let merged = merge(alloc, behind)?;
+    let merged = merge_owned(alloc, behind)?;
     Ok(merged)
 }
 

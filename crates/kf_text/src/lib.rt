@@ -19,6 +19,7 @@ pub use blame::blame_text;
 pub use capacity::{algebra_text, capacity_text};
 pub use channel::channel_text;
 pub use hyper::hyper_text;
+pub use kf_hyper::CountList;
 pub use made::make_text;
 pub use mark::mark_text;
 pub use report::report_text;

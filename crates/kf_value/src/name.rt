@@ -1,6 +1,7 @@
 ghost use Rattle.std.specs.Prelude.{◌≡◌, ℕ, List, string_bytes, IfOk};
 
 use crate::Mem;
+use std::alloc::Global;
 use std::marker::Model;
 
 /// The name of a variable or of a file.
@@ -29,11 +30,11 @@ impl Name {
     }
 
     /// An equal name.
-    pub fn copy(&self) -> Result<Name, Mem>
+    pub fn copy(&self, alloc: Global) -> Result<Name, Mem>
         ensures { IfOk result (λ copied. copied ≡ self.now) }
     {
         Ok(Name {
-            text: self.text.clone()?,
+            text: String::from_str(alloc, self.as_str())?,
         })
     }
 }

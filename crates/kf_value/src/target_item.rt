@@ -42,7 +42,7 @@ impl TargetItem {
     {
         Ok(TargetItem {
             initial: self.initial,
-            name: self.name.copy()?,
+            name: self.name.copy(alloc)?,
             ty: self.ty.copy(alloc)?,
         })
     }

@@ -22,17 +22,18 @@ use std::process::Abort;
 use std::test::Fail;
 
 // The target `x : 0..9`.
-fn ten_values(alloc: Global) -> Result<Target, Mem>
-    ensures { IfOk result (λ target. target_size (items_of target) ≡ 10) }
+fn ten_values(rt: &(impl Abort + AllocGlobal)) -> Target
+    ensures { target_size (items_of result) ≡ 10 }
 {
     let item = TargetItem {
         initial: false,
-        name: Name::new("x".to_string(alloc)?),
+        name: Name::new("x".to_string(rt.alloc()).expect(rt, "memory")),
         ty: Ty::Int { lo: 0, hi: 9 },
     };
-    Ok(Target {
-        items: TargetItemList::new(vec![in alloc; item]?),
-    })
+    let items = vec![in rt.alloc(); item].expect(rt, "memory");
+    Target {
+        items: TargetItemList::new(items),
+    }
 }
 
 fn entry(value: u64, weight: u128) -> Entry
@@ -119,7 +120,7 @@ fn no_columns(alloc: Global) -> Columns {
 }
 
 fn is_merged(rt: &(impl Abort + AllocGlobal), columns: Columns, want: &str) -> Result<(), Mem> {
-    let merged = merge(rt.alloc(), columns)?;
+    let merged = merge(rt.alloc(), &columns)?;
     is_matrix(rt, &merged, want)
 }
 
@@ -194,23 +195,25 @@ fn stores_become_numbers_of_no_slot(rt: HostRuntime) -> Result<(), Fail> {
 }
 
 // The hyper of the parity of a uniform value of `0..3`, of which each odd value counts twice.
-fn doubled_parities(alloc: Global) -> Result<Hyper, Mem> {
+fn doubled_parities(rt: &(impl Abort + AllocGlobal)) -> Result<Hyper, Mem> {
+    let alloc = rt.alloc();
     let columns = vec![in alloc;
         column(alloc, &[entry(0, 1), entry(2, 1)])?,
         column(alloc, &[entry(1, 2), entry(3, 2)])?,
     ]?;
     let columns = Columns::new(6, ColumnList::new(columns));
-    abstract_columns(alloc, ten_values(alloc)?, columns)
+    abstract_columns(alloc, ten_values(rt), columns)
 }
 
 // The same where each value counts once.
-fn parities(alloc: Global) -> Result<Hyper, Mem> {
+fn parities(rt: &(impl Abort + AllocGlobal)) -> Result<Hyper, Mem> {
+    let alloc = rt.alloc();
     let columns = vec![in alloc;
         column(alloc, &[entry(0, 1), entry(2, 1)])?,
         column(alloc, &[entry(1, 1), entry(3, 1)])?,
     ]?;
     let columns = Columns::new(4, ColumnList::new(columns));
-    abstract_columns(alloc, ten_values(alloc)?, columns)
+    abstract_columns(alloc, ten_values(rt), columns)
 }
 
 // An inner, a value, and the value's joint weight.
@@ -223,7 +226,7 @@ fn weight(rt: &impl Abort, hyper: &Hyper, inner: usize, value: u64) -> u128 {
 
 #[test]
 fn joint_weights(rt: HostRuntime) -> Result<(), Mem> {
-    let hyper = doubled_parities(rt.alloc())?;
+    let hyper = doubled_parities(&rt)?;
     assert_eq!(rt; hyper.count(), 2);
     for (inner, value, want) in &WEIGHTS {
         let got = weight(&rt, &hyper, *inner, *value);
@@ -234,14 +237,14 @@ fn joint_weights(rt: HostRuntime) -> Result<(), Mem> {
 
 #[test]
 fn average_of_joint_weights(rt: HostRuntime) -> Result<(), Mem> {
-    let hyper = doubled_parities(rt.alloc())?;
+    let hyper = doubled_parities(&rt)?;
     let average = hyper.average(rt.alloc())?;
     is_column(&rt, &average, " 0:1 1:2 2:1 3:2")
 }
 
 #[test]
 fn average_of_a_uniform_value(rt: HostRuntime) -> Result<(), Mem> {
-    let hyper = parities(rt.alloc())?;
+    let hyper = parities(&rt)?;
     let average = hyper.average(rt.alloc())?;
     assert_eq!(rt; average.total(), 4, "the scale");
     is_column(&rt, &average, " 0:1 1:1 2:1 3:1")

@@ -4,28 +4,28 @@ use kf_simplex::{Equation, EquationList, NumberList, Outcome, SimplexError, Syst
 use std::alloc::{AllocError, Global};
 use std::fmt::Write;
 use std::process::Abort;
-use std::test::Fail;
 
-fn equation(alloc: Global, coefs: &[i64], rhs: i64) -> Result<Equation, Fail> {
-    if rhs < 0 || rhs > 1 << 62 || !coefs.iter().all(|z| z.unsigned_abs() <= 1 << 62) {
-        return Err("a number out of range".into());
-    }
-    Ok(Equation {
-        coefs: NumberList::new(coefs.to_vec(alloc)?),
+fn equation(rt: &(impl Abort + AllocGlobal), coefs: &[i64], rhs: i64) -> Equation {
+    assert!(rt;
+        rhs >= 0 && rhs <= 1 << 62 && coefs.iter().all(|z| z.unsigned_abs() <= 1 << 62),
+        "a number out of range"
+    );
+    let coefs = coefs.to_vec(rt.alloc()).expect(rt, "memory");
+    Equation {
+        coefs: NumberList::new(coefs),
         rhs,
-    })
+    }
 }
 
 // Each equation has the coefficients of its unknowns, and then its right side.
-fn equations(alloc: Global, rows: &[&[i64]]) -> Result<EquationList, Fail> {
-    let mut equations = Vec::new(alloc);
+fn equations(rt: &(impl Abort + AllocGlobal), rows: &[&[i64]]) -> EquationList {
+    let mut equations = Vec::new(rt.alloc());
     for row in rows {
-        let Some((rhs, coefs)) = row.split_last() else {
-            return Err("a row without a right side".into());
-        };
-        equations.push(equation(alloc, coefs, *rhs)?)?;
+        let (rhs, coefs) = row.split_last().expect(rt, "a right side");
+        let equation = equation(rt, coefs, *rhs);
+        equations.push(equation).expect(rt, "memory");
     }
-    Ok(EquationList::new(equations))
+    EquationList::new(equations)
 }
 
 fn system(rt: &impl Abort, unknowns: u32, rows: EquationList) -> System {
@@ -88,22 +88,20 @@ fn write_outcome(
 // How many unknowns, the equations, how many pivots are allowed, and the outcome.
 type Row = (u32, &'static [&'static [i64]], u32, &'static str);
 
-fn has_outcome(rt: &(impl Abort + AllocGlobal), row: &Row) -> Result<(), Fail> {
+fn has_outcome(rt: &(impl Abort + AllocGlobal), row: &Row) {
     let (unknowns, rows, pivots, want) = row;
     let alloc = rt.alloc();
-    let system = system(rt, *unknowns, equations(alloc, rows)?);
+    let system = system(rt, *unknowns, equations(rt, rows));
     let outcome = outcome(rt, alloc, &system, *pivots);
     let mut text = String::new(alloc);
-    write_outcome(&mut text, &outcome)?;
+    write_outcome(&mut text, &outcome).expect(rt, "memory");
     assert_eq!(rt; text.as_str(), *want);
-    Ok(())
 }
 
-fn have_outcomes(rt: &(impl Abort + AllocGlobal), rows: &[Row]) -> Result<(), Fail> {
+fn have_outcomes(rt: &(impl Abort + AllocGlobal), rows: &[Row]) {
     for row in rows {
-        has_outcome(rt, row)?;
+        has_outcome(rt, row);
     }
-    Ok(())
 }
 
 const BIG: i64 = 1 << 62;
@@ -117,8 +115,8 @@ const SOLUTIONS: [Row; 5] = [
 ];
 
 #[test]
-fn finds_solutions(rt: HostRuntime) -> Result<(), Fail> {
-    have_outcomes(&rt, &SOLUTIONS)
+fn finds_solutions(rt: HostRuntime) {
+    have_outcomes(&rt, &SOLUTIONS);
 }
 
 const MULTIPLIERS: [Row; 2] = [
@@ -128,8 +126,8 @@ const MULTIPLIERS: [Row; 2] = [
 ];
 
 #[test]
-fn finds_multipliers(rt: HostRuntime) -> Result<(), Fail> {
-    have_outcomes(&rt, &MULTIPLIERS)
+fn finds_multipliers(rt: HostRuntime) {
+    have_outcomes(&rt, &MULTIPLIERS);
 }
 
 const REFUSALS: [Row; 2] = [
@@ -139,8 +137,8 @@ const REFUSALS: [Row; 2] = [
 ];
 
 #[test]
-fn refuses_wide_numbers_and_spent_budgets(rt: HostRuntime) -> Result<(), Fail> {
-    have_outcomes(&rt, &REFUSALS)
+fn refuses_wide_numbers_and_spent_budgets(rt: HostRuntime) {
+    have_outcomes(&rt, &REFUSALS);
 }
 
 const EIGHT: [&[i64]; 8] = [
@@ -161,8 +159,8 @@ const DECISIONS: [Row; 3] = [
 ];
 
 #[test]
-fn decides_four_unknowns_in_eight_equations(rt: HostRuntime) -> Result<(), Fail> {
-    have_outcomes(&rt, &DECISIONS)
+fn decides_four_unknowns_in_eight_equations(rt: HostRuntime) {
+    have_outcomes(&rt, &DECISIONS);
 }
 
 #[test]

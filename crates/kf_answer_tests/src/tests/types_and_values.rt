@@ -101,20 +101,18 @@ fn has_number(
 }
 
 /// The value with this number is above the one before it.
-fn is_above(rt: &(impl Abort + AllocGlobal), ty: &Ty, n: u32) -> Result<(), Mem>
+fn is_above(rt: &(impl Abort + AllocGlobal), ty: &Ty, n: u32)
     requires formed { IsTrue (well_formed (type_tree ty.now)) }
     requires sized { HasSize (type_tree ty.now) }
     requires below { n < count (type_tree ty.now) }
     requires some { 0 < n }
 {
-    let before = value_at(rt.alloc(), ty, n - 1)?;
-    let value = value_at(rt.alloc(), ty, n)?;
-    assert_eq!(rt;
-        compare(&before, &value),
-        Ordering::Less,
+    let before = value_at(rt.alloc(), ty, n - 1).expect(rt, "memory");
+    let value = value_at(rt.alloc(), ty, n).expect(rt, "memory");
+    assert!(rt;
+        compare(&before, &value) == Ordering::Less,
         "the order of values"
     );
-    Ok(())
 }
 
 /// The type's values have these texts, in this order, and no others; each has the number of its place, which is found
@@ -131,7 +129,7 @@ fn has_values(rt: &(impl Abort + AllocGlobal), ty: &Ty, texts: &[&str]) -> Resul
         has_value(rt, ty, n, text)?;
         has_number(rt, &target, text, Some(u64::from(n)))?;
         if n > 0 {
-            is_above(rt, ty, n)?;
+            is_above(rt, ty, n);
         }
     }
     Ok(())

@@ -60,7 +60,7 @@ fn action(alloc: Global, target: &Target, named: &CertAction) -> Result<Option<A
     }
     entries.sort_unstable_by_key(|entry| entry.value);
     Ok(Some(Action {
-        name: named.name.copy()?,
+        name: named.name.copy(alloc)?,
         gains: GainEntryList::new(entries),
     }))
 }

@@ -6,7 +6,7 @@ use Rattle.kf_hyper.specs.Merged.{AreMerged}
 use Rattle.kf_hyper.proofs.Beliefs.{merged_made, joint_made}
 use Rattle.kf_hyper.proofs.ClassSums.{all_whole}
 use Rattle.kf_hyper.proofs.Ordered.{ordered}
-use Rattle.kf_hyper.proofs.merging.merge.Goals as goal
+use Rattle.kf_hyper.proofs.merging.merge_owned.Goals as goal
 
 pub returns-then-is_alone-clause-merged : goal.returns-then-is_alone-clause-merged
 returns-then-is_alone-clause-merged c =

@@ -15,7 +15,7 @@ use Rattle.kf_simplex.specs.Systems.{LinearSystem, right_column, IsSystem}
 use Rattle.kf_simplex.proofs.Objective.{working_of}
 use Rattle.kf_simplex.proofs.Forms.{IsWorking, Spans, IsBasic, IsPivot, IsObjective, IsLexPositive, Falls}
 use Rattle.kf_simplex.specs.Runs.{IsStep, IsRun, key}
-use Rattle.kf_simplex.specs.Laws.{NoneHas, NoBasisTwice, NoRunReturns}
+use Rattle.kf_simplex.specs.Laws.{MeasureFalls, NoneHas, NoBasisTwice, NoRunReturns}
 use Rattle.kf_frac.proofs.Ring.{ring}
 use Rattle.kf_simplex.proofs.Signs.{product_positive}
 
@@ -215,3 +215,15 @@ run_facts s limit t (u ∷ us) y r =
 pub no_run_returns : NoRunReturns
 no_run_returns s limit [] y r = absurd r
 no_run_returns s limit (t ∷ ts) y r = (run_facts s limit t ts y r).2
+
+pub measure_falls : MeasureFalls
+measure_falls s limit t u ts y r =
+    let g = (run_facts s limit t ts y r.0).0 in let h = step_good s t u g r.2 in
+    let o = g.tableau.objective in let o' = h.tableau.objective in
+    let f = step_falls s t u g r.2 h in (
+      o.scale,
+      o'.scale,
+      (o.scale_positive, o.artificial),
+      (o'.scale_positive, o'.artificial),
+      (f.0, f.1, (λ m l. let a = f.2 m l in omega (arith, ints)), (let a = f.3 in omega (arith, ints))),
+    )

@@ -1,11 +1,11 @@
 -- For bodies: laws of systems and of runs.
-use Rattle.std.specs.Prelude.{◌≡◌, ◌≢◌, ℕ, zero, suc, ◌+◌, ◌<◌, ◌≤◌, ℤ, List, [], ◌∷◌, length, Result, Err}
+use Rattle.std.specs.Prelude.{◌≡◌, ◌≢◌, ℕ, zero, suc, ◌+◌, ◌<◌, ◌≤◌, ℤ, pos, ◌<ℤ◌, List, [], ◌∷◌, length, Result, Err}
 use Rattle.kf_simplex.specs.declared.outcome.Outcome.{Outcome}
 use Rattle.kf_simplex.specs.declared.outcome.SimplexError.{SimplexError}
 use Rattle.kf_simplex.specs.declared.outcome.SimplexError.TheVariants as error
 use Rattle.kf_simplex.specs.Systems.{LinearSystem, IsSystem, SameNumbers, right_column}
-use Rattle.kf_simplex.specs.Tableaus.{Tableau}
-use Rattle.kf_simplex.specs.Runs.{Cause, EndsAt, IsRun}
+use Rattle.kf_simplex.specs.Tableaus.{Tableau, IsArtificial}
+use Rattle.kf_simplex.specs.Runs.{Cause, EndsAt, IsBelow, IsRun}
 use Rattle.kf_simplex.specs.Solutions.{Solves, Refutes, HasNoSolution}
 use Rattle.kf_simplex.specs.Answers.{IsAnswer, IsRight}
 
@@ -25,6 +25,15 @@ NoBasisTwice s (t ∷ ts) = NoneHas s t ts × NoBasisTwice s ts
 -- no run comes back to a basis
 abbrev pub NoRunReturns : Type 0
 NoRunReturns = (s : LinearSystem) (limit : ℕ) (ts : List Tableau) → IsSystem s → IsRun s limit ts → NoBasisTwice s ts
+
+-- the objective row has this one positive number at each basic artificial
+abbrev pub IsScale : LinearSystem → Tableau → ℤ → Type 0
+IsScale s t p = (pos 0 <ℤ p) × ((i : ℕ) → i < s.equations → IsArtificial s (t.basis i) → t.objective (t.basis i) ≡ p)
+
+-- at each step of a run the objective row over its scale, read as its deciding list, is below that of the step before by first difference
+abbrev pub MeasureFalls : Type 0
+MeasureFalls = (s : LinearSystem) (limit : ℕ) (t u : Tableau) (ts : List Tableau) → IsSystem s → IsRun s limit (u ∷ (t ∷ ts))
+    → (p : ℤ) × (q : ℤ) × IsScale s t p × IsScale s u q × IsBelow s u.objective q t.objective p
 
 -- binomial coefficients, by Pascal's rule
 abbrev pub ways : ℕ → ℕ → ℕ

@@ -1,16 +1,18 @@
 //! Laws of the definitions, each a clause of a function that does nothing.
 ghost use Rattle.kf_simplex.specs.Laws.{AgreesAsSystem, AgreesBothWays, AgreesInAnswers, AgreesInEnds};
 ghost use Rattle.kf_simplex.specs.Laws.{AgreesInMultipliers, AgreesInOutcomes, AgreesInRuns, AgreesInSolutions};
-ghost use Rattle.kf_simplex.specs.Laws.{EveryRunEnds, NoRunIsLong, NoRunReturns, OneAnswer, OneEnd, OneResult, SomeAnswer, WeakDuality};
+ghost use Rattle.kf_simplex.specs.Laws.{EveryRunEnds, MeasureFalls, NoRunIsLong, NoRunReturns};
+ghost use Rattle.kf_simplex.specs.Laws.{OneAnswer, OneEnd, OneResult, SomeAnswer, WeakDuality};
 
 /// Where multipliers exist, no solution without negative entries does.
 pub fn weak_duality()
     ensures { WeakDuality }
 {}
 
-/// No basis comes twice in a run.
+/// No basis comes twice in a run, since each pivot lowers the objective row.
 pub fn no_run_returns()
-    ensures { NoRunReturns }
+    ensures bases { NoRunReturns }
+    ensures falls { MeasureFalls }
 {}
 
 /// A run has at most as many tableaus as there are ways to choose a basis.

@@ -6,7 +6,6 @@ use Rattle.std.proofs.Math.Nat.{mul-div_cancel'}
 use Rattle.std.proofs.lemmas.Int.{ints}
 use Rattle.std.proofs.lemmas.List.Elements.{All-head, All-tail, All-cons, All-nil, All-append, All-map, All-get_or, All-from_get_or}
 use Rattle.std.specs.Int.{◌∣◌}
-use Rattle.kf_frac.specs.Divisors.{common_multiple}
 use Rattle.kf_frac.proofs.Multiples.{common_positive, common_divided}
 use Rattle.kf_frac.proofs.Ring.{ring}
 use Rattle.kf_refine.specs.Refinements.{Fraction, entry, IsShaped}

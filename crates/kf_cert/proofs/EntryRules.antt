@@ -1,15 +1,14 @@
 -- The rules on a matrix of named entries, along the entries.
-use Rattle.std.proofs.Common.{◌≡◌, ◌↔◌, ℕ, ◌*◌, ◌/◌, ◌+◌, ◌==◌, ◌<◌, ◌≤◌, List, [], ◌∷◌, All, map, length, get_or, sum_by, Bool, true, false, refl, sym, ap, ◌∙◌, subst, arith, if◌then◌else◌}
+use Rattle.std.proofs.Common.{◌≡◌, ℕ, ◌*◌, ◌/◌, ◌+◌, ◌==◌, ◌<◌, ◌≤◌, List, [], ◌∷◌, All, map, sum_by, Bool, true, false, refl, sym, ap, ◌∙◌, subst, arith, if◌then◌else◌}
 use Rattle.std.specs.Prelude.{flat_map}
 use Rattle.std.specs.Int.{◌∣◌}
 use Rattle.std.specs.List.{list_all}
-use Rattle.std.proofs.Math.IntN.{ℤ, pos, ◌+ℤ◌, ◌*ℤ◌}
+use Rattle.std.proofs.Math.IntN.{ℤ, pos, ◌*ℤ◌}
 use Rattle.std.proofs.Math.Nat.{one-dvd}
 use Rattle.std.proofs.lemmas.Bool.{and_parts, and_from, eq-eqb, eqb-true}
 use Rattle.std.proofs.lemmas.Int.{ints}
 use Rattle.std.proofs.lemmas.List.Elements.{All-head, All-tail, All-nil, All-cons, All-map}
 use Rattle.std.proofs.lemmas.Nat.Gcd.{le_of_dvd}
-use lib.Signed.{◌≤ℤ◌}
 use Rattle.kf_frac.specs.Divisors.{common_multiple}
 use Rattle.kf_frac.specs.Fractions.{limit}
 use Rattle.kf_frac.proofs.CommonMultiples.{lcm_is}
@@ -17,7 +16,7 @@ use Rattle.kf_frac.proofs.Multiples.{lcm_divides, common_positive, common_divide
 use Rattle.kf_hyper.specs.Hypers.{Inner}
 use Rattle.kf_simplex.specs.Base.{total}
 use Rattle.kf_simplex.proofs.Sums.{total-ext}
-use Rattle.kf_refine.specs.Refinements.{HyperTree, Fraction, count, joint, entry, IsShaped, CarriesWeights}
+use Rattle.kf_refine.specs.Refinements.{HyperTree, Fraction, count, joint, CarriesWeights}
 use Rattle.kf_cert.specs.Cells.{column_weight, column_total, IsCarried}
 use Rattle.kf_cert.specs.Certificates.{EntryTree, NamedTree, value_at, stands_at, matrix_of, is_in_order, is_inside, ascends}
 use Rattle.kf_cert.specs.Marks.{IsInRange, SumToOne, denominator, over_one}

@@ -1,5 +1,5 @@
 -- Sums over a matrix of named entries are sums over the entries.
-use Rattle.std.proofs.Common.{◌≡◌, ℕ, ◌+◌, ◌*◌, ◌/◌, ◌<◌, ◌≤◌, ◌&&◌, ◌==◌, List, [], ◌∷◌, All, map, length, get_or, sum_by, Bool, true, false, refl, sym, ap, ◌∙◌, subst, arith, ⊎_elim, if◌then◌else◌}
+use Rattle.std.proofs.Common.{◌≡◌, ℕ, ◌+◌, ◌*◌, ◌/◌, ◌<◌, ◌≤◌, ◌&&◌, ◌==◌, List, [], ◌∷◌, All, map, sum_by, Bool, true, false, refl, sym, ap, ◌∙◌, arith, ⊎_elim, if◌then◌else◌}
 use Rattle.std.specs.Prelude.{⊤, unsigned_abs}
 use Rattle.std.specs.List.{list_all}
 use Rattle.std.proofs.Math.IntN.{ℤ, pos, negsuc, ◌+ℤ◌, ◌*ℤ◌}
@@ -12,12 +12,12 @@ use lib.Signed.{◌≤ℤ◌}
 use Rattle.kf_hyper.specs.Hypers.{Inner}
 use Rattle.kf_simplex.specs.Base.{total}
 use Rattle.kf_simplex.proofs.Sums.{total-ext, total-add, total-single, total_all_zero, total-scale_right, choose, choose-same, choose-other}
-use Rattle.kf_refine.specs.Refinements.{HyperTree, Fraction, count, joint, entry}
+use Rattle.kf_refine.specs.Refinements.{HyperTree, Fraction, count}
 use Rattle.kf_refine.proofs.Spreading.{total-list}
 use Rattle.kf_refine.proofs.Totals.{total_monotone}
-use Rattle.kf_cert.specs.Cells.{total_at, column_weight, column_total}
-use Rattle.kf_cert.specs.Certificates.{EntryTree, value_at, stands_at, is_inside}
-use Rattle.kf_cert.specs.Rows.{IsWithin, AreWithin, amount_of, share_of, row_amount}
+use Rattle.kf_cert.specs.Cells.{total_at, column_total}
+use Rattle.kf_cert.specs.Certificates.{EntryTree, value_at, is_inside}
+use Rattle.kf_cert.specs.Rows.{IsWithin, amount_of, share_of, row_amount}
 use Rattle.kf_cert.specs.declared.matrix_rules.shares.Share.{Share}
 use Rattle.kf_cert.proofs.PlaceOrder.{Above, value_none}
 

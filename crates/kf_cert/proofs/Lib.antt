@@ -1,6 +1,6 @@
 pub mod Accepting
+pub mod ActionSums
 pub mod Carrying
-pub mod ColumnShares
 pub mod Decimals
 pub mod Denominators
 pub mod Digits
@@ -8,9 +8,13 @@ pub mod Each
 pub mod EndsInLf
 pub mod EntryRules
 pub mod EntrySums
+pub mod Exceeding
 pub mod Formed
+pub mod Gaining
 pub mod Gathered
 pub mod Greatest
+pub mod GreatestSum
+pub mod Idle
 pub mod Inners
 pub mod Marking
 pub mod Matching
@@ -20,6 +24,7 @@ pub mod Named
 pub mod NamedEntries
 pub mod NamedRows
 pub mod Numbering
+pub mod OneKey
 pub mod PlaceOrder
 pub mod PlainTexts
 pub mod Printable

@@ -1,9 +1,9 @@
 -- Named entries whose places ascend, and the value that is named for a place.
-use Rattle.std.proofs.Common.{◌≡◌, ◌⊎◌, inl, inr, ⊎_elim, ℕ, zero, suc, ◌+◌, ◌<◌, ◌≤◌, ◌&&◌, ◌==◌, List, [], ◌∷◌, map, length, get_or, drop, ◌-◌, length-drop, Bool, true, false, refl, sym, ap, ◌∙◌, subst, arith, if◌then◌else◌}
+use Rattle.std.proofs.Common.{◌≡◌, ◌⊎◌, inl, inr, ⊎_elim, ℕ, zero, suc, ◌+◌, ◌<◌, ◌≤◌, ◌&&◌, ◌==◌, List, [], ◌∷◌, map, length, get_or, drop, ◌-◌, length-drop, Bool, true, false, refl, sym, ap, ◌∙◌, arith}
 use Rattle.std.specs.Prelude.{⊤, nat_lt}
 use Rattle.std.proofs.Math.IntN.{pos}
-use Rattle.std.proofs.lemmas.Bool.{ltb-true, lt-ltb, le-ltb, eqb-true, eq-eqb, ne_eqb, and_parts, and_left, or_cases, or_left, or_right, or_from, cases_lt, cases_eq, both_ways}
-use Rattle.std.proofs.lemmas.List.{drop_more, get_or_default, length-map}
+use Rattle.std.proofs.lemmas.Bool.{ltb-true, lt-ltb, eqb-true, eq-eqb, ne_eqb, and_parts, and_left, or_cases, or_left, or_right, cases_eq}
+use Rattle.std.proofs.lemmas.List.{drop_more, length-map}
 use Rattle.kf_refine.specs.Refinements.{Fraction}
 use Rattle.kf_cert.specs.Certificates.{EntryTree, stands_at, comes_before, value_at, ascends}
 

@@ -6,6 +6,7 @@ pub mod CertTexts
 -- For bodies
 pub mod Cells
 pub mod Laws
+pub mod NamedGains
 pub mod Naming
 pub mod Reading
 pub mod Rows

@@ -14,13 +14,17 @@ ghost use Rattle.kf_refine.specs.Refinements.{Separates};
 ghost use Rattle.kf_refine.specs.Views.{hyper_tree};
 ghost use Rattle.kf_value.specs.Targets.{Item};
 
+mod excess;
 mod numbering;
+mod posterior;
+mod sums;
 
 use crate::{CertGain, CheckError, Mark, Rule};
 use kf_frac::{Frac, cmp};
-use kf_gain::{Action, ActionList, Gain, GainFault, GainTable, posterior};
+use kf_gain::{Action, ActionList, Gain, GainFault, GainTable};
 use kf_hyper::Hyper;
 use numbering::actions;
+use posterior::posterior;
 use std::alloc::Global;
 use std::cmp::Ordering;
 

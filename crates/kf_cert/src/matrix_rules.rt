@@ -11,7 +11,7 @@ ghost use Rattle.kf_refine.specs.Views.{hyper_tree, matrix_tree, fraction_of};
 
 mod cells;
 mod gathering;
-mod naming;
+mod row_entries;
 mod shares;
 mod sums;
 
@@ -21,7 +21,7 @@ use kf_frac::Frac;
 use kf_hyper::Hyper;
 use kf_refine::Matrix;
 use kf_simplex::FracList;
-use naming::named;
+use row_entries::entries_of;
 use shares::{shares_over, sum_to_one};
 use std::alloc::Global;
 use sums::denominator_within;
@@ -40,7 +40,7 @@ pub(crate) fn check_matrix(
     if !is_shaped(rows, a.count(), b.count()) {
         return Ok(Mark::Rejected(Rule::Shape));
     }
-    let entries = named(alloc, rows)?;
+    let entries = entries_of(alloc, rows)?;
     let mark = check_entries(alloc, a, b, entries.as_slice())?;
     Ok(mark)
 }

@@ -1,9 +1,8 @@
-use Rattle.std.proofs.Common.{◌≡◌, ◌*◌, ◌<◌, ◌≤◌, ℕ, List, All, map, sym, ◌∙◌, subst, ap, true≢false}
+use Rattle.std.proofs.Common.{◌≡◌, ◌*◌, ◌<◌, ◌≤◌, ℕ, List, All, map, sym, ◌∙◌, subst, true≢false}
 use Rattle.kf_frac.specs.Divisors.{common_multiple}
 use Rattle.kf_frac.specs.Fractions.{limit}
 use Rattle.kf_refine.specs.Refinements.{count}
 use Rattle.kf_refine.specs.Views.{hyper_tree}
-use Rattle.kf_cert.specs.Cells.{IsCarried}
 use Rattle.kf_cert.specs.Certificates.{EntryTree, matrix_of}
 use Rattle.kf_cert.specs.Rows.{matrix_between, AreWithin, SumsToOne, dens, share_of}
 use Rattle.kf_cert.specs.Views.{entry_tree}

@@ -1,4 +1,4 @@
-use Rattle.std.proofs.Common.{◌≡◌, ◌≢◌, Ok, Err, List, map, sym, ap, ◌∙◌, subst}
+use Rattle.std.proofs.Common.{◌≢◌, Ok, Err, List, map, sym, ap, ◌∙◌, subst}
 use Rattle.std.proofs.lemmas.Result.{err_from_is_err_and}
 use Rattle.kf_refine.specs.Refinements.{count}
 use Rattle.kf_refine.specs.Views.{hyper_tree}

@@ -1,4 +1,4 @@
-use Rattle.std.proofs.Common.{rules, ◌<◌, ℕ, List, All, sym, subst, length}
+use Rattle.std.proofs.Common.{rules, ◌<◌, All, sym, subst, length}
 use Rattle.std.specs.List.Sorted.{IsNonDecreasingBy}
 use borrow.Author.Tests.{tests}
 use Rattle.std.proofs.lemmas.List.Sorted.{IsNonDecreasingBy-from_sort_by_key, All-permutation}

@@ -4,7 +4,7 @@ use lib.Dec.{ltb, leb}
 use Rattle.std.proofs.lemmas.List.{take_rest}
 use Rattle.std.proofs.lemmas.List.Sorted.{IsPartitionPoint-from_clause, IsPartitionedBy-leb, IsPartitionedBy-ltb, IsNonDecreasingBy-drop, IsNonDecreasingBy-take}
 use Rattle.kf_cert.specs.declared.matrix_rules.shares.Share.{Share}
-use Rattle.kf_cert.proofs.ColumnShares.{column_sums, column_each}
+use Rattle.kf_cert.proofs.OneKey.{key_sums, key_each}
 use Rattle.kf_cert.proofs.matrix_rules.shares.in_column.Goals as goal
 
 pub returns-clause-sums : goal.returns-clause-sums
@@ -21,7 +21,7 @@ returns-clause-sums c =
     (IsPartitionedBy-leb (λ (s : Share). s.column) behind column
     (IsNonDecreasingBy-take (λ (s : Share). s.column) (length shares - start) (drop start shares) (IsNonDecreasingBy-drop (λ (s : Share). s.column) start shares c.requires)))
     (λ a r q k. search (rules, tests)) in
-    column_sums column shares behind (take c.partition_point-end.result behind) start c.partition_point-end.result first (take_rest shares start) second refl
+    key_sums (λ (s : Share). s.column) column shares behind (take c.partition_point-end.result behind) start c.partition_point-end.result first (take_rest shares start) second refl
 
 pub returns-clause-each : goal.returns-clause-each
 returns-clause-each c =
@@ -38,5 +38,5 @@ returns-clause-each c =
     (IsNonDecreasingBy-take (λ (s : Share). s.column) (length shares - start) (drop start shares) (IsNonDecreasingBy-drop (λ (s : Share). s.column) start shares c.requires)))
     (λ a r q k. search (rules, tests)) in
     λ count.
-    column_each column shares behind (take c.partition_point-end.result behind) start c.partition_point-end.result first (take_rest shares start) second refl
+    key_each (λ (s : Share). s.column) column shares behind (take c.partition_point-end.result behind) start c.partition_point-end.result first (take_rest shares start) second refl
     (λ (s : Share). s.row < count)

@@ -1,4 +1,4 @@
-use Rattle.std.proofs.Common.{◌≡◌, ◌<◌, ℕ, List, All, rules, refl, sym, ◌∙◌, subst, replicate, get_or, true≢false}
+use Rattle.std.proofs.Common.{◌≡◌, ℕ, All, rules, refl, sym, subst, get_or, true≢false}
 use Rattle.std.proofs.lemmas.List.{get_or_default}
 use Rattle.kf_cert.specs.declared.matrix_rules.shares.Share.{Share}
 use Rattle.kf_cert.proofs.RowShares.{missing_start, missing_more, too_much, nothing_missing, sums_nothing}

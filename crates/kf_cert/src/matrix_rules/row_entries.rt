@@ -30,7 +30,7 @@ fn add_entries(entries: &mut Vec<NamedEntry>, i: usize, row: &[Frac]) -> Result<
 }
 
 /// Those that aren't 0, row by row.
-pub(super) fn named(alloc: Global, rows: &[FracList]) -> Result<Vec<NamedEntry>, Mem>
+pub(super) fn entries_of(alloc: Global, rows: &[FracList]) -> Result<Vec<NamedEntry>, Mem>
     ensures { IfOk result (λ entries. map entry_tree entries.items ≡ rows_entries 0 (rows_tree rows.now)) }
 {
     let mut entries = Vec::new(alloc);

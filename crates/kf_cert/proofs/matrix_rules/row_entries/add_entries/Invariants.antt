@@ -2,7 +2,7 @@ use Rattle.std.proofs.Common.{◌≡◌, ◌++◌, map, drop}
 use Rattle.kf_cert.specs.CertTexts.{row_entries}
 use Rattle.kf_cert.specs.Rows.{row_tree}
 use Rattle.kf_cert.specs.Views.{entry_tree}
-use Rattle.kf_cert.proofs.matrix_rules.naming.add_entries.Given as goal
+use Rattle.kf_cert.proofs.matrix_rules.row_entries.add_entries.Given as goal
 
 abbrev pub invariant-loop-j : goal.invariant-loop-j
 invariant-loop-j l =

@@ -1,0 +1,10 @@
+pub mod Mixing
+pub mod Worths
+pub mod Refining
+pub mod Squares
+pub mod InOrder
+pub mod Ordering
+pub mod Cascading
+pub mod Growing
+pub mod Leaking
+pub mod HyperWorth

@@ -1,0 +1,3 @@
+-- For bodies
+pub mod Channels
+pub mod Order

@@ -1,0 +1,13 @@
+mod AllTasks
+mod AskedTasks
+mod Composed
+mod Counting
+mod FirstFaults
+mod LastCounts
+mod Numerals
+mod Operated
+mod Placed
+mod Reading
+mod Renumbered
+mod Telling
+mod Within

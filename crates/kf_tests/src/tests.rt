@@ -2,16 +2,16 @@
 mod jobs;
 mod runs;
 
-use std::alloc::{AllocError, Global};
+use std::process::Abort;
 
 // The words of a line, between single spaces; the empty line has none.
-fn words_of(alloc: Global, line: &str) -> Result<Vec<String>, AllocError> {
-    let mut words = Vec::new(alloc);
-    if line.is_empty() {
-        return Ok(words);
+fn words_of(rt: &(impl Abort + AllocGlobal), line: &str) -> Vec<String> {
+    let mut words = Vec::new(rt.alloc());
+    if !line.is_empty() {
+        for word in line.split(' ') {
+            let word = String::from_str(rt.alloc(), word).expect(rt, "memory");
+            words.push(word).expect(rt, "memory");
+        }
     }
-    for word in line.split(' ') {
-        words.push(String::from_str(alloc, word)?)?;
-    }
-    Ok(words)
+    words
 }

@@ -1,57 +1,68 @@
 // Distributions, each with what it chooses, or with its fault; all worked out by hand.
+ghost use Rattle.kf_core.specs.Views.{program_tree};
+ghost use Rattle.kf_core.specs.Checked.{IsChecked};
+
 use crate::tests::programs::{first_observed, has_a_store, observing};
 use crate::tests::*;
 use itoa::Buffer;
-use kf_eval::{Choice, ChoiceError, choices, is_always_sure};
-use kf_value::print_value;
+use kf_eval::{Choice, ChoiceError, Weighted, choices, is_always_sure};
+use kf_value::{Mem, print_value};
+use std::alloc::{AllocError, Global};
 
-// What the distribution chooses where `x` is 0, or its fault.
-fn choices_of(alloc: Global, dist: &str) -> Result<Result<Choice, ChoiceError>, Fail> {
-    let program = observing(alloc, dist)?;
-    if !has_a_store(&program.shape) {
-        return Err(Fail::new("there is no store"));
-    }
-    match first_observed(&program) {
-        Some(d) => Ok(choices(alloc, d, &program.shape, 0)),
-        None => Err(Fail::new("nothing is observed")),
-    }
+pub(super) fn write_str(text: &mut Vec<u8>, name: &str) -> Result<(), Mem> {
+    text.extend_from_slice(name.as_bytes())?;
+    Ok(())
+}
+
+fn write_weight(text: &mut Vec<u8>, weight: u128) -> Result<(), AllocError> {
+    text.extend_from_slice(Buffer::new().format(weight).as_bytes())
+}
+
+fn write_weighted(alloc: Global, text: &mut Vec<u8>, item: &Weighted) -> Result<(), Mem> {
+    print_value(alloc, &item.value, text)?;
+    text.push(b' ')?;
+    write_weight(text, item.weight)?;
+    write_str(text, ", ")
 }
 
 // Each value and its weight, then the sum of the weights.
-pub(super) fn print_choice(alloc: Global, choice: &Choice) -> Result<Vec<u8>, Fail> {
-    let mut text = Vec::new(alloc);
-    let mut digits = Buffer::new();
+pub(super) fn write_choice(alloc: Global, text: &mut Vec<u8>, choice: &Choice) -> Result<(), Mem> {
     for item in choice.items.as_slice() {
-        print_value(alloc, &item.value, &mut text)?;
-        text.push(b' ')?;
-        text.extend_from_slice(digits.format(item.weight).as_bytes())?;
-        text.extend_from_slice(b", ")?;
+        write_weighted(alloc, text, item)?;
     }
-    text.extend_from_slice(digits.format(choice.total).as_bytes())?;
-    Ok(text)
+    write_weight(text, choice.total)?;
+    Ok(())
 }
 
-// The name of a fault; none of want of memory, which is none of the distribution.
-fn fault_name(error: ChoiceError) -> Option<&'static str> {
-    match error {
-        ChoiceError::DivZero => Some("DivZero"),
-        ChoiceError::ArithWide => Some("ArithWide"),
-        ChoiceError::NoWeight => Some("NoWeight"),
-        ChoiceError::NegativeWeight => Some("NegativeWeight"),
-        ChoiceError::RangeLong => Some("RangeLong"),
-        ChoiceError::Mem => None,
+fn fault_name(fault: ChoiceError) -> &'static str {
+    match fault {
+        ChoiceError::DivZero => "DivZero",
+        ChoiceError::ArithWide => "ArithWide",
+        ChoiceError::NoWeight => "NoWeight",
+        ChoiceError::NegativeWeight => "NegativeWeight",
+        ChoiceError::RangeLong => "RangeLong",
+        ChoiceError::Mem => "want of memory",
     }
 }
 
 // What is chosen, or the fault's name.
-fn shown(alloc: Global, choice: Result<Choice, ChoiceError>) -> Result<Vec<u8>, Fail> {
-    match choice {
-        Ok(choice) => print_choice(alloc, &choice),
-        Err(error) => match fault_name(error) {
-            Some(name) => Ok(name.as_bytes().to_vec(alloc)?),
-            None => Err(Fail::new("want of memory")),
-        },
-    }
+fn text_of(rt: &(impl Abort + AllocGlobal), choice: &Result<Choice, ChoiceError>) -> Vec<u8> {
+    let mut text = Vec::new(rt.alloc());
+    let written = match choice {
+        Ok(choice) => write_choice(rt.alloc(), &mut text, choice),
+        Err(fault) => write_str(&mut text, fault_name(*fault)),
+    };
+    written.expect(rt, "memory");
+    text
+}
+
+// What is chosen by the distribution that the program observes where `x` is 0, or its fault.
+fn choice_text(rt: &(impl Abort + AllocGlobal), program: &Program) -> Vec<u8>
+    requires { IsChecked (program_tree program.now) }
+{
+    assert!(rt; has_a_store(&program.shape), "there is no store");
+    let observed = first_observed(program).expect(rt, "a distribution");
+    text_of(rt, &choices(rt.alloc(), observed, &program.shape, 0))
 }
 
 const ROWS: [(&str, &str); 12] = [
@@ -76,16 +87,20 @@ const ROWS: [(&str, &str); 12] = [
 ];
 
 #[test]
-fn choices_of_distributions(rt: HostRuntime) -> Result<(), Fail> {
+fn choices_of_distributions(rt: HostRuntime) {
     for (dist, want) in &ROWS {
-        let choice = choices_of(rt.alloc(), dist)?;
-        let text = shown(rt.alloc(), choice)?;
-        assert_eq!(rt; text.as_slice(), want.as_bytes(), "{dist}");
+        let text = choice_text(&rt, &observing(&rt, dist));
+        assert!(rt; text.as_slice() == want.as_bytes(), "{dist}");
     }
-    Ok(())
 }
 
-// Distributions, each with whether its form tells that it chooses one value.
+// Whether the form of the distribution that the program observes shows that it chooses one value.
+fn observes_one_value(rt: &impl Abort, program: &Program) -> bool
+    requires { IsChecked (program_tree program.now) }
+{
+    is_always_sure(first_observed(program).expect(rt, "a distribution"))
+}
+
 const FORMS: [(&str, bool); 8] = [
     ("x", true),
     ("(x, true) = (x mod 3, x < 5)", true),
@@ -98,13 +113,9 @@ const FORMS: [(&str, bool); 8] = [
 ];
 
 #[test]
-fn distributions_of_one_value(rt: HostRuntime) -> Result<(), Fail> {
+fn distributions_of_one_value(rt: HostRuntime) {
     for (dist, want) in &FORMS {
-        let program = observing(rt.alloc(), dist)?;
-        let Some(d) = first_observed(&program) else {
-            return Err(Fail::new("nothing is observed"));
-        };
-        assert_eq!(rt; is_always_sure(d), *want, "{dist}");
+        let sure = observes_one_value(&rt, &observing(&rt, dist));
+        assert!(rt; sure == *want, "{dist}");
     }
-    Ok(())
 }

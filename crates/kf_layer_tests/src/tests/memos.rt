@@ -1,76 +1,80 @@
 // What a distribution chooses in each store, and at which place that is kept; all worked out by hand.
-ghost use Rattle.std.specs.Prelude.{OnOk};
 ghost use Rattle.kf_value.specs.Kinds.{KindTree};
-ghost use Rattle.kf_core.specs.Checked.{DistKinded};
-ghost use Rattle.kf_core.specs.Views.{dx_tree};
+ghost use Rattle.kf_core.specs.Checked.{DistKinded, IsChecked};
+ghost use Rattle.kf_core.specs.Views.{dx_tree, program_tree};
 ghost use Rattle.kf_eval.specs.Kinds.{shape_kinds};
 ghost use Rattle.kf_eval.specs.Memos.{IsMemoOf};
 
-use crate::tests::choices::print_choice;
-use crate::tests::programs::{first_observed, is_store, short_program};
+use crate::tests::choices::{write_choice, write_str};
+use crate::tests::programs::{first_observed, is_store};
 use crate::tests::*;
 use itoa::Buffer;
 use kf_core::Dx;
 use kf_eval::{Choice, Memo};
-use kf_value::Shape;
+use kf_value::{Mem, Shape};
+use std::alloc::Global;
 
 // What is chosen, and its place.
-fn line_of(alloc: Global, place: usize, choice: &Choice) -> Result<Vec<u8>, Fail> {
-    let mut line = print_choice(alloc, choice)?;
-    let mut digits = Buffer::new();
-    line.extend_from_slice(b" at ")?;
-    line.extend_from_slice(digits.format(place).as_bytes())?;
-    line.push(b'\n')?;
-    Ok(line)
+fn write_line(
+    alloc: Global,
+    lines: &mut Vec<u8>,
+    place: usize,
+    choice: &Choice,
+) -> Result<(), Mem> {
+    write_choice(alloc, lines, choice)?;
+    write_str(lines, " at ")?;
+    write_str(lines, Buffer::new().format(place))?;
+    write_str(lines, "\n")
 }
 
 // What is chosen in a store, and the place where it is kept.
-fn kept_in(
-    alloc: Global,
+fn write_kept(
+    rt: &(impl Abort + AllocGlobal),
+    lines: &mut Vec<u8>,
     memo: &mut Memo,
     shape: &Shape,
     dist: &Dx,
     store: u64,
-) -> Result<Vec<u8>, Fail>
+)
     requires kinded { (k : KindTree) × DistKinded (shape_kinds shape.now) (dx_tree dist.now) k }
     requires memo { IsMemoOf shape.now (dx_tree dist.now) memo.old }
-    ensures { OnOk result (IsMemoOf shape.now (dx_tree dist.now) memo.new) }
+    ensures { IsMemoOf shape.now (dx_tree dist.now) memo.new }
 {
-    if !is_store(shape, store) {
-        return Err(Fail::new("there is no such store"));
-    }
-    let Ok(place) = memo.find(alloc, shape, dist, store) else {
-        return Err(Fail::new("nothing is chosen"));
-    };
-    line_of(alloc, place, memo.at(place))
+    assert!(rt; is_store(shape, store), "there is no such store");
+    let alloc = rt.alloc();
+    let place = memo.find(alloc, shape, dist, store).expect(rt, "a place");
+    write_line(alloc, lines, place, memo.at(place)).expect(rt, "memory");
 }
 
 // The same of the first stores, one after the other.
-fn kept_in_first(
-    alloc: Global,
+fn lines_of(
+    rt: &(impl Abort + AllocGlobal),
     shape: &Shape,
     dist: &Dx,
     stores: u64,
     asked: usize,
-) -> Result<Vec<u8>, Fail>
+) -> Vec<u8>
     requires { (k : KindTree) × DistKinded (shape_kinds shape.now) (dx_tree dist.now) k }
 {
-    let mut memo = Memo::new(alloc, shape, dist, asked)?;
-    let mut lines = Vec::new(alloc);
+    let mut memo = Memo::new(rt.alloc(), shape, dist, asked).expect(rt, "memory");
+    let mut lines = Vec::new(rt.alloc());
     for store in 0..stores {
-        let line = kept_in(alloc, &mut memo, shape, dist, store)?;
-        lines.extend_from_slice(&line)?;
+        write_kept(rt, &mut lines, &mut memo, shape, dist, store);
     }
-    Ok(lines)
+    lines
 }
 
-// The same of what the program of a text observes first.
-fn kept_in_stores(alloc: Global, text: &str, stores: u64, asked: usize) -> Result<Vec<u8>, Fail> {
-    let program = short_program(alloc, text)?;
-    match first_observed(&program) {
-        Some(dist) => kept_in_first(alloc, &program.shape, dist, stores, asked),
-        None => Err(Fail::new("nothing is observed")),
-    }
+// The same of what the program observes first.
+fn kept_text(
+    rt: &(impl Abort + AllocGlobal),
+    program: &Program,
+    stores: u64,
+    asked: usize,
+) -> Vec<u8>
+    requires { IsChecked (program_tree program.now) }
+{
+    let observed = first_observed(program).expect(rt, "a distribution");
+    lines_of(rt, &program.shape, observed, stores, asked)
 }
 
 // The text of a program, its number of stores, how many the memo is told will be asked for, and the lines.
@@ -102,10 +106,9 @@ const ROWS: [(&str, u64, usize, &str); 4] = [
 ];
 
 #[test]
-fn choices_are_kept(rt: HostRuntime) -> Result<(), Fail> {
+fn choices_are_kept(rt: HostRuntime) {
     for (text, stores, asked, want) in &ROWS {
-        let lines = kept_in_stores(rt.alloc(), text, *stores, *asked)?;
-        assert_eq!(rt; lines.as_slice(), want.as_bytes(), "{text}");
+        let lines = kept_text(&rt, &program_of(&rt, text), *stores, *asked);
+        assert!(rt; lines.as_slice() == want.as_bytes(), "{text}");
     }
-    Ok(())
 }

@@ -7,33 +7,42 @@ const WORDS: [&str; 27] = [
     "div", "mod", "inter", "~", "size", "cond", "xor", "implies", "subset", "min", "max", "abs",
 ];
 
-/// Each word is found at its place.
-fn has_places(rt: &impl Abort, table: &[OpRow], words: &[&str]) {
-    for (place, word) in words.iter().enumerate() {
-        assert_eq!(rt; find(table, word), Some(place), "the place of {word}");
+#[test]
+fn finds_each_word_at_its_place(rt: HostRuntime) {
+    let rows = operators();
+    for (place, word) in WORDS.iter().enumerate() {
+        assert!(rt; find(&rows, word) == Some(place), "the place of {word}");
     }
 }
 
 /// No word is found.
 fn has_none(rt: &impl Abort, table: &[OpRow], words: &[&str]) {
     for word in words {
-        assert_eq!(rt; find(table, word), None, "no place of {word}");
+        assert!(rt; find(table, word).is_none(), "no place of {word}");
     }
 }
 
+const NO_WORDS: [&str; 6] = ["nor", "", "OR", "orr", "o", "<>"];
+
 #[test]
-fn finds_first_places(rt: HostRuntime) {
-    let rows = operators();
-    has_places(&rt, &rows, &WORDS);
-    has_none(&rt, &rows, &["nor", "", "OR", "orr", "o", "<>"]);
+fn finds_no_other_word(rt: HostRuntime) {
+    has_none(&rt, &operators(), &NO_WORDS);
     has_none(&rt, &[], &WORDS);
+}
+
+#[test]
+fn finds_the_first_of_two(rt: HostRuntime) {
+    let rows = operators();
     let twice = [rows[4], rows[0], rows[1], rows[0]];
-    assert_eq!(rt; find(&twice, "or"), Some(1), "the first of two");
+    assert_eq!(rt; find(&twice, "or"), Some(1));
 }
 
 #[test]
 fn has_the_row_of_each_operator(rt: HostRuntime) {
-    assert_eq!(rt; operator_row(Op::Or).word, "or");
-    assert_eq!(rt; operator_row(Op::Subtract).level, 5);
-    assert_eq!(rt; operator_row(Op::Cond).arity, 3);
+    let (or, minus, cond) = (
+        operator_row(Op::Or),
+        operator_row(Op::Subtract),
+        operator_row(Op::Cond),
+    );
+    assert_eq!(rt; (or.word, minus.level, cond.arity), ("or", 5, 3));
 }

@@ -1,28 +1,45 @@
 // What is read of a text, and where its parts stand.
 use crate::tests::*;
-use kf_ast::{DistNode, ExprNode, Source, Stmt, StmtNode};
-use kf_parse::ParseError;
+use kf_ast::{Decl, DistNode, ExprNode, Item, Stmt, StmtNode};
 
 const TEXT: &str =
     "var a : bool := true; vis b : (0..1, set of bool) := uniform s; about a, old b; a := a or b and a; if flip 1/3 { } else { skip; }";
 
-/// The source of a text that has tokens; `Mem` stands for all others.
-fn source_of(alloc: Global, text: &str) -> Result<Source, ParseError> {
-    if text.len() > 1000 {
-        return Err(ParseError::Mem);
-    }
-    match lex(alloc, text.as_bytes()) {
-        Ok(tokens) => parse(alloc, text.as_bytes(), &tokens),
-        Err(_) => Err(ParseError::Mem),
-    }
+/// Each variable with the place of its name, and whether it is visible.
+const DECLARED: [(&str, u32, bool); 2] = [("a", 4, false), ("b", 26, true)];
+
+fn declares(decls: &[Decl]) -> bool {
+    decls.len() == DECLARED.len()
+        && decls.iter().zip(&DECLARED).all(|(d, want)| (d.name.text.as_str(), d.name.at, d.visible)
+            == *want)
 }
 
-/// The row and the place of the operator that the first statement assigns, and how many arguments it has.
-fn first_assigned(body: &[Stmt]) -> Option<(usize, u32, usize)> {
-    let [first, ..] = body else {
-        return None;
-    };
-    let StmtNode::Assign { dist, .. } = &first.node else {
+#[test]
+fn variables_of_a_text(rt: HostRuntime) {
+    let source = source_of(&rt, TEXT);
+    assert!(rt; declares(source.decls.as_slice()));
+}
+
+/// The place of the name of each item of the target, and whether it is the first value.
+const TARGET: [(u32, bool); 2] = [(70, false), (77, true)];
+
+fn is_target(items: &[Item]) -> bool {
+    items.len() == TARGET.len()
+        && items
+            .iter()
+            .zip(&TARGET)
+            .all(|(item, want)| (item.name.at, item.initial) == *want)
+}
+
+#[test]
+fn target_of_a_text(rt: HostRuntime) {
+    let source = source_of(&rt, TEXT);
+    assert!(rt; is_target(source.target.as_slice()));
+}
+
+/// The row and the place of the operator that a statement assigns, and how many arguments it has.
+fn assigned(statement: &Stmt) -> Option<(usize, u32, usize)> {
+    let StmtNode::Assign { dist, .. } = &statement.node else {
         return None;
     };
     let DistNode::Sure(expr) = &dist.node else {
@@ -34,33 +51,16 @@ fn first_assigned(body: &[Stmt]) -> Option<(usize, u32, usize)> {
     Some((usize::from(*row), expr.at, args.as_slice().len()))
 }
 
+/// Whether the first of two statements assigns the operator that binds least, and the second is the conditional.
+fn are_statements(body: &[Stmt]) -> bool {
+    let [first, second] = body else {
+        return false;
+    };
+    assigned(first) == Some((0, 85, 2)) && second.at == 99
+}
+
 #[test]
-fn parts_of_a_text(rt: HostRuntime) -> Result<(), Fail> {
-    let source = source_of(rt.alloc(), TEXT)?;
-    let (decls, items, body) = (
-        source.decls.as_slice(),
-        source.target.as_slice(),
-        source.body.as_slice(),
-    );
-    assert_eq!(rt; (decls.len(), items.len(), body.len()), (2, 2, 2));
-    for (place, name, at, visible) in [(0, "a", 4, false), (1, "b", 26, true)] {
-        if let Some(decl) = decls.get(place) {
-            assert_eq!(rt; decl.name.text.as_str(), name);
-            assert_eq!(rt; (decl.name.at, decl.visible), (at, visible), "{name}");
-        }
-    }
-    for (place, at, initial) in [(0, 70, false), (1, 77, true)] {
-        if let Some(item) = items.get(place) {
-            assert_eq!(rt; (item.name.at, item.initial), (at, initial));
-        }
-    }
-    assert_eq!(rt;
-        first_assigned(body),
-        Some((0, 85, 2)),
-        "the operator that binds least"
-    );
-    if let Some(second) = body.get(1) {
-        assert_eq!(rt; second.at, 99, "the conditional");
-    }
-    Ok(())
+fn statements_of_a_text(rt: HostRuntime) {
+    let source = source_of(&rt, TEXT);
+    assert!(rt; are_statements(source.body.as_slice()));
 }

@@ -1,5 +1,5 @@
 // Programs of short texts, their stores, and what they observe first.
-ghost use Rattle.std.specs.Prelude.{◌≡◌, ◌<◌, length, true, IfOk, IfSome};
+ghost use Rattle.std.specs.Prelude.{◌≡◌, ◌<◌, length, true, IfSome};
 ghost use Rattle.kf_value.specs.Kinds.{KindTree};
 ghost use Rattle.kf_value.specs.Shapes.{shape_size, shape_types};
 ghost use Rattle.kf_value.specs.Types.{product};
@@ -40,16 +40,6 @@ pub(super) fn is_store(shape: &Shape, store: u64) -> bool
     }
 }
 
-// The program of a text that isn't too long.
-pub(super) fn short_program(alloc: Global, text: &str) -> Result<Program, Fail>
-    ensures { IfOk result (λ p. IsChecked (program_tree p)) }
-{
-    if text.len() > 1000 {
-        return Err(Fail::new("the text is too long"));
-    }
-    program_of(alloc, text)
-}
-
 // The distribution that a statement observes.
 fn observed_by(statement: &St) -> Option<&Dx>
     ensures { IfSome result (λ d. st_tree statement.now ≡ Observe (dx_tree d.now)) }
@@ -79,11 +69,9 @@ pub(super) fn has_a_store(shape: &Shape) -> bool
 }
 
 // The program that observes this where `x` is 0.
-pub(super) fn observing(alloc: Global, what: &str) -> Result<Program, Fail>
-    ensures { IfOk result (λ p. IsChecked (program_tree p)) }
+pub(super) fn observing(rt: &(impl Abort + AllocGlobal), what: &str) -> Program
+    ensures { IsChecked (program_tree result) }
 {
-    let mut text = String::from_str(alloc, "var x : 0..0 := 0;\nobserve ")?;
-    text.push_str(what)?;
-    text.push_str(";\n")?;
-    short_program(alloc, text.as_str())
+    let text = format!(in rt.alloc(); "var x : 0..0 := 0;\nobserve {what};\n");
+    program_of(rt, text.expect(rt, "memory").as_str())
 }

@@ -5,6 +5,7 @@ ghost use Rattle.kf_core.specs.Dxs.{dx_at, Sure};
 ghost use Rattle.kf_core.specs.Checked.{IsChecked};
 ghost use Rattle.kf_eval.specs.Kinds.{shape_kinds, IsKinded};
 
+use crate::tests::choices::write_str;
 use crate::tests::programs::{first_observed, has_a_store, observing};
 use crate::tests::*;
 use kf_core::{Dx, DxNode, Ex, Program};
@@ -29,28 +30,32 @@ fn observed(program: &Program) -> Option<&Ex>
     expression_of(first_observed(program)?)
 }
 
-// The value of the expression where `x` is 0, or its fault.
-fn value_of(alloc: Global, expression: &str) -> Result<Result<Value, EvalError>, Fail> {
-    let program = observing(alloc, expression)?;
-    if !has_a_store(&program.shape) {
-        return Err(Fail::new("there is no store"));
-    }
-    match observed(&program) {
-        Some(e) => Ok(eval(alloc, e, &program.shape, 0)),
-        None => Err(Fail::new("nothing is observed")),
+fn fault_name(fault: EvalError) -> &'static str {
+    match fault {
+        EvalError::DivZero => "DivZero",
+        EvalError::ArithWide => "ArithWide",
+        EvalError::Mem => "want of memory",
     }
 }
 
 // What the value prints as, or the fault's name.
-fn shown(alloc: Global, value: Result<Value, EvalError>) -> Result<Vec<u8>, Fail> {
-    let mut text = Vec::new(alloc);
-    match value {
-        Ok(value) => print_value(alloc, &value, &mut text)?,
-        Err(EvalError::DivZero) => text.extend_from_slice(b"DivZero")?,
-        Err(EvalError::ArithWide) => text.extend_from_slice(b"ArithWide")?,
-        Err(EvalError::Mem) => return Err(Fail::new("want of memory")),
-    }
-    Ok(text)
+fn text_of(rt: &(impl Abort + AllocGlobal), value: &Result<Value, EvalError>) -> Vec<u8> {
+    let mut text = Vec::new(rt.alloc());
+    let written = match value {
+        Ok(value) => print_value(rt.alloc(), value, &mut text),
+        Err(fault) => write_str(&mut text, fault_name(*fault)),
+    };
+    written.expect(rt, "memory");
+    text
+}
+
+// The value of what the program observes where `x` is 0, or its fault.
+fn value_text(rt: &(impl Abort + AllocGlobal), program: &Program) -> Vec<u8>
+    requires { IsChecked (program_tree program.now) }
+{
+    assert!(rt; has_a_store(&program.shape), "there is no store");
+    let observed = observed(program).expect(rt, "an expression");
+    text_of(rt, &eval(rt.alloc(), observed, &program.shape, 0))
 }
 
 const ROWS: [(&str, &str); 14] = [
@@ -77,11 +82,9 @@ const ROWS: [(&str, &str); 14] = [
 ];
 
 #[test]
-fn values_of_expressions(rt: HostRuntime) -> Result<(), Fail> {
+fn values_of_expressions(rt: HostRuntime) {
     for (expression, want) in &ROWS {
-        let value = value_of(rt.alloc(), expression)?;
-        let text = shown(rt.alloc(), value)?;
-        assert_eq!(rt; text.as_slice(), want.as_bytes(), "{expression}");
+        let text = value_text(&rt, &observing(&rt, expression));
+        assert!(rt; text.as_slice() == want.as_bytes(), "{expression}");
     }
-    Ok(())
 }

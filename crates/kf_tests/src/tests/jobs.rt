@@ -2,7 +2,6 @@
 use crate::tests::words_of;
 use kf_top::{GainWord, Job, WordsError, read_words};
 use std::process::Abort;
-use std::test::Fail;
 
 // The command `leak` with its gain.
 fn leak_by(gain: &GainWord) -> &'static str {
@@ -103,202 +102,170 @@ fn files_of(job: &Job) -> (&'static str, &str, &str, &str) {
     }
 }
 
-// The words of the line ask for this.
-fn asks_for(
-    rt: &(impl Abort + AllocGlobal),
-    line: &str,
-    want: (&'static str, &'static str, u32),
-) -> Result<(), Fail> {
-    let words = words_of(rt.alloc(), line)?;
-    match read_words(rt.alloc(), &words) {
-        Ok(job) => {
-            let (command, file, turns) = parts(&job);
-            assert!(rt;
-                command == want.0 && file == want.1 && turns == want.2,
-                "{line}"
-            );
-            Ok(())
-        }
-        Err(_) => Err(Fail::new("refused")),
-    }
+// What the words of the line ask for.
+fn job_of(rt: &(impl Abort + AllocGlobal), line: &str) -> Result<Job, WordsError> {
+    read_words(rt.alloc(), &words_of(rt, line))
 }
 
-// The words of the line ask for this of two programs.
-fn asks_of_two(
-    rt: &(impl Abort + AllocGlobal),
-    line: &str,
-    want: (&'static str, &'static str, &'static str, &'static str),
-) -> Result<(), Fail> {
-    let words = words_of(rt.alloc(), line)?;
-    match read_words(rt.alloc(), &words) {
-        Ok(job) => {
-            let (command, cert, a, b) = files_of(&job);
-            assert!(rt;
-                command == want.0 && cert == want.1 && a == want.2 && b == want.3,
-                "{line}"
-            );
-            Ok(())
-        }
-        Err(_) => Err(Fail::new("refused")),
-    }
-}
-
-// The words of the line ask for nothing.
-fn is_usage(rt: &(impl Abort + AllocGlobal), line: &str) -> Result<(), Fail> {
-    let words = words_of(rt.alloc(), line)?;
-    match read_words(rt.alloc(), &words) {
-        Err(WordsError::Usage) => Ok(()),
-        _ => Err(Fail::new("not refused")),
-    }
-}
-
-#[test]
-fn words_that_are_taken(rt: HostRuntime) -> Result<(), Fail> {
-    for (line, want) in [
-        ("kuifje hyper p.kf", ("hyper", "p.kf", 1024)),
-        ("kuifje traces p.kf", ("traces", "p.kf", 1024)),
-        ("kuifje channel p.kf", ("channel", "p.kf", 1024)),
-        ("kuifje trail p.kf --turns 9", ("trail", "p.kf", 9)),
-        ("kuifje capacity p.kf --turns 9", ("capacity", "p.kf", 9)),
-        (
-            "kuifje attack p.kf --gain bayes",
-            ("attack bayes", "p.kf", 1024),
-        ),
-        (
-            "kuifje --gain table:g.json attack p.kf",
-            ("attack table", "p.kf", 1024),
-        ),
-        ("kuifje reach p.kf 01/001", ("reach 1/1", "p.kf", 1024)),
-        (
-            "kuifje reach --turns 2 p.kf 999999999/999999999",
-            ("reach 1", "p.kf", 2),
-        ),
-        ("kuifje make 00001 --turns 9", ("make 1", "", 9)),
-        ("kuifje make 60", ("make 60", "", 1024)),
-        ("--help hyper p.kf", ("hyper", "p.kf", 1024)),
-        ("kuifje hyper --turns 5 p.kf", ("hyper", "p.kf", 5)),
-        ("kuifje hyper p.kf --turns=5", ("hyper", "p.kf", 5)),
-        ("kuifje --turns 5 hyper p.kf", ("hyper", "p.kf", 5)),
-        ("kuifje hyper p.kf --turns 00005", ("hyper", "p.kf", 5)),
-        ("kuifje hyper p.kf --turns 65535", ("hyper", "p.kf", 65535)),
-        ("kuifje hyper -- p.kf", ("hyper", "p.kf", 1024)),
-        ("kuifje hyper -- -p.kf", ("hyper", "-p.kf", 1024)),
-        ("kuifje -- hyper --json", ("hyper", "--json", 1024)),
-        ("kuifje hyper -", ("hyper", "-", 1024)),
-        ("kuifje hyper ", ("hyper", "", 1024)),
-        ("kuifje hyper hyper", ("hyper", "hyper", 1024)),
-        (
-            "kuifje leak p.kf --gain bayes",
-            ("leak bayes", "p.kf", 1024),
-        ),
-        (
-            "kuifje --gain=tries:00002 leak p.kf",
-            ("leak tries:2", "p.kf", 1024),
-        ),
-        (
-            "kuifje leak --gain guessing p.kf --turns 7",
-            ("leak guessing", "p.kf", 7),
-        ),
-        (
-            "kuifje leak p.kf --gain table:g.json",
-            ("leak table", "p.kf", 1024),
-        ),
-    ] {
-        asks_for(&rt, line, want)?;
-    }
-    Ok(())
-}
+// A line of words, and the parts of the job that they ask for.
+const TAKEN: [(&str, (&str, &str, u32)); 27] = [
+    ("kuifje hyper p.kf", ("hyper", "p.kf", 1024)),
+    ("kuifje traces p.kf", ("traces", "p.kf", 1024)),
+    ("kuifje channel p.kf", ("channel", "p.kf", 1024)),
+    ("kuifje trail p.kf --turns 9", ("trail", "p.kf", 9)),
+    ("kuifje capacity p.kf --turns 9", ("capacity", "p.kf", 9)),
+    (
+        "kuifje attack p.kf --gain bayes",
+        ("attack bayes", "p.kf", 1024),
+    ),
+    (
+        "kuifje --gain table:g.json attack p.kf",
+        ("attack table", "p.kf", 1024),
+    ),
+    ("kuifje reach p.kf 01/001", ("reach 1/1", "p.kf", 1024)),
+    (
+        "kuifje reach --turns 2 p.kf 999999999/999999999",
+        ("reach 1", "p.kf", 2),
+    ),
+    ("kuifje make 00001 --turns 9", ("make 1", "", 9)),
+    ("kuifje make 60", ("make 60", "", 1024)),
+    ("--help hyper p.kf", ("hyper", "p.kf", 1024)),
+    ("kuifje hyper --turns 5 p.kf", ("hyper", "p.kf", 5)),
+    ("kuifje hyper p.kf --turns=5", ("hyper", "p.kf", 5)),
+    ("kuifje --turns 5 hyper p.kf", ("hyper", "p.kf", 5)),
+    ("kuifje hyper p.kf --turns 00005", ("hyper", "p.kf", 5)),
+    ("kuifje hyper p.kf --turns 65535", ("hyper", "p.kf", 65535)),
+    ("kuifje hyper -- p.kf", ("hyper", "p.kf", 1024)),
+    ("kuifje hyper -- -p.kf", ("hyper", "-p.kf", 1024)),
+    ("kuifje -- hyper --json", ("hyper", "--json", 1024)),
+    ("kuifje hyper -", ("hyper", "-", 1024)),
+    ("kuifje hyper ", ("hyper", "", 1024)),
+    ("kuifje hyper hyper", ("hyper", "hyper", 1024)),
+    (
+        "kuifje leak p.kf --gain bayes",
+        ("leak bayes", "p.kf", 1024),
+    ),
+    (
+        "kuifje --gain=tries:00002 leak p.kf",
+        ("leak tries:2", "p.kf", 1024),
+    ),
+    (
+        "kuifje leak --gain guessing p.kf --turns 7",
+        ("leak guessing", "p.kf", 7),
+    ),
+    (
+        "kuifje leak p.kf --gain table:g.json",
+        ("leak table", "p.kf", 1024),
+    ),
+];
 
 #[test]
-fn words_of_two_programs(rt: HostRuntime) -> Result<(), Fail> {
-    for (line, want) in [
-        ("kuifje refine p.kf q.kf", ("refine", "", "p.kf", "q.kf")),
-        (
-            "kuifje refine p.kf q.kf --json",
-            ("refine --json", "", "p.kf", "q.kf"),
-        ),
-        (
-            "kuifje --json refine p.kf --turns 3 p.kf",
-            ("refine --json", "", "p.kf", "p.kf"),
-        ),
-        (
-            "kuifje check c.json p.kf q.kf",
-            ("check", "c.json", "p.kf", "q.kf"),
-        ),
-        ("kuifje cascade p.kf q.kf", ("cascade", "", "p.kf", "q.kf")),
-        (
-            "kuifje --turns 3 parallel q.kf p.kf",
-            ("parallel", "", "q.kf", "p.kf"),
-        ),
-        (
-            "kuifje choice p.kf --turns 3 q.kf 000000001/2",
-            ("choice 1/2", "", "p.kf", "q.kf"),
-        ),
-        (
-            "kuifje choice p.kf 1/2 999999998/999999999",
-            ("choice nearly 1", "", "p.kf", "1/2"),
-        ),
-    ] {
-        asks_of_two(&rt, line, want)?;
+fn words_that_are_taken(rt: HostRuntime) {
+    for (line, want) in &TAKEN {
+        let job = job_of(&rt, line).expect(&rt, line);
+        assert!(rt; parts(&job) == *want, "{line}");
     }
-    Ok(())
 }
 
+// A line of words, and the command and the files of the job on two programs that they ask for.
+const OF_TWO: [(&str, (&str, &str, &str, &str)); 8] = [
+    ("kuifje refine p.kf q.kf", ("refine", "", "p.kf", "q.kf")),
+    (
+        "kuifje refine p.kf q.kf --json",
+        ("refine --json", "", "p.kf", "q.kf"),
+    ),
+    (
+        "kuifje --json refine p.kf --turns 3 p.kf",
+        ("refine --json", "", "p.kf", "p.kf"),
+    ),
+    (
+        "kuifje check c.json p.kf q.kf",
+        ("check", "c.json", "p.kf", "q.kf"),
+    ),
+    ("kuifje cascade p.kf q.kf", ("cascade", "", "p.kf", "q.kf")),
+    (
+        "kuifje --turns 3 parallel q.kf p.kf",
+        ("parallel", "", "q.kf", "p.kf"),
+    ),
+    (
+        "kuifje choice p.kf --turns 3 q.kf 000000001/2",
+        ("choice 1/2", "", "p.kf", "q.kf"),
+    ),
+    (
+        "kuifje choice p.kf 1/2 999999998/999999999",
+        ("choice nearly 1", "", "p.kf", "1/2"),
+    ),
+];
+
 #[test]
-fn words_that_are_refused(rt: HostRuntime) -> Result<(), Fail> {
-    for line in [
-        "",
-        "kuifje",
-        "hyper p.kf",
-        "kuifje ",
-        "kuifje hyper",
-        "kuifje p.kf hyper",
-        "kuifje hyper p.kf q.kf",
-        "kuifje hyper -p.kf",
-        "kuifje hyper p.kf --turns 0",
-        "kuifje hyper p.kf --turns 65536",
-        "kuifje hyper p.kf --turns 000001",
-        "kuifje hyper p.kf --turns",
-        "kuifje hyper p.kf --turns=",
-        "kuifje hyper p.kf --turns -5",
-        "kuifje hyper p.kf --turns 5 6",
-        "kuifje hyper p.kf --turn 5",
-        "kuifje hyper p.kf --turns 5 --turns 6",
-        "kuifje hyper p.kf --json",
-        "kuifje hyper p.kf --json --json",
-        "kuifje hyper p.kf --json=true",
-        "kuifje hyper p.kf --gain bayes",
-        "kuifje leak p.kf",
-        "kuifje leak p.kf --gain tries:0",
-        "kuifje leak p.kf --gain table:",
-        "kuifje leak p.kf --gain bayes --json",
-        "kuifje refine p.kf",
-        "kuifje refine p.kf q.kf r.kf",
-        "kuifje refine p.kf q.kf --gain bayes",
-        "kuifje attack p.kf",
-        "kuifje attack p.kf --gain bayes --json",
-        "kuifje reach p.kf",
-        "kuifje reach p.kf 3/2",
-        "kuifje reach p.kf 1/2 --gain bayes",
-        "kuifje capacity p.kf --json",
-        "kuifje cascade p.kf q.kf --json",
-        "kuifje parallel p.kf",
-        "kuifje choice p.kf 1/2",
-        "kuifje choice p.kf q.kf 0000000001/2",
-        "kuifje choice p.kf q.kf 2/1",
-        "kuifje check p.kf q.kf",
-        "kuifje check c.json p.kf q.kf --json",
-        "kuifje hyperr p.kf",
-        "kuifje --help",
-        "kuifje -h",
-        "kuifje help",
-        "kuifje help p.kf",
-        "kuifje hyper p.kf --help",
-        "kuifje hyper --version",
-        "kuifje -V",
-        "kuifje hyper p.kf --colour red",
-    ] {
-        is_usage(&rt, line)?;
+fn words_of_two_programs(rt: HostRuntime) {
+    for (line, want) in &OF_TWO {
+        let job = job_of(&rt, line).expect(&rt, line);
+        assert!(rt; files_of(&job) == *want, "{line}");
     }
-    Ok(())
+}
+
+// Whether the words of the line ask for nothing.
+fn is_usage(rt: &(impl Abort + AllocGlobal), line: &str) -> bool {
+    matches!(job_of(rt, line), Err(WordsError::Usage))
+}
+
+const REFUSED: [&str; 50] = [
+    "",
+    "kuifje",
+    "hyper p.kf",
+    "kuifje ",
+    "kuifje hyper",
+    "kuifje p.kf hyper",
+    "kuifje hyper p.kf q.kf",
+    "kuifje hyper -p.kf",
+    "kuifje hyper p.kf --turns 0",
+    "kuifje hyper p.kf --turns 65536",
+    "kuifje hyper p.kf --turns 000001",
+    "kuifje hyper p.kf --turns",
+    "kuifje hyper p.kf --turns=",
+    "kuifje hyper p.kf --turns -5",
+    "kuifje hyper p.kf --turns 5 6",
+    "kuifje hyper p.kf --turn 5",
+    "kuifje hyper p.kf --turns 5 --turns 6",
+    "kuifje hyper p.kf --json",
+    "kuifje hyper p.kf --json --json",
+    "kuifje hyper p.kf --json=true",
+    "kuifje hyper p.kf --gain bayes",
+    "kuifje leak p.kf",
+    "kuifje leak p.kf --gain tries:0",
+    "kuifje leak p.kf --gain table:",
+    "kuifje leak p.kf --gain bayes --json",
+    "kuifje refine p.kf",
+    "kuifje refine p.kf q.kf r.kf",
+    "kuifje refine p.kf q.kf --gain bayes",
+    "kuifje attack p.kf",
+    "kuifje attack p.kf --gain bayes --json",
+    "kuifje reach p.kf",
+    "kuifje reach p.kf 3/2",
+    "kuifje reach p.kf 1/2 --gain bayes",
+    "kuifje capacity p.kf --json",
+    "kuifje cascade p.kf q.kf --json",
+    "kuifje parallel p.kf",
+    "kuifje choice p.kf 1/2",
+    "kuifje choice p.kf q.kf 0000000001/2",
+    "kuifje choice p.kf q.kf 2/1",
+    "kuifje check p.kf q.kf",
+    "kuifje check c.json p.kf q.kf --json",
+    "kuifje hyperr p.kf",
+    "kuifje --help",
+    "kuifje -h",
+    "kuifje help",
+    "kuifje help p.kf",
+    "kuifje hyper p.kf --help",
+    "kuifje hyper --version",
+    "kuifje -V",
+    "kuifje hyper p.kf --colour red",
+];
+
+#[test]
+fn words_that_are_refused(rt: HostRuntime) {
+    for line in &REFUSED {
+        assert!(rt; is_usage(&rt, line), "{line}");
+    }
 }

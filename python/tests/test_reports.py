@@ -52,11 +52,14 @@ def pins():
 
 
 def test_a_report_by_hand(pins):
-    """The PIN until its first difference tells 1 guess in 3, as a whole 2 in 9; its only statement is to blame for 2/9 and for 1/9."""
+    """The PIN until its first difference shows 1 guess in 3, as a whole 2 in 9; without the `if` 2/9 are lost, without the observation in it 1/9."""
     page = Page(pins)
     assert ["bayes", "1/9 (0.1111)", "1/3 (0.3333)", "3", "2/9 (0.2222)"] in page.rows
     assert ["bayes", "1/9 (0.1111)", "2/9 (0.2222)", "2", "1/9 (0.1111)"] in page.rows
-    assert ["5", "2/9", "", "if first = 1 { observe second = 1; } else { skip; }"] in page.rows
+    assert ["5", "−2/9 (0.2222), −1/9 (0.1111) ▮▮▮▮", "if first = 1 { observe second = 1; } else { skip; }"] in page.rows
+    assert (
+        "up to 1/18 (0.05556) less" in page.text and "up to 2/9 (0.2222) less, the most" in page.text and "0: shows nothing that others" in page.text
+    )
     assert ["1", "1/9 (0.1111)", "(1, 1)", "1"] in page.rows
     assert "its Bayes capacity is 3" in page.text and "its Bayes capacity is 2" in page.text
     assert ["pin", "yes", "yes"] in page.rows and ["pin_whole", "no", "yes"] in page.rows and "pin_whole leaks less than pin" in page.text

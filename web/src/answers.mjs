@@ -6,6 +6,8 @@
 /** @typedef {{ target: string, count: number, columns: string[], rows: { value: string, cells: string[] }[], rowCount: number }} Channel */
 /** @typedef {{ gain: string, prior: string, posterior: string, quotient: string, difference: string }} Report */
 /** @typedef {{ all: { inners: string, bayes: string }, without: { inners: string, bayes: string }[] }} Blame */
+/** @typedef {{ line: number, column: number, inners: string, posterior: string }} Silent what is left where the statement at this place, from 1, shows nothing */
+/** @typedef {{ all: { inners: string, posterior: string }, without: Silent[] }} Lines */
 /** @typedef {{ name: string, gains: { value: string, gain: string }[] }} Action */
 /** @typedef {{ isYes: true, matrix: string[][] } | { isYes: false, over: string, rest: string, actions: Action[] }} Verdict */
 
@@ -144,6 +146,21 @@ export function blameOf(text) {
         return { inners: found[1], bayes: found[2] };
     });
     return { all: rows[0], without: rows.slice(1) };
+}
+
+/**
+ * @param {string} text
+ * @returns {Lines}
+ */
+export function linesOf(text) {
+    const rows = text.trimEnd().split("\n").map((line) => {
+        const found = /^(?:all|(\d+):(\d+)) inners (\S+) posterior (\S+)$/.exec(line);
+        if (found === null) {
+            throw new Error("the answer isn't one about lines");
+        }
+        return { line: Number(found[1]), column: Number(found[2]), inners: found[3], posterior: found[4] };
+    });
+    return { all: { inners: rows[0].inners, posterior: rows[0].posterior }, without: rows.slice(1) };
 }
 
 /**

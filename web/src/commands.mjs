@@ -1,10 +1,11 @@
 // Commands as the pages show them: which files they name, and which view of the page shows their answer.
+import { TABLE } from "./gains.mjs";
 
 /**
  * Which view shows a command's answer. The others are shown as the terminal shows them.
  * @type {Record<string, string>}
  */
-const VIEW_OF = { hyper: "hyper", channel: "channel", leak: "leak", traces: "traces", blame: "lines", trail: "lines", refine: "refine", covers: "refine" };
+const VIEW_OF = { hyper: "hyper", channel: "channel", leak: "leak", traces: "traces", lines: "lines", blame: "lines", trail: "lines", refine: "refine", covers: "refine" };
 const PLAIN = /^kuifje ([a-z]+(?: [^\s|<>;&$`'"\\]+)*)(?: \| head -n 1)?$/;
 
 /**
@@ -38,6 +39,16 @@ export function namesIn(words) {
 export function viewOf(words) {
     const { programs, tables } = namesIn(words);
     const view = VIEW_OF[words[0]] || "command";
-    const isPlain = !words.includes("--json") && !words.includes("--turns") && (tables.length === 0 || view === "leak");
+    const isPlain = !words.includes("--json") && !words.includes("--turns") && (tables.length === 0 || words[0] === "leak" || words[0] === "lines");
     return { view: isPlain ? view : "command", programs, tables };
+}
+
+/**
+ * The gain that a command names: its word, TABLE for a table, and one guess where it names none.
+ * @param {string[]} words
+ */
+export function measureOf(words) {
+    const at = words.indexOf("--gain");
+    const word = at < 0 ? "bayes" : words[at + 1];
+    return word.startsWith("table:") ? TABLE : word;
 }

@@ -1,4 +1,4 @@
-// An editor for one program: the language's colours, a refusal at its place, and what each statement leaks in the margin.
+// An editor for one program: the language's colours, a refusal at its place, and lines coloured by what they leak, with that in the margin.
 import CodeMirror from "codemirror";
 import { element } from "./elements.mjs";
 import { WORDS, characterAt } from "./programs.mjs";
@@ -51,6 +51,8 @@ export function createEditor(parent, label, onChange) {
     });
     /** @type {any[]} */
     let marks = [];
+    /** @type {any[]} */
+    let coloured = [];
     editor.on("change", onChange);
 
     function clear() {
@@ -90,13 +92,15 @@ export function createEditor(parent, label, onChange) {
             marks.push({ clear: () => editor.removeLineClass(number, "background", "refused-line") });
         },
         /**
-         * Writes a word in the margin of lines.
-         * @param {{ line: number, text: string, title: string, isStrong: boolean }[]} words
+         * Writes a word in the margin of lines, and colours them.
+         * @param {import("./lines.mjs").Mark[]} words
          */
         blame(words) {
             editor.clearGutter(MARGIN);
-            words.forEach(({ line, text, title, isStrong }) => {
-                editor.setGutterMarker(line, MARGIN, element("div", { class: isStrong ? "blamed" : "unblamed", title }, text));
+            coloured.forEach((handle) => editor.removeLineClass(handle, "background"));
+            coloured = words.map(({ line, text, title, isBlamed, level }) => {
+                editor.setGutterMarker(line, MARGIN, element("div", { class: `${isBlamed ? "blamed" : "unblamed"} leak-${level}`, title }, text));
+                return editor.addLineClass(line, "background", `leak-line leak-line-${level}`);
             });
         },
         /**

@@ -2,7 +2,7 @@
 // the program says: it is asked what the solution asks it, and its answer is compared.
 import { button, element, fill } from "./elements.mjs";
 import { fractionOf, isSame } from "./fractions.mjs";
-import { blameOf, hyperOf, reportOf, tracesOf, trailOf } from "./answers.mjs";
+import { blameOf, hyperOf, linesOf, reportOf, tracesOf, trailOf } from "./answers.mjs";
 import { wordsOf, namesIn } from "./commands.mjs";
 import { blocksOf } from "./reader.mjs";
 
@@ -58,6 +58,10 @@ const FIELDS = {
     blame: (out) => {
         const { all, without } = blameOf(out);
         return [many("one guess: of all, then without each statement", [all, ...without].map(({ bayes }) => bayes), true)];
+    },
+    lines: (out) => {
+        const { all, without } = linesOf(out);
+        return [many("posteriors: of all, then without each line", [all, ...without].map(({ posterior }) => posterior), true)];
     },
     trail: (out) => [many("posteriors after each statement, from the declarations on", trailOf(out), true)],
     refine: verdictsOf,
@@ -159,7 +163,8 @@ function checkOf(place, words, files) {
         } else if (tried.status > 1) {
             fill(result, `✗ Your program is refused: ${tried.err.trim()}`);
         } else {
-            const withoutNames = (/** @type {string} */ out) => out.replace(/^target .*\n/, "").replace(/^scale .*\n/m, "");
+            // Names, and places in the text, may be others than those of the solution.
+            const withoutNames = (/** @type {string} */ out) => out.replace(/^target .*\n/, "").replace(/^scale .*\n/m, "").replace(/^\d+:\d+ /gm, "");
             const isLike = withoutNames(right.out) === withoutNames(tried.out);
             fill(result, isLike ? "✓ Of your program the answer is the same as of the solution." : "✗ Of your program the answer is another one than of the solution.");
         }

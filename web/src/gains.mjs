@@ -3,6 +3,14 @@ import { button, element, fill } from "./elements.mjs";
 
 /** @typedef {{ over: number, rest: number, actions: { name: string, gains: Map<string, number> }[] }} Gains */
 
+/**
+ * Gains that need no table: the word for each, and what it is.
+ * @type {[string, string][]}
+ */
+export const USUAL = [["bayes", "one guess"], ["tries:2", "two tries"], ["tries:3", "three tries"], ["guessing", "expected number of guesses"]];
+/** What stands for the gain table that is set. */
+export const TABLE = "table";
+
 const MOST_VALUES = 24;
 const FORMAT = "kuifje-gain-1";
 

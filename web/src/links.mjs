@@ -1,15 +1,19 @@
 // What the part of an address after # says: a state of the page, or a lesson or study of its own. Nothing of it is sent to a server. A link that
 // can't be read is refused as a whole.
+import { TABLE, USUAL } from "./gains.mjs";
 
 /**
- * What the page asks: two texts (the second one may be missing), which view, about which of the two, a gain table, and words typed by hand.
- * @typedef {{ a: string, b: string | null, view: string, of: string, gain: string | null, words: string | null, page: string | null }} State
+ * What the page asks: two texts (the second one may be missing), which view, about which of the two, a gain table, the gain under which lines are
+ * compared, and words typed by hand.
+ * @typedef {{ a: string, b: string | null, view: string, of: string, gain: string | null, measure: string, words: string | null, page: string | null }} State
  */
 /** @typedef {{ kind: "nothing" } | { kind: "unreadable", why: string } | { kind: "state", state: State } | { kind: "page", page: string }} Link */
 
 export const VIEWS = ["hyper", "channel", "leak", "traces", "lines", "refine", "command"];
 const SHAPE = /^#kf1\.([A-Za-z0-9_-]*)$/;
 const PAGE = /^#((?:lesson|study|page)\/[A-Za-z0-9_-]+)$/;
+/** The parts of a link; one that was made before lines could be compared under a gain has no measure. */
+const SHAPES = ["a,b,gain,measure,of,page,view,words", "a,b,gain,of,page,view,words"];
 /** The most bytes of a state: two programs and a table, each as long as a file may be. */
 const MOST = 4 << 20;
 
@@ -80,7 +84,7 @@ function wantText(it, name, mayMiss) {
  * @returns {State}
  */
 function checked(it) {
-    if (typeof it !== "object" || it === null || Object.keys(it).sort().join() !== "a,b,gain,of,page,view,words") {
+    if (typeof it !== "object" || it === null || !SHAPES.includes(Object.keys(it).sort().join())) {
         throw new Error("it has other parts than a link has");
     }
     ["a", "view", "of"].forEach((name) => wantText(it, name, false));
@@ -88,10 +92,13 @@ function checked(it) {
     if (!VIEWS.includes(it.view) || !["a", "b"].includes(it.of) || (it.of === "b" && it.b === null)) {
         throw new Error("it asks what the page doesn't know");
     }
+    if ("measure" in it && !(it.measure === TABLE ? it.gain !== null : USUAL.some(([gain]) => gain === it.measure))) {
+        throw new Error("it names no gain that the page knows");
+    }
     if (it.page !== null && !PAGE.test(`#${it.page}`)) {
         throw new Error("it names no page");
     }
-    return it;
+    return { measure: "bayes", ...it };
 }
 
 /**

@@ -6,9 +6,10 @@ import { refusalOf } from "./answers.mjs";
 import { explanationOf, library } from "./library.mjs";
 import { linkFrom, linkOf } from "./links.mjs";
 import { targetOf } from "./programs.mjs";
-import { namesIn, viewOf } from "./commands.mjs";
+import { measureOf, namesIn, viewOf } from "./commands.mjs";
 import { show } from "./reader.mjs";
-import { blameRows, channelView, commandView, hyperView, leakView, linesView, tracesView } from "./views.mjs";
+import { channelView, commandView, hyperView, leakView, tracesView } from "./views.mjs";
+import { gainWord, linesView, marksOf } from "./lines.mjs";
 import { refineView } from "./refinement.mjs";
 import { about, contents } from "./panels.mjs";
 
@@ -31,7 +32,7 @@ const SHOW = {
 const WAIT = 150;
 
 /** @type {State} */
-const state = { a: FIRST, b: null, view: "hyper", of: "a", gain: null, words: null, page: null };
+const state = { a: FIRST, b: null, view: "hyper", of: "a", gain: null, measure: "bayes", words: null, page: null };
 /**
  * The files of the page that is read, and those that a view made.
  * @type {Record<string, string>}
@@ -88,6 +89,12 @@ async function filesNow() {
 const withTurns = (words) => (byId("turns").value === "1024" || words.includes("--turns") ? words : [...words, "--turns", byId("turns").value]);
 
 /**
+ * The newest answer about lines, by its question: the margin has the same as the view.
+ * @type {{ question: string, outcome: Outcome | null }}
+ */
+const known = { question: "", outcome: null };
+
+/**
  * Asks with the files that the words name, so that no more is copied.
  * @param {string[]} words
  * @param {Record<string, string> | null} files
@@ -98,7 +105,13 @@ async function ask(words, files) {
     const names = [...programs, ...tables];
     const all = files !== null ? files : names.every((name) => name in own) ? own : await filesNow();
     const named = Object.fromEntries(names.filter((name) => name in all).map((name) => [name, /** @type {Record<string, string>} */ (all)[name]]));
-    return asker.ask(withTurns(words), named);
+    if (words[0] !== "lines") {
+        return asker.ask(withTurns(words), named);
+    }
+    const question = JSON.stringify([withTurns(words), named]);
+    const outcome = known.question === question && known.outcome !== null ? known.outcome : await asker.ask(withTurns(words), named);
+    Object.assign(known, outcome.kind === "answer" ? { question, outcome } : { question: "", outcome: null });
+    return outcome;
 }
 
 /** Thrown where there is no answer. */
@@ -132,9 +145,14 @@ function contextOf(mine) {
             }
             return outcome.out;
         },
-        file: `${state.of}.kf`, text: state.of === "a" ? state.a : state.b, hasSecond: state.b !== null, gain: state.gain, words: state.words, keep, failure,
+        file: `${state.of}.kf`, text: state.of === "a" ? state.a : state.b, hasSecond: state.b !== null, gain: state.gain, measure: state.measure, words: state.words,
+        keep, failure,
         setGain(/** @type {string} */ json) {
             state.gain = json;
+            refresh();
+        },
+        setMeasure(/** @type {string} */ measure) {
+            state.measure = measure;
             refresh();
         },
         setSeparation(/** @type {string} */ json) {
@@ -225,7 +243,8 @@ function showTarget() {
 }
 
 /**
- * Writes in the margin what each statement of a text leaks, where its question was answered.
+ * Colours the lines of a text by what they leak and writes it in the margin, where its question was answered: under the gain of the view of
+ * lines there, and under one guess elsewhere.
  * @param {number} mine
  * @param {"a" | "b"} name
  * @param {boolean} isAnswered
@@ -236,18 +255,12 @@ async function blame(mine, name, isAnswered) {
         editors[name].blame([]);
         return;
     }
-    const outcome = await ask(["blame", `${name}.kf`], null);
+    const measure = state.view === "lines" ? state.measure : "bayes";
+    const outcome = await ask(["lines", `${name}.kf`, "--gain", gainWord(measure)], null);
     if (mine !== epoch) {
         return;
     }
-    const rows = outcome.kind === "answer" && outcome.status === 0 ? blameRows(outcome.out, text) : [];
-    const lines = [...new Set(rows.map((row) => row.line))].filter((line) => line >= 0);
-    editors[name].blame(lines.map((line) => {
-        const own = rows.filter((row) => row.line === line);
-        return {
-            line, text: own.map(({ mark }) => mark).join(" "), isStrong: own.some(({ isBlamed }) => isBlamed), title: own.map(({ title }) => title).join("; "),
-        };
-    }));
+    editors[name].blame(outcome.kind === "answer" && outcome.status === 0 ? marksOf(outcome.out, measure) : []);
 }
 
 /**
@@ -381,7 +394,8 @@ function run(words) {
             take({ view, words: words.join(" "), ...(programs.length > 0 ? { a: all[programs[0]], of: "a" } : {}) });
         } else {
             const second = programs.length > 1 ? all[programs[1]] : state.b;
-            take({ view: words[0] === "covers" ? "covers" : view, a: all[programs[0]], b: second, of: "a", gain: tables.length > 0 ? all[tables[0]] : state.gain });
+            const gain = tables.length > 0 ? all[tables[0]] : state.gain;
+            take({ view: words[0] === "covers" ? "covers" : view, a: all[programs[0]], b: second, of: "a", gain, measure: view === "lines" ? measureOf(words) : state.measure });
         }
     });
 }

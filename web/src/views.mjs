@@ -1,10 +1,9 @@
 // The views of an answer. Each asks the program what it needs, and gives the elements that show it.
 import { button, element, table } from "./elements.mjs";
-import { MOST, blameOf, channelOf, hyperOf, reportOf, tracesOf, trailOf } from "./answers.mjs";
-import { NOTHING, difference, fractionOf, isNone, printed, shown } from "./fractions.mjs";
+import { MOST, channelOf, hyperOf, reportOf, tracesOf } from "./answers.mjs";
+import { shown } from "./fractions.mjs";
 import { heatMap, hyperPicture, priorOf } from "./pictures.mjs";
-import { gainEditor, guessOf, jsonOf } from "./gains.mjs";
-import { statementLines } from "./programs.mjs";
+import { USUAL, gainEditor, guessOf, jsonOf } from "./gains.mjs";
 import { typedWords } from "./commands.mjs";
 
 /**
@@ -17,6 +16,8 @@ import { typedWords } from "./commands.mjs";
  * @property {boolean} hasSecond
  * @property {string | null} gain the gain table that is set
  * @property {(json: string) => void} setGain
+ * @property {string} measure the gain under which lines are compared: one of USUAL, or TABLE
+ * @property {(measure: string) => void} setMeasure
  * @property {(json: string) => void} setSeparation makes a table that commands may name separation.json
  * @property {string | null} words
  * @property {(words: string) => void} setWords
@@ -86,8 +87,6 @@ export async function channelView({ ask, tryTo, file }) {
     ];
 }
 
-const USUAL = [["bayes", "one guess"], ["tries:2", "two tries"], ["tries:3", "three tries"], ["guessing", "expected number of guesses"]];
-
 /**
  * @param {Context} context
  * @param {string} gain
@@ -117,45 +116,6 @@ export async function leakView(context) {
         element("h3", {}, "An adversary of one's own"),
         element("p", {}, "It takes the action whose expected gain is greatest. Change a number, and the program is asked what the table comes to."),
         gainEditor(json, values, context.setGain),
-    ];
-}
-
-/**
- * The rows of a blame: a statement's line, and what is left without it.
- * @param {string} out
- * @param {string} text
- */
-export function blameRows(out, text) {
-    const { all, without } = blameOf(out);
-    const lines = statementLines(text);
-    const whole = fractionOf(all.bayes) || NOTHING;
-    return without.map(({ inners, bayes }, index) => {
-        const fall = difference(whole, fractionOf(bayes) || NOTHING);
-        const line = lines.length === without.length ? lines[index] : -1;
-        // What the margin has: how much less often one guess is right, or else what becomes of the inners.
-        const mark = isNone(fall) ? (inners === all.inners ? "0" : `${all.inners}→${inners}`) : `−${printed(fall)}`;
-        const title = `Without this statement: ${inners} inners in place of ${all.inners}, and one guess is right with probability ${bayes}, ${printed(fall)} less`;
-        return { line, inners, bayes, fall: printed(fall), mark, title, isBlamed: mark !== "0" };
-    });
-}
-
-/** @param {Context} context */
-export async function linesView({ ask, file, text }) {
-    const out = await ask(["blame", file]);
-    const { all } = blameOf(out);
-    const rows = blameRows(out, text);
-    const trail = trailOf(await ask(["trail", file]));
-    const source = text.split("\n");
-    const heads = ["statement", "line", "inners without it", "one guess without it", "so much less", "posteriors of all variables after it"];
-    const cells = rows.map((row, index) => [
-        String(index), row.line < 0 ? "" : element("code", {}, source[row.line].trim()), row.inners, shown(row.bayes), shown(row.fall), trail[index + 1],
-    ]);
-    return [
-        element("p", {}, `As it is, the hyper has ${all.inners} inners, and one guess at the target is right with probability `, shown(all.bayes),
-            ". Each row says what would be left if that statement alone showed nothing."),
-        table("Which statement leaks", heads, cells),
-        rows.length > 1 && rows.every((row) => !row.isBlamed) && element("p", { class: "note" },
-            "No statement alone is to blame. Where two show the same, neither has other numbers than all."),
     ];
 }
 

@@ -27,7 +27,7 @@ cat "$kept/err" >&2
 exit "$status"
 """
 ALONE = [
-    ["hyper"], ["traces"], ["channel"], ["trail"], ["blame"], ["capacity"],
+    ["hyper"], ["traces"], ["channel"], ["trail"], ["blame"], ["capacity"], ["lines"], ["lines", "--gain", "guessing"],
     ["leak", "--gain", "bayes"], ["leak", "--gain", "tries:2"], ["leak", "--gain", "guessing"],
     ["attack", "--gain", "bayes"], ["attack", "--gain", "tries:2"], ["attack", "--gain", "guessing"],
 ]

@@ -110,6 +110,40 @@ def shows_views(page: Page) -> None:
     expect(len(page.driver.find_elements("css selector", "#answer svg .box")) == 6, "the picture of two inners and the prior has other boxes than six")
 
 
+def colours_lines(page: Page) -> None:
+    """The numbers of examples/password stand beside their lines, and the darkest line is the one without which most is lost."""
+    page.open()
+    page.write(example("examples/password/loop.kf"))
+    page.view("lines")
+    has(page.answer(), "right with probability 4/27", "0: shows nothing that others don't show too", "up to 1/54", "up to 2/27", "8:1", "9:3", "11:1")
+    rows = """return [...document.querySelectorAll('.listing tbody tr')].map((row) => [row.className,
+        [...row.querySelectorAll('.lost .number')].map((it) => it.firstChild.textContent).join()])"""
+    plain = [["", ""]]
+    wanted = [*plain * 7, ["leak-4", "2/27"], ["leak-0", "0"], *plain, ["leak-0", "0"]]
+    expect(page.script(rows) == wanted, f"the lines have {page.script(rows)}")
+    marks = "return [...document.querySelectorAll('.blamed, .unblamed')].map((it) => it.textContent)"
+    page.wait(lambda: page.script(marks) == ["−2/27", "0", "0"], "the margin of the loop")
+    expect(len(page.driver.find_elements("css selector", ".leak-line-4")) == 1, "the editor colours another line")
+    page.write(example("examples/pin.kf"))
+    page.wait(lambda: page.script(rows)[4] == ["leak-4", "2/9,1/9"], "two statements in one line")
+    page.write(example("examples/password/loop.kf"))
+    # Classes of 18, 6, 2 and 1 passwords take 196/27 guesses, classes of 26 and 1 take 352/27.
+    page.choose("#measure", "guessing")
+    page.wait(lambda: "more guesses" in page.answer() and page.script(rows)[7] == ["leak-4", "52/9"], "guesses")
+    page.wait(lambda: page.script(marks)[0] == "+52/9", "guesses in the margin")
+    page.find("#link-button").click()
+    link = page.wait(lambda: page.find("#link-field").get_attribute("value"), "a link")
+    page.open(link[len(page.address):])
+    expect(page.find("#measure").get_attribute("value") == "guessing", "a link has another gain")
+    page.write(example("course/witness.kf"))
+    page.view("leak")
+    page.choose(".gain-editor textarea", example("course/bet.json"))
+    page.settle()
+    page.view("lines")
+    page.choose("#measure", "table")
+    page.wait(lambda: "under the gain table is 1/3" in page.answer() and page.script(rows)[3] == ["leak-4", "1/3"], "the bet of lesson 3")
+
+
 def says_what_is_asked(page: Page) -> None:
     page.open()
     target = page.find("#target")
@@ -265,8 +299,14 @@ def keeps_a_link(page: Page) -> None:
     page.open(link[len(page.address):])
     expect(page.text() == example("examples/pin.kf") and page.text("b") == example("examples/pin_whole.kf"), "a link has other texts")
     expect(page.answer() == said, "a link has another answer")
+    page.open(state_link(page, OLD))
+    has(page.answer(), "There is one posterior")
     page.open("#lesson/2")
     has(page.find("#reader-text").text, "2. Hyper-distributions", "witness")
+
+
+# A link as it was made before it had a gain for lines.
+OLD: dict[str, object] = {"a": "var x : 0..1 := 0;", "b": None, "view": "hyper", "of": "a", "gain": None, "words": None, "page": None}
 
 
 def changed(state: dict[str, object], **parts: object) -> dict[str, object]:
@@ -284,9 +324,9 @@ def state_link(page: Page, state: object) -> str:
 def refuses_links(page: Page) -> None:
     """A link that can't be read says so, and shows nothing else."""
     page.open()
-    good: dict[str, object] = {"a": "var x : 0..1 := 0;", "b": None, "view": "hyper", "of": "a", "gain": None, "words": None, "page": None}
-    parts: list[tuple[str, object]] = [("view", MARKUP), ("view", "__proto__"), ("a", 5), ("of", "b"), ("more", 1), ("page", "../x"), ("a", "x" * (5 << 20))]
-    odd: list[object] = [{}, [], None, "x", *(changed(good, **{name: part}) for name, part in parts)]
+    parts: list[tuple[str, object]] = [("view", MARKUP), ("view", "__proto__"), ("a", 5), ("of", "b"), ("more", 1), ("page", "../x"), ("a", "x" * (5 << 20)),
+                                       ("measure", MARKUP), ("measure", "table")]
+    odd: list[object] = [{}, [], None, "x", *(changed(OLD, **{name: part}) for name, part in parts)]
     links = ["#kf1.", "#kf1.AAAA", "#kf1.%3Cscript%3E", "#kf2.abc", "#x", "#<img src=x onerror=window.hacked=1>", "#lesson/99", "#study/nothing", "#page/__proto__", "#study/constructor",
              *(state_link(page, it) for it in odd)]
     for link in links[::3] if QUICK else links:
@@ -400,6 +440,17 @@ def teaches(page: Page) -> None:
     page.write("var coin : bool := flip 1/4;\n")
     page.press("Check my program", ".exercise")
     page.wait(lambda: "the answer is another one" in page.find(".exercise").text, "a program that is wrong")
+    # Exercise 6 of lesson 7 is about lines: 3/4, without the loop 1/2, without the answer 1/2. A program may have its statements at other places.
+    page.open("#lesson/7")
+    loop = page.driver.find_elements("css selector", ".exercise")[5]
+    first, second = loop.find_elements("css selector", ".asked")
+    first.find_element("css selector", "button").click()
+    page.wait(lambda: first.find_elements("css selector", "input"), "a field for the lines")
+    first.find_element("css selector", "input").send_keys("3/4 1/2 1/2", Keys.ENTER)
+    page.wait(lambda: "Right: the program has the same" in first.text, "the lines' numbers")
+    page.write(example("course/solutions/both_bits.kf").replace("while", "\n  while"))
+    second.find_elements("css selector", "button")[1].click()
+    page.wait(lambda: "Of your program the answer is the same" in second.text, "the same lines at other places")
 
 
 def goes_by_keyboard(page: Page) -> None:
@@ -445,8 +496,16 @@ def can_be_read(page: Page) -> None:
         page.choose("#theme", theme)
         poor = page.script(CONTRAST)
         expect(not poor, f"{theme}: {poor[:5]}")
+        page.write(SHADES)
+        page.view("lines")
+        page.wait(lambda: page.driver.find_elements("css selector", ".leak-line-4"), "coloured lines")
+        poor = page.script(CONTRAST)
+        expect(not poor, f"{theme}, lines: {poor[:5]}")
 
 
+# Of 16 values lines single out one, two, three and four: lines of all colours, each with a comment.
+SHADES = "var x : 0..15 := uniform 0..15;\nabout old x;\n" + "".join(
+    f"observe {shown}; # {shown}\n" for shown in ("x = 0", "(x = 1, x = 2)", "(x = 3, x = 4, x = 5)", "(x = 6, x = 7, x = 8, x = 9)"))
 CONTRAST = """
 const numbers = (text) => (text.match(/[\\d.]+/g) || []).map(Number);
 const light = (rgb) => { const [r, g, b] = rgb.slice(0, 3).map((it) => { const c = it / 255; return c <= 0.03928 ? c / 12.92 : ((c + 0.055) / 1.055) ** 2.4; });
@@ -516,7 +575,7 @@ def every_program(page: Page) -> None:
 
 
 TESTS: list[Callable[[Page], None]] = [
-    is_small, answers_at_once, page_commands, shows_views, says_what_is_asked, shows_a_refusal_at_its_place, compares_two_texts, edits_gains,
+    is_small, answers_at_once, page_commands, shows_views, colours_lines, says_what_is_asked, shows_a_refusal_at_its_place, compares_two_texts, edits_gains,
     cuts_what_is_large, is_stopped, wants_memory, tells_a_trap, takes_both_modules, keeps_a_link, refuses_links, takes_no_markup,
     fetches_nothing_else, opens_the_gallery, teaches, holds_the_lecture, goes_by_keyboard, fits_a_telephone, can_be_read, knows_the_words,
     gallery_hypers,

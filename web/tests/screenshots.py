@@ -1,5 +1,5 @@
 #!/usr/bin/env python3
-"""Takes the four pictures of docs/PAGE.md anew: a refusal, a hyper over three values, a refinement, and a lesson.
+"""Takes the five pictures of docs/PAGE.md anew: a refusal, a hyper over three values, lines by what they leak, a refinement, and a lesson.
 
     web/tests/screenshots.py [FOLDER]
 
@@ -21,6 +21,22 @@ var day : 0..2 := choose { 0 : 3, 1 : 2, 2 : 1 };
 about old day;
 observe choose { day : 4, (day + 1) mod 3 : 1, (day + 2) mod 3 : 1 };
 """
+TRIES = """# Three tries at two letters of four. The comparison stops at the first wrong letter, and that one is changed.
+var a : 0..3 := uniform 0..3;
+var b : 0..3 := uniform 0..3;
+var try_a : 0..3 := 0;
+var try_b : 0..3 := 0;
+var tries : 0..3 := 0;
+var open : bool := false;
+about old a, old b;
+while tries < 3 and not open {
+  if a = try_a {
+    if b = try_b { open := true; } else { try_b := (try_b + 1) mod 4; }
+  } else { try_a := (try_a + 1) mod 4; }
+  tries := tries + 1;
+}
+observe open;
+"""
 
 
 def example(name: str) -> str:
@@ -35,6 +51,13 @@ def refusal(page: Page) -> None:
 def hyper(page: Page) -> None:
     page.open()
     page.write(FORECAST)
+
+
+def lines(page: Page) -> None:
+    page.open()
+    page.write(TRIES)
+    page.view("lines")
+    page.wait(lambda: page.driver.find_elements("css selector", ".blamed"), "the margin")
 
 
 def refinement(page: Page) -> None:
@@ -63,7 +86,7 @@ def main() -> None:
     folder = Path(sys.argv[1]) if len(sys.argv) > 1 else TOP / "docs"
     server, driver = Server(TOP / "dist" / "page"), chromium(1240, 900)
     page = Page(driver, server.address)
-    for take, height in ((refusal, 420), (hyper, 760), (refinement, 900), (lesson, 900)):
+    for take, height in ((refusal, 420), (hyper, 760), (lines, 760), (refinement, 900), (lesson, 900)):
         driver.execute_cdp_cmd("Emulation.setDeviceMetricsOverride", {"width": 1240, "height": height, "deviceScaleFactor": 1, "mobile": False})
         take(page)
         time.sleep(1)

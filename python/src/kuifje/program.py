@@ -161,7 +161,8 @@ class Program:
         for ``leak``.
         """
         word, files = _gain(gain)
-        return self._answer(Lines, ["lines", self.name, "--gain", word], timeout, files)
+        found = self._answer(Lines, ["lines", self.name, "--gain", word], timeout, files)
+        return replace(found, source=self.text.decode(errors="replace"))
 
     def quiet(self, start: int, end: int, timeout: float | None = None) -> Hyper:
         """The hyper-distribution where the top-level statements from ``start`` up to but not with ``end`` show nothing, both counted from 0.

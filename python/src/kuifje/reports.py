@@ -6,7 +6,6 @@ import base64
 import warnings
 from collections.abc import Callable, Iterator, Sequence
 from dataclasses import dataclass, field
-from fractions import Fraction
 from importlib.resources import files as resources
 from typing import Any
 
@@ -17,11 +16,12 @@ from . import measures
 from .channels import Channel
 from .engine import default_engine
 from .errors import KuifjeError
+from .listings import listing
 from .observations import plan
 from .orders import Order, order
 from .program import Program
-from .questions import AsItIsLeft, statement_lines, warning_of
-from .texts import Blame, Hyper, html_table
+from .questions import AsItIsLeft, warning_of
+from .texts import Hyper, html_table
 
 __all__ = ["report"]
 
@@ -29,16 +29,6 @@ GAINS = ("bayes", "tries:2", "tries:3", "guessing")
 CELLS = 150  # of a channel that is drawn, at most
 BARS = 40  # inners of a hyper that is drawn, at most
 LINES = 60  # of an attack that is shown, at most
-
-
-@dataclass(frozen=True)
-class Line:
-    """A line of a program's text: its number, from 1, and how far the posterior Bayes vulnerability falls if what begins there shows nothing."""
-
-    number: int
-    text: str
-    falls: tuple[Fraction, ...] = ()
-    share: float = 0.0
 
 
 @dataclass
@@ -59,7 +49,7 @@ class Section:
     name: str
     question: str
     warning: str | None
-    lines: list[Line]
+    listing: Markup
     refusal: str | None = None
     parts: list[Part] = field(default_factory=list)
 
@@ -86,35 +76,20 @@ def _part(title: str, proved: bool, fill: Callable[[Part], None]) -> Part:
     return part
 
 
-def _lines(program: Program, found: Blame | None) -> list[Line]:
-    """The lines of the text, with what each is to blame for."""
-    text = program.text.decode(errors="replace")
-    falls: dict[int, list[Fraction]] = {}
-    starts = statement_lines(text)
-    if found is not None and len(starts) == len(found.without):
-        for line, quiet in zip(starts, found.without):
-            falls.setdefault(line, []).append(found.all.bayes - quiet.bayes)
-    greatest = max((sum(line, Fraction(0)) for line in falls.values()), default=Fraction(0)) or Fraction(1)
-    return [
-        Line(i + 1, line, tuple(falls.get(i, ())), float(sum(falls.get(i, ()), Fraction(0)) / greatest))
-        for i, line in enumerate(text.rstrip("\n").split("\n"))
-    ]
-
-
 def _section(program: Program, timeout: float | None) -> Section:
     text = program.text.decode(errors="replace")
-    section = Section(program.name, program.question or "", warning_of(text), _lines(program, None))
+    section = Section(program.name, program.question or "", warning_of(text), Markup(listing(text)))
     try:
         hyper = program.hyper(timeout)
     except KuifjeError as cause:
         section.refusal = str(cause)
         return section
 
-    def blame(part: Part) -> None:
-        section.lines = _lines(program, program.blame(timeout))
+    def lines(part: Part) -> None:
+        section.listing = Markup(listing(text, program.lines(timeout=timeout)))
 
-    blamed = _part("What each statement is to blame for", True, blame)
-    section.parts = [*([blamed] if blamed.missing else []), *_parts(program, hyper, timeout)]
+    coloured = _part("What each line leaks", True, lines)
+    section.parts = [*([coloured] if coloured.missing else []), *_parts(program, hyper, timeout)]
     return section
 
 
@@ -187,7 +162,7 @@ def _order(programs: Sequence[Program], timeout: float | None) -> Part:
 def report(programs: Sequence[Program], title: str = "What programs leak", timeout: float | None = None) -> str:
     """The report on some programs, as HTML: one file that needs no other.
 
-    For each program its question, its text with what each line is to blame for, vulnerabilities, hyper, best attack, channel, trail, and the
+    For each program its question, its text with each line coloured by what it leaks, vulnerabilities, hyper, best attack, channel, trail, and the
     measures that are computed here; for several the order of refinement. A question that takes more than ``timeout`` seconds, or is refused, is
     reported as such.
     """

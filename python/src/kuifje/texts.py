@@ -231,7 +231,7 @@ def html_table(rows: Sequence[Mapping[str, object]], caption: str | None = None)
 def _plain(found: object) -> object:
     """What JSON can hold of an answer."""
     if is_dataclass(found) and not isinstance(found, type):
-        members = {f.name: _plain(getattr(found, f.name)) for f in fields(found)}
+        members = {f.name: _plain(getattr(found, f.name)) for f in fields(found) if f.name != "source"}
         return {name: member for name, member in members.items() if name != "question" or member is not None}
     if isinstance(found, Mapping):
         return {x if isinstance(x, str) else format_value(x): _plain(y) for x, y in found.items()}
@@ -244,10 +244,15 @@ def _plain(found: object) -> object:
     return found
 
 
+def format_number(number: Fraction) -> str:
+    """A fraction as a text, also as a decimal number where it is no whole one."""
+    return str(number) if number.denominator == 1 else f"{number} ({float(number):.4g})"
+
+
 def _shown(cell: object) -> str:
     """A cell of a table as a text; a probability also as a decimal number."""
     if isinstance(cell, Fraction):
-        return str(cell) if cell.denominator == 1 else f"{cell} ({float(cell):.4g})"
+        return format_number(cell)
     if isinstance(cell, (bool, tuple, frozenset)):
         return format_value(cell)
     return str(cell)
@@ -531,10 +536,14 @@ class Silent:
 
 @dataclass(frozen=True, repr=False)
 class Lines(Printed):
-    """How much the program leaks, and how much where each statement alone shows nothing, wherever it stands; these are in the order of the text."""
+    """How much the program leaks, and how much where each statement alone shows nothing, wherever it stands; these are in the order of the text.
+
+    ``source`` is the program's text, where the answer came of a question: a notebook shows it with each line coloured by what is lost without it.
+    """
 
     all: Left
     without: tuple[Silent, ...]
+    source: str | None = field(default=None, compare=False, kw_only=True)
 
     @classmethod
     def _read(cls, lines: Reader) -> Lines:
@@ -560,6 +569,13 @@ class Lines(Printed):
     def __str__(self) -> str:
         found = f"all inners {self.all.inners} posterior {self.all.posterior}\n"
         return found + "".join(f"{s.place} inners {s.inners} posterior {s.posterior}\n" for s in self.without)
+
+    def _repr_html_(self) -> str:
+        from .listings import listing
+
+        if self.source is None:
+            return super()._repr_html_()
+        return listing(self.source, self, self.question) + html_table(self.records())
 
 
 @dataclass(frozen=True, repr=False)

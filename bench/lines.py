@@ -60,19 +60,18 @@ def limited():
         resource.setrlimit(what, (most, most))
 
 
-def measured(words, folder):
-    """Processor seconds, megabytes, and the answer; its status where it isn't 0."""
-    with open(Path(folder) / "out", "w+b") as out:
-        child = subprocess.Popen(words, stdout=out, stderr=subprocess.DEVNULL, preexec_fn=limited)
+def measured(words, out):
+    """Processor seconds, megabytes and the status of a run, whose answer goes to a file."""
+    with open(out, "wb") as file:
+        child = subprocess.Popen(words, stdout=file, stderr=subprocess.DEVNULL, preexec_fn=limited)
         _, status, used = os.wait4(child.pid, 0)
         child.returncode = os.waitstatus_to_exitcode(status)
-        out.seek(0)
-        return used.ru_utime + used.ru_stime, used.ru_maxrss / 1024, out.read() if child.returncode == 0 else child.returncode
+    return used.ru_utime + used.ru_stime, used.ru_maxrss / 1024, child.returncode
 
 
-def least(runs, words, folder):
-    """The least time and memory of so many runs, with the last answer."""
-    found = [measured(words, folder) for _ in range(runs)]
+def least(runs, words, out):
+    """The least time and memory of so many runs, with the last status."""
+    found = [measured(words, out) for _ in range(runs)]
     return min(run[0] for run in found), min(run[1] for run in found), found[-1][2]
 
 
@@ -85,17 +84,16 @@ def measure(programs, program, runs):
     print("| --- | --- | --- | --- | --- | --- |")
     right, short = True, 0
     with tempfile.TemporaryDirectory() as folder:
-        path = Path(folder) / "p.kf"
+        path, out = Path(folder) / "p.kf", Path(folder) / "out"
         for name, text in programs:
             path.write_text(text)
-            hyper = least(runs, [program, "hyper", path], folder)
-            lines = least(runs, [program, "lines", path], folder)
-            cells = [f"status {it[2]}" if isinstance(it[2], int) else f"{it[0]:.3f} / {it[1]:.0f}" for it in (hyper, lines)]
-            if isinstance(hyper[2], int) or isinstance(lines[2], int):
-                right = right and isinstance(hyper[2], int)
+            hyper, lines = (least(runs, [program, command, path], out) for command in ("hyper", "lines"))
+            cells = [f"status {it[2]}" if it[2] else f"{it[0]:.3f} / {it[1]:.0f}" for it in (hyper, lines)]
+            if hyper[2] or lines[2]:
+                right = right and hyper[2] != 0
                 print(f"| {name} | | {cells[0]} | {cells[1]} | | |", flush=True)
                 continue
-            rows = lines[2].count(b"\n")
+            rows = out.read_bytes().count(b"\n")
             is_long, is_large = min(lines[0], hyper[0]) >= SHORTEST, lines[1] >= LEAST_MEMORY
             times, memory = lines[0] / rows / hyper[0] if is_long else 0, lines[1] / hyper[1]
             right = right and times <= MOST_TIME and not (is_large and memory > MOST_MEMORY)
@@ -104,7 +102,7 @@ def measure(programs, program, runs):
                 print(f"| {name} | {rows - 1} | {cells[0]} | {cells[1]} | {told} | {memory:.2f} |", flush=True)
             else:
                 short += 1
-    print(f"\n{short} more programs take less than {SHORTEST} s and {LEAST_MEMORY} MB")
+    print(f"\nof {short} more programs `hyper` or `lines` takes less than {SHORTEST} s, and both less than {LEAST_MEMORY} MB")
     return right
 
 

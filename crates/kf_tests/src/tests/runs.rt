@@ -47,7 +47,6 @@ fn over_sure_files(rt: &(impl Abort + AllocGlobal), text: &str, out: &mut MemSin
     run_over_sure_files(rt.alloc(), &words, &mut files, out, &mut ample(rt))
 }
 
-// The same as a call over memory alone.
 fn in_memory(rt: &(impl Abort + AllocGlobal), text: &str, out: &mut MemSink) -> u8 {
     let words = words_of(rt, "kuifje hyper p.kf");
     let mut files = program(rt, text);

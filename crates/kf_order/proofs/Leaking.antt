@@ -1,22 +1,17 @@
 -- What a channel's hyper is worth: each trace's column gives no value more than its weight times the column's greatest cell.
-use Rattle.std.proofs.Common.{◌≡◌, ℕ, zero, suc, ◌*◌, ◌/◌, ◌<◌, ◌≤◌, List, [], ◌∷◌, All, length, get_or, map, sum_by, unsigned_abs, ◌⊎◌, inl, inr, ⊎_elim}
+use Rattle.std.proofs.Common.{◌≡◌, ℕ, zero, suc, ◌*◌, ◌<◌, ◌≤◌, List, [], ◌∷◌, All, length, get_or, map, sum_by, ◌⊎◌, inl, inr, ⊎_elim}
 use Rattle.std.proofs.Common.{refl, sym, ap, subst, ◌∙◌, arith}
 use Rattle.std.specs.List.{AllByRecursion as Each}
 use Rattle.std.specs.List.Sorted.{IsStrictlyIncreasing}
 use Rattle.std.proofs.Math.IntN.{ℤ, pos, ◌*ℤ◌, zero-*ℤ}
-use Rattle.std.proofs.Math.Nat.{div-mul_cancel, eq-zero-or-pos}
+use Rattle.std.proofs.Math.Nat.{eq-zero-or-pos}
 use Rattle.std.proofs.lemmas.Bool.{cases_lt}
 use Rattle.std.proofs.lemmas.Int.{ints}
-use Rattle.std.proofs.lemmas.List.{get_or-map, get_or_default, length-map}
+use Rattle.std.proofs.lemmas.List.{get_or_default, length-map}
 use Rattle.std.proofs.lemmas.List.Elements.{All-get_or, All-map, recursion_from_All}
 use Rattle.std.proofs.lemmas.List.Sums.{get_or-le-sum_by, sum_by-cons}
 use lib.Signed.{◌≤ℤ◌}
-use Prim.Native.Nat.{◌∣◌}
-use Rattle.kf_frac.specs.Divisors.{gcd_of}
-use Rattle.kf_frac.specs.Fractions.{reduced_num, reduced_den, parts_of}
-use Rattle.kf_frac.proofs.CommonDivisors.{gcd_is}
-use Rattle.kf_frac.proofs.LowestTerms.{reduced_num_abs, reduced_den_times}
-use Rattle.kf_frac.proofs.Multiples.{common_divided, common_positive}
+use Rattle.kf_frac.specs.Fractions.{parts_of}
 use Rattle.kf_frac.proofs.Ring.{add_mul, mul_add}
 use Rattle.kf_value.proofs.ListLemmas.{each_both}
 use Rattle.kf_hyper.specs.declared.entry.Entry.{Entry}
@@ -32,10 +27,7 @@ use Rattle.kf_gain.specs.Vulnerabilities.{IsAverage, IsPrior, IsPosterior}
 use Rattle.kf_gain.specs.Worth.{IsVulnerability}
 use Rattle.kf_gain.proofs.Adding.{above_average}
 use Rattle.kf_gain.proofs.Measures.{order_times, some}
-use Rattle.kf_capacity.specs.Dens.{column_dens, dens}
-use Rattle.kf_capacity.specs.Grids.{ChannelTree, cell_den, column_in, denominator, greatest}
-use Rattle.kf_capacity.proofs.Denominators.{AllWeigh, dens_positive}
-use Rattle.kf_capacity.proofs.Pieces.{in_pieces}
+use Rattle.kf_capacity.specs.Grids.{ChannelTree, column_in, denominator, greatest}
 use Rattle.kf_channel.specs.Channels.{AreSecrets}
 use Rattle.kf_core.specs.Joint.{Cell}
 use Rattle.kf_core.specs.Rows.{AreRowsOf, IsHyperOf}
@@ -43,6 +35,7 @@ use Rattle.kf_core.proofs.OneTable.{one_table}
 use Rattle.kf_silent.proofs.Worths.{posterior_worth, worth}
 use Rattle.kf_order.specs.Channels.{CapacityIsLeaked, IsNotNegative, IsWorth, LeakageIsBounded}
 use Rattle.kf_order.proofs.Worths.{inners_worth, some_actions}
+use Rattle.kf_order.proofs.Cells.{cell_weighs, over_some}
 use Rattle.kf_order.proofs.Growing.{worth_more}
 
 -- ---- the greatest of some numbers
@@ -63,21 +56,7 @@ one_greatest (n ∷ ns) =
     (λ (least : greatest ns ≤ n). inr (0, omega arith, omega (arith, least)))
     (cases_lt n (greatest ns))
 
--- ---- cells
-
--- so many n-ths, as often as the whole is, are the part, n times
-part_of : (whole n part : ℕ) → reduced_den (pos part) whole ∣ n → whole * parts_of n part whole ≡ n * part
-part_of whole n part divides =
-    let g : ℕ = gcd_of part whole in
-    let a : ℕ = unsigned_abs (reduced_num (pos part) whole) in
-    let d : ℕ = reduced_den (pos part) whole in
-    let num : a * g ≡ part = ap (λ (k : ℕ). k * g) (reduced_num_abs (pos part) whole) ∙ div-mul_cancel g (gcd_is part whole).0 in
-    let den : d * g ≡ whole = reduced_den_times (pos part) whole in
-    let times : (n / d) * d ≡ n = div-mul_cancel d divides in
-    ap (λ (k : ℕ). k * (a * (n / d))) (sym den) ∙ cross d g a (n / d) ∙ (λ i. times i * num i)
-  where
-    cross : (d g a q : ℕ) → d * g * (a * q) ≡ q * d * (a * g)
-    cross d g a q = grind arith
+-- ---- a channel's hyper
 
 -- a channel, and the inners of its rows
 pub record IsHyperOfRows (c : ChannelTree) (inners : List Inner) : Type 0 where
@@ -93,32 +72,6 @@ module _ (c : ChannelTree) (inners : List Inner) (is : IsHyperOfRows c inners) w
   abbrev most : Row → ℕ
   most row = greatest (column_in over c row)
 
-  weigh : AllWeigh c
-  weigh i d within = (is.secrets.listed (get_or c.secrets i d)).0 (i, within, get_or_default c.secrets i (get_or c.secrets i d) d within)
-
-  over_some : 0 < over
-  over_some = common_positive (dens c c.rows) (dens_positive c weigh)
-
-  -- a secret's weight times its cell is its weight at the trace, over the denominator
-  module _ (k : ℕ) (d : Row) (within : k < length c.rows) (i : ℕ) (here : i < length c.secrets) where
-    abbrev row : Row
-    row = get_or c.rows k d
-
-    abbrev secret : ℕ
-    secret = get_or c.secrets i 0
-
-    divided : cell_den c row secret ∣ over
-    divided =
-        subst (λ (n : ℕ). n ∣ over) (get_or-map (cell_den c row) c.secrets i 0 0 here)
-        (All-get_or (λ n. n ∣ over) (column_dens c row) i 0 (omega (arith, here, length-map c.secrets (cell_den c row)))
-        (in_pieces (λ n. n ∣ over) (column_dens c) c.rows (common_divided (dens c c.rows) (dens_positive c weigh)) k d within))
-
-    cell_weighs : value_weight c.rows secret * get_or (column_in over c row) i 0 ≡ over * weight_at row.column secret
-    cell_weighs =
-        ap (λ (n : ℕ). value_weight c.rows secret * n)
-        (get_or-map (λ (x : ℕ). parts_of over (weight_at row.column x) (value_weight c.rows x)) c.secrets i 0 0 here)
-        ∙ part_of (value_weight c.rows secret) over (weight_at row.column secret) divided
-
   cells_bound : All (λ (r : Row). (x : ℕ) → weight_at r.column x * over ≤ value_weight c.rows x * most r) c.rows
   cells_bound k d within x =
       ⊎_elim
@@ -128,7 +81,7 @@ module _ (c : ChannelTree) (inners : List Inner) (is : IsHyperOfRows c inners) w
       (λ (heavy : 0 < value_weight c.rows x).
       let (i, here, at) = (is.secrets.listed x).1 heavy in
       let same : get_or c.secrets i 0 ≡ x = get_or_default c.secrets i 0 x here ∙ at in
-      let cell = cell_weighs k d within i here in
+      let cell = cell_weighs c is.secrets k d within i here in
       let less : get_or (column_in over c (get_or c.rows k d)) i 0 ≤ most (get_or c.rows k d) = below_greatest (column_in over c (get_or c.rows k d)) i in
       subst (λ (y : ℕ). weight_at (get_or c.rows k d).column y * over ≤ value_weight c.rows y * most (get_or c.rows k d)) same
       (bound (value_weight c.rows (get_or c.secrets i 0)) (get_or (column_in over c (get_or c.rows k d)) i 0) (most (get_or c.rows k d))
@@ -199,7 +152,7 @@ module _ (c : ChannelTree) (inners : List Inner) (is : IsHyperOfRows c inners) w
         each_both (λ (r : Row). IsColumn r.column) (λ (r : Row). (x : ℕ) → weight_at r.column x * over ≤ value_weight c.rows x * most r)
         (λ r. (best r.column *ℤ pos over) ≤ℤ (y *ℤ pos (most r)))
         (λ r column bound.
-        worth_more over (most r) over_some r.column p.average (above_column r.column column) above
+        worth_more over (most r) (over_some c is.secrets) r.column p.average (above_column r.column column) above
         (λ x. subst (λ (n : ℕ). weight_at r.column x * over ≤ n * most r) (sym (prior_weighs p.average p.is_average x)) (bound x)) g (best r.column) y not_negative
         (are r.column) p.is) c.rows columns
         (recursion_from_All (λ (r : Row). (x : ℕ) → weight_at r.column x * over ≤ value_weight c.rows x * most r) c.rows cells_bound) in
@@ -260,7 +213,7 @@ module _ (c : ChannelTree) (inners : List Inner) (is : IsHyperOfRows c inners) w
         let x : ℕ = get_or c.secrets i 0 in
         let same : value_weight c.rows x ≡ weight = All-get_or (λ (x : ℕ). value_weight c.rows x ≡ weight) c.secrets i 0 here alike in
         let whole : weight * greatest column ≡ over * weight_at row.column x =
-        (λ t. sym same t * r.2 t) ∙ cell_weighs k d within i here in
+        (λ t. sym same t * r.2 t) ∙ cell_weighs c is.secrets k d within i here in
         omega (arith, ints, whole, order_times over (pos (weight_at row.column x)) (best row.column) (guessed row.column x)))
         (one_greatest column)
 

@@ -6,5 +6,6 @@ pub mod InOrder
 pub mod Ordering
 pub mod Cascading
 pub mod Growing
+pub mod Cells
 pub mod Leaking
 pub mod HyperWorth

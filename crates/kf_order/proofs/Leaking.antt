@@ -252,7 +252,7 @@ module _ (c : ChannelTree) (inners : List Inner) (is : IsHyperOfRows c inners) w
         )
 
 -- the channel and the hyper of one joint are made of one table
-rows_of : (joint : List Cell) (c : ChannelTree) (inners : List Inner) → AreRowsOf joint c.rows → AreSecrets c.rows c.secrets → IsHyperOf joint inners
+pub rows_of : (joint : List Cell) (c : ChannelTree) (inners : List Inner) → AreRowsOf joint c.rows → AreSecrets c.rows c.secrets → IsHyperOf joint inners
     → IsHyperOfRows c inners
 rows_of joint c inners are secrets is = record {
   columns = are.columns;

@@ -6,6 +6,10 @@ pub mod InOrder
 pub mod Ordering
 pub mod Cascading
 pub mod Growing
+pub mod AnyOrder
 pub mod Cells
 pub mod Leaking
 pub mod HyperWorth
+pub mod Reweighing
+pub mod OneMatrix
+pub mod Structural

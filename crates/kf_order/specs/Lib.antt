@@ -1,3 +1,4 @@
 -- For bodies
 pub mod Channels
 pub mod Order
+pub mod Structure

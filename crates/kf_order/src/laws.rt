@@ -2,6 +2,7 @@
 
 ghost use Rattle.kf_order.specs.Channels.{CapacityIsLeaked, CascadeLeaksNoMore, HyperIsWorthColumns, LeakageIsBounded, SomeSeen};
 ghost use Rattle.kf_order.specs.Order.{IsAntisymmetric, RefinementLeaksNoMore};
+ghost use Rattle.kf_order.specs.Structure.{IsStructural};
 ghost use Rattle.kf_refine.specs.Laws.{IsReflexive, IsTransitive};
 
 use kf_refine::refine_laws;
@@ -31,4 +32,11 @@ pub fn cascade_laws()
 pub fn leakage_laws()
     ensures bounded { LeakageIsBounded }
     ensures met { CapacityIsLeaked }
+{}
+
+/// Refinement is structural: what one channel leaks beside another doesn't depend on the prior. Where the hyper of the one is refined by that
+/// of the other, no gain table separates the hypers that two channels of the same matrices have at any other prior of the same secrets
+/// (Alvim et al. 2020, refinement of channels).
+pub fn structural_laws()
+    ensures structural { IsStructural }
 {}

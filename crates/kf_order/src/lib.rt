@@ -3,4 +3,4 @@
 
 mod laws;
 
-pub use laws::{cascade_laws, leakage_laws, refinement_laws};
+pub use laws::{cascade_laws, leakage_laws, refinement_laws, structural_laws};

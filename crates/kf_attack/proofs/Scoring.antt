@@ -1,9 +1,10 @@
 -- The actions of a table, one after the other: each with what it gains, and the best so far.
-use Rattle.std.proofs.Common.{◌≡◌, ℕ, ◌+◌, ◌*◌, ◌<◌, ◌≤◌, List, [], ◌∷◌, ◌++◌, map, refl, sym, ◌∙◌, ap, subst, arith, length, take, get_or}
+use Rattle.std.proofs.Common.{◌≡◌, ℕ, ◌+◌, ◌*◌, ◌<◌, ◌≤◌, List, [], ◌∷◌, ◌++◌, map, refl, sym, ◌∙◌, ap, ap₂, subst, arith, length, take, get_or}
 use Rattle.std.specs.Prelude.{ℤ, ◌≤ℤ◌, unsigned_abs, Contains}
 use Rattle.std.specs.Int.{int_max}
-use Rattle.std.specs.List.{AllZip}
-use Rattle.std.proofs.lemmas.List.{get_or_default, take_all}
+use Rattle.std.specs.List.{AllZip, range_with_len}
+use Rattle.std.proofs.lemmas.List.{get_or_default, length-map, map-append, map-id, take_all}
+use Rattle.std.proofs.lemmas.List.FromFn.{map-range_with_len_more}
 use Rattle.kf_frac.specs.declared.frac.Frac.{Frac}
 use Rattle.kf_frac.specs.Parts.{IsFraction}
 use Rattle.kf_hyper.specs.declared.entry.Entry.{Entry}
@@ -19,7 +20,7 @@ use Rattle.kf_attack.specs.declared.attack.Best.TheVariants as best
 use Rattle.kf_attack.specs.declared.attack.Score.{Score}
 use Rattle.kf_attack.specs.Attacks.{Scores, scored}
 use Rattle.kf_attack.specs.Inners.{IsShownBest}
-use Rattle.kf_attack.specs.Views.{ShowsScore}
+use Rattle.kf_attack.specs.Views.{ShowsScore, places}
 use Rattle.kf_attack.proofs.Zips.{zip_next, zip_mapped}
 
 positive : (t o : ℕ) → 0 < t → 0 < o → 0 < t * o
@@ -64,14 +65,24 @@ module _ (t : TableTree) (column : List Entry) (whole i : ℕ) (inside : i < len
         → (k : ℕ) (b : Action) → k < i + 1 → get_or t.actions k b ≡ b → gained t.rest b.gains column ≤ℤ z
     still_best had = bounds_next t.rest column t.actions i a inside itself best new z gains most had
 
+-- the places so far, and the next one
+one_more : (n : ℕ) → range_with_len 0 (n + 1) ≡ range_with_len 0 n ++ n ∷ []
+one_more n = sym (map-id (range_with_len 0 (n + 1))) ∙ map-range_with_len_more (λ (k : ℕ). k) 0 n n (omega arith) ∙ ap (λ (l : List ℕ). l ++ n ∷ []) (map-id (range_with_len 0 n))
+
+pub places_next : (scores : List Score) (i : ℕ) (s : Score) → s.action ≡ i → places scores ≡ range_with_len 0 i
+    → places (scores ++ s ∷ []) ≡ range_with_len 0 (i + 1)
+places_next scores i s is had =
+    map-append (λ (s : Score). s.action) scores (s ∷ []) ∙ ap₂ (λ (l : List ℕ) (k : ℕ). l ++ k ∷ []) had is
+    ∙ sym (one_more i)
+
 -- all of them
 module _ (t : TableTree) (column : List Entry) (whole i : ℕ) (past : length t.actions ≤ i) (z : ℤ) (scores : List Score) (worth : Frac) where
   pub scores_shown : whole ≡ total column * t.over → IsFraction worth z whole
-      → AllZip (λ a s. ShowsScore t.actions whole (scored t column a) s) (take i t.actions) scores
+      → AllZip (λ a s. ShowsScore t.actions whole (scored t column a) s) (take i t.actions) scores → places scores ≡ range_with_len 0 i → i ≤ length t.actions
       → (a : Action) × Contains t.actions a × (z ≡ gained t.rest a.gains column)
       → ((k : ℕ) (a : Action) → k < i → get_or t.actions k a ≡ a → gained t.rest a.gains column ≤ℤ z)
       → IsShownBest (Table t) column (record { worth = worth; best = best.Scores scores })
-  scores_shown same fraction shown reached bound =
+  scores_shown same fraction shown placed within reached bound =
       let all : AllZip (λ a s. ShowsScore t.actions whole (scored t column a) s) t.actions scores =
       subst (λ (l : List Action). AllZip (λ a s. ShowsScore t.actions whole (scored t column a) s) l scores) (take_all i t.actions past) shown in
       let named : AllZip (ShowsScore t.actions whole) (map (scored t column) t.actions) scores =
@@ -83,5 +94,8 @@ module _ (t : TableTree) (column : List Entry) (whole i : ℕ) (past : length t.
         fraction = subst (λ (n : ℕ). IsFraction worth z n) same fraction;
         actions = Scores (map (scored t column) t.actions);
         best = refl;
-        shown = subst (λ (n : ℕ). AllZip (ShowsScore t.actions n) (map (scored t column) t.actions) scores) same named;
+        shown = (
+          subst (λ (n : ℕ). AllZip (ShowsScore t.actions n) (map (scored t column) t.actions) scores) same named,
+          placed ∙ ap (range_with_len 0) (let all : i ≡ length t.actions = omega (arith, past, within) in all ∙ sym (length-map t.actions (scored t column))),
+        );
       }

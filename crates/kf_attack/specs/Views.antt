@@ -1,6 +1,6 @@
 -- For bodies: what contracts see of attacks and of reaches.
-use Rattle.std.specs.Prelude.{◌≡◌, ℕ, pos, ◌<◌, List, [], length, slice_index_or}
-use Rattle.std.specs.List.{AllZip}
+use Rattle.std.specs.Prelude.{◌≡◌, ℕ, pos, ◌<◌, List, [], map, length, slice_index_or}
+use Rattle.std.specs.List.{AllZip, range_with_len}
 use Rattle.kf_frac.specs.Parts.{IsFraction}
 use Rattle.kf_hyper.specs.declared.entry.Entry.{Entry}
 use Rattle.kf_gain.specs.Gains.{GainOf, Table, TableTree}
@@ -29,9 +29,13 @@ pub record ShowsScore (actions : List Action) (whole : ℕ) (named : NamedGain) 
   pub name : (slice_index_or actions s.action (record { name = []; gains = [] })).name ≡ named.name
   pub score : IsFraction s.score named.gain whole
 
+-- each score is of the action at its own place
+abbrev pub places : List Score → List ℕ
+places scores = map (λ s. s.action) scores
+
 abbrev pub ShowsBest : List Action → ℕ → BestTree → Best → Type 0
 ShowsBest actions whole (Values es) (best.Values vs) = AllZip (ShowsValue whole) es vs
-ShowsBest actions whole (Scores ss) (best.Scores scores) = AllZip (ShowsScore actions whole) ss scores
+ShowsBest actions whole (Scores ss) (best.Scores scores) = AllZip (ShowsScore actions whole) ss scores × (places scores ≡ range_with_len 0 (length ss))
 ShowsBest actions whole tree best = ⊥
 
 -- the attack has these numbers, as fractions

@@ -69,7 +69,7 @@ module _ (size : ℕ) (column : List Entry) (below : IsBelow size column) where
   printable g actions whole (Values es) (best.Values vs) is show = values_below size whole es vs show (best_below g es is)
   printable g actions whole (Values es) (best.Scores ss) is show = absurd show
   printable g actions whole (Scores ns) (best.Values vs) is show = absurd show
-  printable g actions whole (Scores ns) (best.Scores ss) is show = scores_within actions whole ns ss show
+  printable g actions whole (Scores ns) (best.Scores ss) is show = scores_within actions whole ns ss show.0
 
 module _ (g : GainOf TableTree) (actions : List Action) where
   -- one attack for each inner
@@ -130,7 +130,7 @@ module _ (target : List Item) (actions : List Action) where
   best_printed whole (Values es) (best.Values vs) show = values_printed target whole es vs show
   best_printed whole (Values es) (best.Scores ss) show = absurd show
   best_printed whole (Scores ns) (best.Values vs) show = absurd show
-  best_printed whole (Scores ns) (best.Scores ss) show = scores_printed actions whole ns ss show
+  best_printed whole (Scores ns) (best.Scores ss) show = scores_printed actions whole ns ss show.0
 
   module _ (scale : ℕ) (inner : ℕ → Inner) where
     attack_printed : (n : ℕ) (i : Inner) (t : AttackTree) (a : Attack) → inner n ≡ i → ShowsAttack actions t a

@@ -1,7 +1,7 @@
-use Rattle.std.proofs.Common.{rules, ◌≡◌, ℕ, ◌+◌, ◌<◌, ◌≤◌, ◌∙◌, ◌++◌, ◌∷◌, [], List, length, refl, sym, subst, to_z, of_z, get_or, take}
+use Rattle.std.proofs.Common.{rules, ◌≡◌, ℕ, ◌+◌, ◌<◌, ◌≤◌, ◌∙◌, ◌++◌, ◌∷◌, [], List, length, refl, sym, subst, to_z, of_z, get_or, take, arith}
 use Rattle.std.specs.Prelude.{ℤ, FitsSigned}
 use Rattle.std.specs.Int.{w128, int_max}
-use Rattle.std.specs.List.{AllZip}
+use Rattle.std.specs.List.{AllZip, range_with_len}
 use Rattle.std.proofs.lemmas.Int.{to_z-of_z}
 use Rattle.std.proofs.lemmas.List.Elements.{Contains-get_or}
 use Rattle.kf_frac.specs.Fractions.{limit}
@@ -12,8 +12,8 @@ use Rattle.kf_gain.specs.Worth.{gained}
 use Rattle.kf_gain.specs.Views.{table_tree}
 use Rattle.kf_attack.specs.declared.attack.Score.{Score}
 use Rattle.kf_attack.specs.Attacks.{scored}
-use Rattle.kf_attack.specs.Views.{ShowsScore}
-use Rattle.kf_attack.proofs.Scoring.{whole_positive, gained_fits, score_next, still_reached, still_best, scores_shown}
+use Rattle.kf_attack.specs.Views.{ShowsScore, places}
+use Rattle.kf_attack.proofs.Scoring.{whole_positive, gained_fits, places_next, score_next, still_reached, still_best, scores_shown}
 use Rattle.kf_attack.proofs.scores.scored.Goals as goal
 
 pub fraction-score-requires-clause-num : goal.fraction-score-requires-clause-num
@@ -55,6 +55,9 @@ loop-action-preserved c =
       scores = subst (λ (l : List Score). AllZip (λ a s. ShowsScore t.actions whole (scored t column a) s) (take (i + 1) t.actions) l) (sym grown)
           (score_next t column whole i inside a refl new gains c.loop-action.scores.items c.fraction-score.result c.fraction-score.ensures
           c.loop-action.invariant.scores);
+      places = subst (λ (l : List Score). places l ≡ range_with_len 0 (i + 1)) (sym grown)
+          (places_next c.loop-action.scores.items i s refl c.loop-action.invariant.places);
+      within = omega (arith, inside);
       reached = still_reached t column whole i inside a refl new gains best z most c.loop-action.invariant.reached;
       best = still_best t column whole i inside a refl new gains best z most c.loop-action.invariant.best;
     }
@@ -80,4 +83,5 @@ returns c =
     let z : ℤ = to_z w128 c.loop-action.best-bits in
     rw c.new.ensures
     (scores_shown t column whole i past z c.loop-action.scores.items c.fraction.result c.whole_of-whole.ensures c.fraction.ensures
-    c.loop-action.invariant.scores c.loop-action.invariant.reached c.loop-action.invariant.best)
+    c.loop-action.invariant.scores c.loop-action.invariant.places c.loop-action.invariant.within c.loop-action.invariant.reached
+    c.loop-action.invariant.best)

@@ -1,4 +1,4 @@
--- What is accepted proves, and a matrix that proves is accepted.
+-- What is accepted proves, and a matrix or a table that proves is accepted.
 use Rattle.std.proofs.Common.{◌≡◌, ◌⊎◌, inl, inr, ⊎_elim, ℕ, zero, suc, ◌*◌, ◌<◌, ◌≤◌, List, All, refl, sym, ap, ◌∙◌, subst, arith}
 use Rattle.std.specs.Prelude.{Ok, Err, Result}
 use Rattle.std.proofs.Math.IntN.{ℤ, pos, ◌*ℤ◌}
@@ -19,7 +19,7 @@ use Rattle.kf_cert.specs.declared.mark.Rule.{Rule}
 use Rattle.kf_cert.specs.declared.mark.Rule.TheVariants as rule
 use Rattle.kf_cert.specs.declared.mark.CheckError.{CheckError}
 use Rattle.kf_cert.specs.declared.mark.CheckError.TheVariants as error
-use Rattle.kf_cert.specs.Laws.{AcceptedShows, CarryingAccepted}
+use Rattle.kf_cert.specs.Laws.{AcceptedShows, CarryingAccepted, NamedAccepted, SeparatingAccepted}
 use Rattle.kf_cert.proofs.Denominators.{at_entry, from_entries, denominator_positive, over_one_is}
 use Rattle.kf_cert.proofs.NamedRows.{sized_shape, matrix_has}
 
@@ -188,6 +188,12 @@ carrying_rules a b rows is fits = inr (in_range a b rows is, inr (fits, inr (sum
 
 pub carrying_accepted : CarryingAccepted
 carrying_accepted a b rows is_a is_b is fits = inr (is.shape, carrying_rules a b rows is fits)
+
+pub named_accepted : NamedAccepted
+named_accepted a b t rows columns is fits = inr ((rows, columns), carrying_rules a b (matrix_of t) is fits)
+
+pub separating_accepted : SeparatingAccepted
+separating_accepted a b t names is first second = inr (names, inr ((first, second), inr (is, refl)))
 
 -- the rules accept it, or the check is too wide
 pub carrying_marked : (a b : HyperTree) (rows : List (List Fraction)) → Carries a b rows → MarkedByRules a b rows (Ok Accepted) ⊎ MarkedByRules a b rows (Err error.Wide)

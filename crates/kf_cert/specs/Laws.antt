@@ -3,12 +3,12 @@ use Rattle.std.specs.Prelude.{◌≡◌, ◌⊎◌, ℕ, ◌*◌, ◌≤◌, All
 use Rattle.kf_frac.specs.Fractions.{limit}
 use Rattle.kf_value.specs.Sizes.{fault_of}
 use Rattle.kf_value.specs.Targets.{Item}
-use Rattle.kf_refine.specs.Refinements.{HyperTree, Fraction, IsShaped, Carries}
+use Rattle.kf_refine.specs.Refinements.{HyperTree, Fraction, count, IsShaped, Carries}
 use Rattle.kf_refine.specs.Verdicts.{VerdictTree, IsVerdict}
 use Rattle.kf_refine.specs.Views.{IsProper}
-use Rattle.kf_cert.specs.Certificates.{CertTree, Yes, Named, No, cert_of, matrix_of}
+use Rattle.kf_cert.specs.Certificates.{CertTree, Yes, Named, No, NamedTable, NamedTree, cert_of, matrix_of}
 use Rattle.kf_cert.specs.CertTexts.{cert_text, named_of}
-use Rattle.kf_cert.specs.Marks.{IsMarked, IsSeparating, denominator}
+use Rattle.kf_cert.specs.Marks.{IsMarked, IsSeparating, NamesValues, denominator, width}
 use Rattle.kf_cert.specs.Views.{read_back, IsLowest, IsPrintable, IsSound}
 use Rattle.kf_cert.specs.declared.mark.Mark.{Mark}
 use Rattle.kf_cert.specs.declared.mark.Mark.TheVariants.{Accepted}
@@ -29,6 +29,15 @@ AcceptedShows = (a b : HyperTree) (c : CertTree) → IsProper a → IsProper b �
 abbrev pub CarryingAccepted : Type 0
 CarryingAccepted = (a b : HyperTree) (rows : List (List Fraction)) → IsProper a → IsProper b → Carries a b rows
     → a.scale * denominator rows ≤ limit → IsMarked a b (Yes rows) (Ok Accepted)
+
+-- so is one that is named by its entries, and a table that separates, with each value named once
+abbrev pub NamedAccepted : Type 0
+NamedAccepted = (a b : HyperTree) (t : NamedTree) → t.rows ≡ count a → t.columns ≡ count b → Carries a b (matrix_of t)
+    → a.scale * denominator (matrix_of t) ≤ limit → IsMarked a b (Named t) (Ok Accepted)
+
+abbrev pub SeparatingAccepted : Type 0
+SeparatingAccepted = (a b : HyperTree) (t : NamedTable) → NamesValues a.target t → IsSeparating a b t
+    → a.scale * width t ≤ limit → b.scale * width t ≤ limit → IsMarked a b (No t) (Ok Accepted)
 
 -- the entries that are named of a matrix name that matrix, where its rows have one length and its fractions are in lowest terms
 abbrev pub NamesAll : Type 0

@@ -1,14 +1,16 @@
 //! Laws of the definitions, each a clause of a function that does nothing.
 
-ghost use Rattle.kf_cert.specs.Laws.{AcceptedShows, CarryingAccepted, NamesAll, OneMark, ReadSound, ReadsBack, SomeMark, WrittenAccepted};
+ghost use Rattle.kf_cert.specs.Laws.{AcceptedShows, CarryingAccepted, NamedAccepted, NamesAll, OneMark, ReadSound, ReadsBack, SeparatingAccepted, SomeMark, WrittenAccepted};
 
 use kf_value::text_laws;
 
-/// What is accepted proves; a matrix that proves is accepted, and so is what is written of a verdict, unless the check is too wide. The
+/// What is accepted proves; a matrix or a table that proves is accepted, and so is what is written of a verdict, unless the check is too wide. The
 /// entries that are named of a matrix name it.
 pub fn cert_laws()
     ensures shows { AcceptedShows }
     ensures carrying { CarryingAccepted }
+    ensures named { NamedAccepted }
+    ensures separating { SeparatingAccepted }
     ensures reads_back { ReadsBack }
     ensures written { WrittenAccepted }
     ensures read_sound { ReadSound }

@@ -1,4 +1,4 @@
-use Rattle.kf_cert.proofs.Accepting.{accepted_shows, carrying_accepted}
+use Rattle.kf_cert.proofs.Accepting.{accepted_shows, carrying_accepted, named_accepted, separating_accepted}
 use Rattle.kf_cert.proofs.Formed.{read_sound}
 use Rattle.kf_cert.proofs.NamedRows.{names_all}
 use Rattle.kf_cert.proofs.Proclaiming.{written}
@@ -10,6 +10,12 @@ returns-clause-shows c = accepted_shows
 
 pub returns-clause-carrying : goal.returns-clause-carrying
 returns-clause-carrying c = carrying_accepted
+
+pub returns-clause-named : goal.returns-clause-named
+returns-clause-named c = named_accepted
+
+pub returns-clause-separating : goal.returns-clause-separating
+returns-clause-separating c = separating_accepted
 
 pub returns-clause-reads_back : goal.returns-clause-reads_back
 returns-clause-reads_back c = reads_back

@@ -10,3 +10,4 @@ pub mod Views
 pub mod Endings
 pub mod AttackViews
 pub mod BlameViews
+pub mod CapacityViews

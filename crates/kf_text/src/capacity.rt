@@ -3,6 +3,7 @@ ghost use Rattle.kf_frac.specs.Parts.{IsFraction};
 ghost use Rattle.kf_capacity.specs.Grids.{GridTree, capacity_of};
 ghost use Rattle.kf_capacity.specs.Views.{grid_tree};
 ghost use Rattle.kf_text.specs.CapacityTexts.{capacity_text as text_of_capacity, algebra_text as text_of_algebra};
+ghost use Rattle.kf_text.specs.CapacityViews.{own_algebra_lines, own_capacity_line};
 ghost use Rattle.kf_text.specs.Texts.{line};
 
 use crate::items::print_fraction;
@@ -13,7 +14,8 @@ use std::alloc::Global;
 
 /// The printed Bayes capacity of a channel.
 pub fn capacity_text(alloc: Global, f: Frac) -> Result<Vec<u8>, Mem>
-    ensures { (g : GridTree) → IsFraction f (pos (capacity_of g)) g.over → IfOk result (λ text. text.items ≡ text_of_capacity g) }
+    ensures parts { IfOk result (λ text. text.items ≡ own_capacity_line f) }
+    ensures numbers { (g : GridTree) → IsFraction f (pos (capacity_of g)) g.over → IfOk result (λ text. text.items ≡ text_of_capacity g) }
 {
     let mut out = Vec::new(alloc);
     print_fraction(alloc, b"capacity ", f, &mut out)?;
@@ -40,7 +42,8 @@ pub fn algebra_text(
     second: Frac,
     both: Frac,
 ) -> Result<Vec<u8>, Mem>
-    ensures { (a b : GridTree) → IsFraction first (pos (capacity_of a)) a.over → IsFraction second (pos (capacity_of b)) b.over
+    ensures parts { IfOk result (λ text. text.items ≡ own_algebra_lines (grid_tree g.now) first second both) }
+    ensures numbers { (a b : GridTree) → IsFraction first (pos (capacity_of a)) a.over → IsFraction second (pos (capacity_of b)) b.over
         → IsFraction both (pos (capacity_of (grid_tree g.now))) (grid_tree g.now).over
         → IfOk result (λ text. text.items ≡ text_of_algebra a b (grid_tree g.now)) }
 {

@@ -34,4 +34,4 @@ returns-clause-answer c =
     let first = c.in_ok-first_capacity.ensures.answer in
     let second = c.in_ok-second_capacity.ensures.answer in
     let last = c.in_ok-capacity.ensures.answer in
-    all_narrow g h (grid_tree c.args.both.now) first.0 second.0 last.0 c.in_ok-bytes.bytes.items (c.in_ok-bytes.ensures g h first.1 second.1 last.1)
+    all_narrow g h (grid_tree c.args.both.now) first.0 second.0 last.0 c.in_ok-bytes.bytes.items (c.in_ok-bytes.ensures.numbers g h first.1 second.1 last.1)

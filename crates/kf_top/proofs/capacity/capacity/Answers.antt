@@ -25,4 +25,4 @@ returns-clause-answer c =
     let channel = channel_tree c.in_ok-channel.channel in
     let capacity = c.in_ok-capacity.ensures.answer in
     capacity_prints (turns_of cleared) (program_in cleared) channel c.in_ok-channel.ensures.answer capacity.0 c.in_ok-bytes.bytes.items
-    (c.in_ok-bytes.ensures (channel_grid channel) capacity.1)
+    (c.in_ok-bytes.ensures.numbers (channel_grid channel) capacity.1)

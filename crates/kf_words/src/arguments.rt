@@ -26,17 +26,15 @@ pub(crate) struct Arguments<'b, 'a> {
 fn command_line<'a>(alloc: Global) -> Result<Command<'a>, AllocError>
     ensures { IfOk result (λ c. app_of c ≡ line_of_commands) }
 {
-    let words = Arg::new(alloc, "words").num_args(0..);
-    let gain = Arg::new(alloc, "gain").long("gain");
-    let turns = Arg::new(alloc, "turns").long("turns");
-    let json = Arg::new(alloc, "json")
-        .long("json")
-        .action(ArgAction::SetTrue);
     let command = Command::new(alloc, "kuifje")
-        .arg(words)?
-        .arg(gain)?
-        .arg(turns)?
-        .arg(json)?;
+        .arg(Arg::new(alloc, "words").num_args(0..))?
+        .arg(Arg::new(alloc, "gain").long("gain"))?
+        .arg(Arg::new(alloc, "turns").long("turns"))?
+        .arg(
+            Arg::new(alloc, "json")
+                .long("json")
+                .action(ArgAction::SetTrue),
+        )?;
     Ok(command)
 }
 

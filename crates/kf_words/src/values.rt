@@ -3,7 +3,7 @@ ghost use Rattle.std.specs.Prelude.{◌≡◌, [], ◌∷◌, IfOk, IfSome, None
 ghost use Rattle.kf_words.specs.CommandViews.{arguments_shown, on_gain, on_one, on_two, pair_task, task_shown, values_of};
 ghost use Rattle.kf_words.specs.GainWords.{gain_named};
 ghost use Rattle.kf_words.specs.Jobs.{gain_of, task_of_job, IsInRange};
-ghost use Rattle.kf_words.specs.Task.{on_files};
+ghost use Rattle.kf_words.specs.Task.{Check, Refine, on_files};
 
 use crate::arguments::Arguments;
 use crate::commands::{CommandWord, OneFile, TwoFiles, UnderGain, WithPair};
@@ -120,6 +120,25 @@ fn with_pair(
     })
 }
 
+// The job of `refine`.
+fn refine_job(alloc: Global, a: &str, b: &str, json: bool, turns: u32) -> Result<Job, Mem>
+    ensures { IfOk result (λ job. task_of_job job ≡ on_files (Refine json) (a.now ∷ b.now ∷ []) turns) }
+{
+    let a = name_of(alloc, a)?;
+    let b = name_of(alloc, b)?;
+    Ok(Job::Refine { a, b, json, turns })
+}
+
+// The job of `check`.
+fn check_job(alloc: Global, cert: &str, a: &str, b: &str, turns: u32) -> Result<Job, Mem>
+    ensures { IfOk result (λ job. task_of_job job ≡ on_files (Check cert.now) (a.now ∷ b.now ∷ []) turns) }
+{
+    let cert = name_of(alloc, cert)?;
+    let a = name_of(alloc, a)?;
+    let b = name_of(alloc, b)?;
+    Ok(Job::Check { cert, a, b, turns })
+}
+
 /// The job of a command and the values after its word, files' names or numbers; none where a value is no such number, or where the command
 /// needs a gain and `--gain` names none.
 pub(crate) fn job_on(
@@ -160,17 +179,13 @@ pub(crate) fn job_on(
             };
             Some(Job::Make { n, turns })
         }
-        CommandWord::Refine => Some(Job::Refine {
-            a: name_of(alloc, values[0])?,
-            b: name_of(alloc, values[1])?,
-            json: arguments.json,
+        CommandWord::Refine => Some(refine_job(
+            alloc,
+            values[0],
+            values[1],
+            arguments.json,
             turns,
-        }),
-        CommandWord::Check => Some(Job::Check {
-            cert: name_of(alloc, values[0])?,
-            a: name_of(alloc, values[1])?,
-            b: name_of(alloc, values[2])?,
-            turns,
-        }),
+        )?),
+        CommandWord::Check => Some(check_job(alloc, values[0], values[1], values[2], turns)?),
     })
 }

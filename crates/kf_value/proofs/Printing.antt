@@ -18,16 +18,6 @@ tuple_text vs = ap (λ ts. codes "(" ++ (separated ts ++ codes ")")) (texts-part
 pub set_text : (vs : List ValueTree) → text (Set (parts vs)) ≡ codes "{" ++ (separated (map text vs) ++ codes "}")
 set_text vs = ap (λ ts. codes "{" ++ (separated ts ++ codes "}")) (texts-parts vs)
 
-pub tuple_written : (vs : List ValueTree) (out a b c : List ℕ) → a ≡ out ++ 40 ∷ [] → b ≡ a ++ separated (map text vs) → c ≡ b ++ 41 ∷ []
-    → c ≡ out ++ text (Tuple (parts vs))
-tuple_written vs out a b c first second third =
-    bracketed out (codes "(") (separated (map text vs)) (codes ")") a b c first second third ∙ ap (λ z. out ++ z) (sym (tuple_text vs))
-
-pub set_written : (vs : List ValueTree) (out a b c : List ℕ) → a ≡ out ++ 123 ∷ [] → b ≡ a ++ separated (map text vs) → c ≡ b ++ 125 ∷ []
-    → c ≡ out ++ text (Set (parts vs))
-set_written vs out a b c first second third =
-    bracketed out (codes "{") (separated (map text vs)) (codes "}") a b c first second third ∙ ap (λ z. out ++ z) (sym (set_text vs))
-
 -- several values show as a tuple, and so does none
 pub shown_many : (vs : List ValueTree) → length vs ≢ 1 → shown vs ≡ text (Tuple (parts vs))
 shown_many [] many = refl

@@ -1,4 +1,4 @@
-ghost use Rattle.std.specs.Prelude.{◌≡◌, ◌≤◌, ◌<◌, ◌^◌, ◌-◌, ◌++◌, min, List, length, map, slice_get, None, Some, OnOk, OnErr, IfOk};
+ghost use Rattle.std.specs.Prelude.{◌≡◌, ◌≤◌, ◌<◌, ◌^◌, ◌-◌, ◌++◌, ◌∷◌, [], min, List, length, map, slice_get, None, Some, OnOk, OnErr, IfOk};
 ghost use Rattle.std.specs.List.{All};
 ghost use Rattle.kf_value.specs.Sizes.{fault_of, HasSize, HasNumber};
 ghost use Rattle.kf_value.specs.Values.{ValueTree, Tuple, parts};
@@ -59,22 +59,28 @@ fn write_value(v: &Value, out: &mut Vec<u8>) -> Result<(), Mem>
     ensures { OnOk result (out.new.items ≡ out.old.items ++ text (value_tree v.now)) }
 {
     match v {
-        Value::Bool(truth) => out.extend_from_slice(if *truth { b"true" } else { b"false" })?,
-        Value::Int(whole) => {
-            let mut digits = Buffer::new();
-            out.extend_from_slice(digits.format(*whole).as_bytes())?;
-        }
-        Value::Tuple(parts) => {
-            out.push(b'(')?;
-            write_separated(parts.as_slice(), out)?;
-            out.push(b')')?;
-        }
-        Value::Set(elements) => {
-            out.push(b'{')?;
-            write_separated(elements.as_slice(), out)?;
-            out.push(b'}')?;
-        }
+        Value::Bool(truth) => write_bytes(if *truth { b"true" } else { b"false" }, out),
+        Value::Int(whole) => write_bytes(Buffer::new().format(*whole).as_bytes(), out),
+        Value::Tuple(parts) => write_between(b'(', parts.as_slice(), b')', out),
+        Value::Set(elements) => write_between(b'{', elements.as_slice(), b'}', out),
     }
+}
+
+fn write_bytes(bytes: &[u8], out: &mut Vec<u8>) -> Result<(), Mem>
+    ensures { OnOk result (out.new.items ≡ out.old.items ++ bytes.now) }
+{
+    out.extend_from_slice(bytes)?;
+    Ok(())
+}
+
+/// Writes the texts of the values with a comma and a space between them, after an opening byte and before a closing one.
+#[cycle(write_value)]
+fn write_between(opening: u8, values: &[Value], closing: u8, out: &mut Vec<u8>) -> Result<(), Mem>
+    ensures { OnOk result (out.new.items ≡ out.old.items ++ opening ∷ separated (map text (map value_tree values.now)) ++ closing ∷ []) }
+{
+    out.push(opening)?;
+    write_separated(values, out)?;
+    out.push(closing)?;
     Ok(())
 }
 

@@ -1,22 +1,23 @@
-use Rattle.std.proofs.Common.{◌++◌, map, sym, ap, ◌∙◌}
+use Rattle.std.proofs.Common.{◌++◌, ◌∷◌, [], map, sym, ap, ◌∙◌}
+use Rattle.std.proofs.lemmas.List.{append_assoc}
+use Rattle.std.proofs.lemmas.Result.{on_ok_weaker}
 use Rattle.kf_value.specs.Texts.{text, separated}
-use Rattle.kf_value.specs.Views.{value_tree, value_trees}
-use Rattle.kf_value.proofs.Printing.{tuple_written, set_written}
+use Rattle.kf_value.specs.Values.{Tuple, Set, parts}
+use Rattle.kf_value.specs.Views.{value_tree}
+use Rattle.kf_value.proofs.Printing.{tuple_text, set_text}
 use Rattle.kf_value.proofs.Trees.{value_tree-Tuple, value_tree-Set}
 use Rattle.kf_value.proofs.prints.+write_value.Goals as goal
 
-pub write_value-returns-in_ok-push-in-Tuple-2 : goal.write_value-returns-in_ok-push-in-Tuple-2
-write_value-returns-in_ok-push-in-Tuple-2 t c =
-    let shows = ap value_tree c.in-Tuple.is ∙ value_tree-Tuple c.in-Tuple.parts in
-    let middle = c.in_ok-write_separated-in-Tuple.ensures ∙ ap (λ vs. c.push.new.self.items ++ separated (map text (map value_tree vs))) c.as_slice.ensures in
-    tuple_written (value_trees c.in-Tuple.parts) c.args.out.now.items c.push.new.self.items c.write_separated.new.out.items c.push-in-Tuple.new.self.items
-    c.in_ok-push-in-Tuple.ensures.items middle c.in_ok-push-in-Tuple-2.ensures.items
-    ∙ ap (λ v. c.args.out.now.items ++ text v) (sym shows)
+pub write_value-returns-in-Tuple : goal.write_value-returns-in-Tuple
+write_value-returns-in-Tuple t c =
+    let vs = map value_tree c.as_slice.result.now in
+    let is = ap value_tree c.in-Tuple.is ∙ (value_tree-Tuple c.in-Tuple.parts ∙ ap (λ us. Tuple (parts (map value_tree us))) (sym c.as_slice.ensures)) in
+    let shows = append_assoc c.args.out.now.items (40 ∷ separated (map text vs)) (41 ∷ []) ∙ ap (λ z. c.args.out.now.items ++ z) (sym (ap text is ∙ tuple_text vs)) in
+    on_ok_weaker c.write_between.result (λ written. written ∙ shows) c.write_between.ensures
 
-pub write_value-returns-in_ok-push-in-Set-2 : goal.write_value-returns-in_ok-push-in-Set-2
-write_value-returns-in_ok-push-in-Set-2 t c =
-    let shows = ap value_tree c.in-Set.is ∙ value_tree-Set c.in-Set.elements in
-    let middle = c.in_ok-write_separated-in-Set.ensures ∙ ap (λ vs. c.push-in-Set.new.self.items ++ separated (map text (map value_tree vs))) c.as_slice-in-Set.ensures in
-    set_written (value_trees c.in-Set.elements) c.args.out.now.items c.push-in-Set.new.self.items c.write_separated-in-Set.new.out.items c.push-in-Set-2.new.self.items
-    c.in_ok-push-in-Set.ensures.items middle c.in_ok-push-in-Set-2.ensures.items
-    ∙ ap (λ v. c.args.out.now.items ++ text v) (sym shows)
+pub write_value-returns-in-Set : goal.write_value-returns-in-Set
+write_value-returns-in-Set t c =
+    let vs = map value_tree c.as_slice-in-Set.result.now in
+    let is = ap value_tree c.in-Set.is ∙ (value_tree-Set c.in-Set.elements ∙ ap (λ us. Set (parts (map value_tree us))) (sym c.as_slice-in-Set.ensures)) in
+    let shows = append_assoc c.args.out.now.items (123 ∷ separated (map text vs)) (125 ∷ []) ∙ ap (λ z. c.args.out.now.items ++ z) (sym (ap text is ∙ set_text vs)) in
+    on_ok_weaker c.write_between-in-Set.result (λ written. written ∙ shows) c.write_between-in-Set.ensures

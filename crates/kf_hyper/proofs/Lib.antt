@@ -11,6 +11,7 @@ mod Joining
 mod Moving
 mod Neighbours
 mod Numbers
+mod OneMore
 pub mod Ordered
 pub mod Posteriors
 pub mod Projecting

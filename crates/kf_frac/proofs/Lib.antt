@@ -5,4 +5,5 @@ pub mod Multiples
 pub mod Products
 pub mod Ring
 pub mod Scaling
+mod Signs
 pub mod Twos

@@ -1,5 +1,5 @@
 -- Believed: whether a certificate proves what it is to prove about two hypers, or the first rule that it breaks.
-use Rattle.std.specs.Prelude.{◌≡◌, ◌⊎◌, ◌↔◌, ℕ, ◌*◌, ◌/◌, ◌<◌, ◌≤◌, max, All, ℤ, pos, ◌*ℤ◌, ◌≤ℤ◌, List, [], ◌∷◌, map, flat_map, length, Contains, true, Result, Ok, Err}
+use Rattle.std.specs.Prelude.{◌≡◌, ◌⊎◌, ◌↔◌, ℕ, ◌*◌, ◌/◌, ◌<◌, ◌≤◌, max, All, ℤ, pos, ◌*ℤ◌, ◌≤ℤ◌, List, ◌∷◌, map, flat_map, length, Contains, true, Result, Ok, Err}
 use Rattle.std.specs.List.{AllZip, list_all}
 use Rattle.std.specs.List.Sorted.{IsStrictlyIncreasing}
 use Rattle.kf_frac.specs.Divisors.{common_multiple}

@@ -20,7 +20,7 @@ use kf_gain::{Action, GainEntry, GainTable};
 use kf_refine::{Matrix, Verdict};
 use kf_simplex::FracList;
 use kf_value::{Mem, Target, print_target};
-use serde_json::{Map, Value, json, put};
+use serde_json::{Map, Value, put};
 use std::alloc::Global;
 
 /// The certificate of a verdict on hypers of this target, as one line of JSON without spaces.
@@ -51,16 +51,16 @@ fn yes_value(alloc: Global, matrix: &Matrix) -> Result<Value, Mem>
     ensures small { IfOk result (λ _. IsSmall (matrix_tree matrix.now)) }
 {
     let rows = matrix.rows.as_slice();
-    let entries = entry_values(alloc, rows)?;
     let columns = widest(rows).to_string(alloc)?;
-    let count = rows.len().to_string(alloc)?;
-    let format = Value::try_from_str(alloc, "kuifje-cert-2")?;
-    let verdict = Value::try_from_str(alloc, "yes")?;
     let mut members = Map::new(alloc);
     put(&mut members, alloc, "columns", Value::String(columns))?;
+    let entries = entry_values(alloc, rows)?;
     put(&mut members, alloc, "entries", Value::Array(entries))?;
+    let format = Value::try_from_str(alloc, "kuifje-cert-2")?;
     put(&mut members, alloc, "format", format)?;
+    let count = rows.len().to_string(alloc)?;
     put(&mut members, alloc, "rows", Value::String(count))?;
+    let verdict = Value::try_from_str(alloc, "yes")?;
     put(&mut members, alloc, "verdict", verdict)?;
     Ok(Value::Object(members))
 }
@@ -110,11 +110,11 @@ fn add_row(alloc: Global, values: &mut Vec<Value>, i: usize, row: &[Frac]) -> Re
 fn entry_value(alloc: Global, row: usize, column: usize, value: &Frac) -> Result<Value, Mem>
     ensures { IfOk result (λ made. view made ≡ entry_data (record { row = row; column = column; value = fraction_of value.now })) }
 {
-    let row = row.to_string(alloc)?;
-    let column = column.to_string(alloc)?;
-    let value = value.to_string(alloc)?;
-    let entry = json!(in alloc; [row, column, value])?;
-    Ok(entry)
+    let mut texts = Vec::new(alloc);
+    texts.push(Value::String(row.to_string(alloc)?))?;
+    texts.push(Value::String(column.to_string(alloc)?))?;
+    texts.push(Value::String(value.to_string(alloc)?))?;
+    Ok(Value::Array(texts))
 }
 
 fn no_value(alloc: Global, table: &GainTable, target: &Target) -> Result<Value, Mem>
@@ -122,15 +122,15 @@ fn no_value(alloc: Global, table: &GainTable, target: &Target) -> Result<Value, 
     ensures { IfOk result (λ value. view value ≡ no_data (items_of target.now) (table_tree table.now)) }
 {
     let actions = action_values(alloc, table.actions.as_slice(), target)?;
-    let over = table.over.to_string(alloc)?;
-    let rest = table.rest.to_string(alloc)?;
-    let format = Value::try_from_str(alloc, "kuifje-cert-2")?;
-    let verdict = Value::try_from_str(alloc, "no")?;
     let mut members = Map::new(alloc);
     put(&mut members, alloc, "actions", Value::Array(actions))?;
+    let format = Value::try_from_str(alloc, "kuifje-cert-2")?;
     put(&mut members, alloc, "format", format)?;
+    let over = table.over.to_string(alloc)?;
     put(&mut members, alloc, "over", Value::String(over))?;
+    let rest = table.rest.to_string(alloc)?;
     put(&mut members, alloc, "rest", Value::String(rest))?;
+    let verdict = Value::try_from_str(alloc, "no")?;
     put(&mut members, alloc, "verdict", verdict)?;
     Ok(Value::Object(members))
 }
@@ -151,9 +151,11 @@ fn action_value(alloc: Global, action: &Action, target: &Target) -> Result<Value
     ensures { IfOk result (λ value. view value ≡ action_data (items_of target.now) action.now) }
 {
     let gains = gain_values(alloc, action.gains.as_slice(), target)?;
-    let name = action.name.as_str();
-    let value = json!(in alloc; {"gains": gains, "name": name})?;
-    Ok(value)
+    let mut members = Map::new(alloc);
+    put(&mut members, alloc, "gains", Value::Array(gains))?;
+    let name = Value::try_from_str(alloc, action.name.as_str())?;
+    put(&mut members, alloc, "name", name)?;
+    Ok(Value::Object(members))
 }
 
 fn gain_values(alloc: Global, gains: &[GainEntry], target: &Target) -> Result<Vec<Value>, Mem>
@@ -172,10 +174,10 @@ fn gain_value(alloc: Global, entry: &GainEntry, target: &Target) -> Result<Value
     requires { entry.now.value < target_size (items_of target.now) }
     ensures { IfOk result (λ value. view value ≡ gain_data (items_of target.now) entry.now) }
 {
-    let value = value_text(alloc, entry.value, target)?;
-    let gain = entry.gain.to_string(alloc)?;
-    let pair = json!(in alloc; [value, gain])?;
-    Ok(pair)
+    let mut texts = Vec::new(alloc);
+    texts.push(Value::String(value_text(alloc, entry.value, target)?))?;
+    texts.push(Value::String(entry.gain.to_string(alloc)?))?;
+    Ok(Value::Array(texts))
 }
 
 /// The text of the target's value with this number.

@@ -1,6 +1,6 @@
 //! The actions of a gain table by the numbers of their values.
 
-ghost use Rattle.std.specs.Prelude.{◌≡◌, All, IfOk, IfSome, None, map, true, false};
+ghost use Rattle.std.specs.Prelude.{◌≡◌, All, IfOk, IfSome, None, true, false};
 ghost use Rattle.std.specs.List.{AllZip, list_all};
 ghost use Rattle.kf_cert.specs.Naming.{IsEntryOf, IsMade, NamesOnce, texts_of};
 ghost use Rattle.kf_gain.specs.Tables.{is_value_text};
@@ -52,12 +52,12 @@ fn action(alloc: Global, target: &Target, named: &CertAction) -> Result<Option<A
     ensures some { IfOk result (λ found. IfSome found (IsMade (items_of target.now) named.now)) }
     ensures none { IfOk result (λ found. found ≡ None → NamesOnce (items_of target.now) named.now → ⊥) }
 {
-    let Some(mut entries) = entries(alloc, target, named.gains.as_slice())? else {
-        return Ok(None);
-    };
     if !names_once(alloc, named.gains.as_slice())? {
         return Ok(None);
     }
+    let Some(mut entries) = entries(alloc, target, named.gains.as_slice())? else {
+        return Ok(None);
+    };
     entries.sort_unstable_by_key(|entry| entry.value);
     Ok(Some(Action {
         name: named.name.copy(alloc)?,

@@ -1,6 +1,6 @@
 //! Sums of what actions gain beyond the `rest` of their table.
 
-ghost use Rattle.std.specs.Prelude.{◌≡◌, ◌≤◌, ◌<◌, ◌+◌, ◌*◌, ◌==◌, ℕ, None, pos, ◌+ℤ◌, ◌*ℤ◌, ◌≤ℤ◌, All, OnOk, sum_by, unsigned_abs, if◌then◌else◌};
+ghost use Rattle.std.specs.Prelude.{◌≡◌, ◌≤◌, ◌<◌, ◌+◌, ◌*◌, ◌==◌, ℕ, None, pos, ◌+ℤ◌, ◌*ℤ◌, ◌≤ℤ◌, All, OnOk, unsigned_abs, if◌then◌else◌};
 ghost use Rattle.std.specs.BTreeMap.{get};
 ghost use Rattle.std.specs.Ordering.{nat_cmp};
 ghost use Rattle.kf_cert.specs.NamedGains.{sum_at, AreBelow, amount_at, size_at};

@@ -1,6 +1,6 @@
 //! The entries of a matrix as whole numbers over their common denominator.
 
-ghost use Rattle.std.specs.Prelude.{◌≡◌, ◌≤◌, ◌<◌, ◌^◌, ◌==◌, ℕ, All, IfOk, IsTrue, ◌↔◌, map, sum_by, if◌then◌else◌};
+ghost use Rattle.std.specs.Prelude.{◌≡◌, ◌<◌, ◌^◌, ◌==◌, ℕ, All, IfOk, IsTrue, ◌↔◌, map, sum_by, if◌then◌else◌};
 ghost use Rattle.std.specs.List.Sorted.{IsNonDecreasingBy};
 ghost use Rattle.kf_cert.specs.Rows.{IsWithin, AreWithin, amount_of, share_of, SumsToOne};
 ghost use Rattle.kf_cert.specs.Views.{entry_tree};

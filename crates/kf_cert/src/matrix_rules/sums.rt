@@ -1,6 +1,6 @@
 //! The common denominator of the entries of a matrix.
 
-ghost use Rattle.std.specs.Prelude.{◌≡◌, ◌*◌, ◌≤◌, ◌<◌, IfSome, SomeIff, map};
+ghost use Rattle.std.specs.Prelude.{◌*◌, ◌≤◌, ◌<◌, IfSome, SomeIff, map};
 ghost use Rattle.kf_cert.specs.Rows.{dens};
 ghost use Rattle.kf_cert.specs.Views.{entry_tree};
 ghost use Rattle.kf_frac.specs.Divisors.{common_multiple as multiple_of};

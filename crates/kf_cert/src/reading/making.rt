@@ -166,8 +166,8 @@ fn action(alloc: Global, value: &Value) -> Result<CertAction, CertError>
     ensures reads { IfOk result (λ _. reads_action (view value.now) ≡ true) }
     ensures err { IfErr result (λ e. e ≢ broken.Mem → (e ≡ broken.Wide) × (reads_action (view value.now) ≡ false)) }
 {
-    let gains = entries(alloc, value)?;
     let name = String::from_str(alloc, text(value.get("name")))?;
+    let gains = entries(alloc, value)?;
     Ok(CertAction {
         name: Name::new(name),
         gains,

@@ -13,10 +13,10 @@ use Rattle.kf_cert.proofs.gain_rules.numbering.action.Goals as goal
 pub returns-clause-some : goal.returns-clause-some
 returns-clause-some c =
     let target = items_of c.args.target.now in
-    let gains = c.as_slice.ensures in
+    let gains = c.as_slice-2.ensures in
     let entries = subst (λ gs. AllZip (IsEntryOf target) gs c.in-Some.entries.items) gains (rw c.in-Some.is at c.in_ok-entries.ensures.some) in
     let known = subst (λ gs. list_all (is_value_text target) (texts_of gs) ≡ true) gains (rw c.in-Some.is at c.in_ok-entries.ensures.known) in
-    let once = ap (λ gs. are_distinct (texts_of gs)) (sym c.as_slice-2.ensures) ∙ sym c.in_ok-names_once.ensures ∙ c.if-not-branch.false in
+    let once = ap (λ gs. are_distinct (texts_of gs)) (sym c.as_slice.ensures) ∙ sym c.in_ok-names_once.ensures ∙ c.if-not-branch.false in
     action_made target c.args.named.now c.in-Some.entries.items c.sort_unstable_by_key.new.self.items _ entries c.sort_unstable_by_key.ensures.permutation
     (IsNonDecreasingBy-from_sort_by_key (λ (e : GainEntry). e.value) c.sort_unstable_by_key.new.self.items c.sort_unstable_by_key.ensures.sorted (λ a r q k. search (rules, tests)))
     c.in_ok-copy.ensures c.new.ensures (known, once)

@@ -1,9 +1,9 @@
 -- The elements with one key, among elements whose keys don't fall.
-use Rattle.std.proofs.Common.{◌≡◌, ℕ, ◌+◌, ◌<◌, ◌==◌, List, [], ◌∷◌, All, sum_by, take, drop, length, get_or, Bool, true, false, refl, sym, ap, subst, arith, if◌then◌else◌, length-drop}
+use Rattle.std.proofs.Common.{◌≡◌, ℕ, ◌+◌, ◌<◌, ◌==◌, List, [], ◌∷◌, All, sum_by, take, drop, length, get_or, Bool, true, false, refl, ap, arith, if◌then◌else◌, length-drop}
 use Rattle.std.specs.List.Sorted.{IsPartitionPoint}
 use Rattle.std.proofs.lemmas.Bool.{eq-eqb, ne_eqb, ltb-true, ltb-false, leb-true, leb-false}
 use Rattle.std.proofs.lemmas.List.{get_or-take, get_or-drop, length-take}
-use Rattle.std.proofs.lemmas.List.Elements.{All-head, All-tail, All-take, All-drop}
+use Rattle.std.proofs.lemmas.List.Elements.{All-head, All-tail}
 use Rattle.std.proofs.lemmas.List.Sums.{sum_by-cons, sum_by-take-drop}
 use lib.Dec.{ltb, leb}
 
@@ -66,6 +66,3 @@ module _ {X : Type 0} (key : X → ℕ) (one : ℕ) where
           ap (sum_by (tested f)) rest,
           sum_by-take-drop (tested f) behind end,
         )
-
-    pub key_each : (P : X → Type 0) → All P xs → All P these
-    key_each P all = subst (All P) (sym are) (All-take P end behind (subst (All P) (sym rest) (All-drop P start xs all)))

@@ -1,6 +1,6 @@
 //! The rules of form on a certificate.
 
-ghost use Rattle.std.specs.Prelude.{◌≡◌, ◌&&◌, nat_le, length, map, None, take};
+ghost use Rattle.std.specs.Prelude.{◌≡◌, ◌==◌, ◌&&◌, nat_le, length, map, None, take};
 ghost use Rattle.std.specs.List.{list_all};
 ghost use Rattle.kf_json.specs.Json.{is_list as is_a_list, members as member_list};
 ghost use Rattle.serde_json.specs.View.{view};
@@ -141,12 +141,18 @@ fn is_size(found: Option<&Value>) -> bool
     is_whole_number(found) && !is_negative(text(found))
 }
 
+/// Whether the value is a list of so many.
+fn is_list_of(value: &Value, count: usize) -> bool
+    ensures { result ≡ (is_a_list (view value.now) && (length (member_list (view value.now)) == count)) }
+{
+    is_list(Some(value)) && members(Some(value)).len() == count
+}
+
 /// Whether the value is a list of three: a row and a column, which are such, and a fraction.
 fn is_entry(value: &Value) -> bool
     ensures { result ≡ rule.is_entry (view value.now) }
 {
-    is_list(Some(value))
-        && members(Some(value)).len() == 3
+    is_list_of(value, 3)
         && is_size(value.get(0usize))
         && is_size(value.get(1usize))
         && is_fraction(value.get(2usize))
@@ -228,10 +234,7 @@ fn has_table(value: &Value) -> bool
 fn is_gain(value: &Value) -> bool
     ensures { result ≡ rule.is_gain (view value.now) }
 {
-    is_list(Some(value))
-        && members(Some(value)).len() == 2
-        && is_text(value.get(0usize))
-        && is_whole_number(value.get(1usize))
+    is_list_of(value, 2) && is_text(value.get(0usize)) && is_whole_number(value.get(1usize))
 }
 
 /// Whether the action's gains are a list of such.

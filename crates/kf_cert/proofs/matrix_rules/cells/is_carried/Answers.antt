@@ -1,4 +1,4 @@
-use Rattle.std.proofs.Common.{◌≡◌, ◌*◌, ℕ, arith, List, [], refl, sym, ◌∙◌, ap, get_or}
+use Rattle.std.proofs.Common.{◌≡◌, ◌*◌, ◌^◌, ◌<◌, ℕ, All, arith, List, [], refl, sym, ◌∙◌, ap, subst, get_or}
 use Rattle.kf_hyper.specs.declared.entry.Entry.{Entry}
 use Rattle.kf_hyper.specs.Hypers.{Inner}
 use Rattle.kf_hyper.specs.Views.{inners_of, scale_of}
@@ -6,7 +6,7 @@ use Rattle.kf_hyper.proofs.Scaling.{product_positive}
 use Rattle.kf_refine.specs.Refinements.{joint}
 use Rattle.kf_refine.specs.Views.{hyper_tree}
 use Rattle.kf_cert.specs.Cells.{column_weight, share_weight, total_at}
-use Rattle.kf_cert.proofs.Inners.{is_inner, times_some}
+use Rattle.kf_cert.proofs.Inners.{is_inner, times_some, joint_within}
 use Rattle.kf_cert.proofs.Matching.{carried_told, told_carried, match_read}
 use Rattle.kf_cert.proofs.matrix_rules.cells.is_carried.Goals as goal
 
@@ -15,6 +15,14 @@ column_sums-requires c = record {
   inside = c.in_column.ensures.each _ c.requires.inside;
   fits = omega (arith, c.in_column.ensures.sums (λ s. total_at (hyper_tree c.args.a.now) s.row * s.amount), c.requires.fits);
 }
+
+pub are_equal-requires : goal.are_equal-requires
+are_equal-requires c =
+    let none : Inner = record { entries = []; total = 0 } in
+    let inner : Inner = get_or (inners_of c.args.b.now) c.args.j none in
+    let others : c.as_slice-entries.result.now ≡ inner.entries = c.as_slice-entries.ensures ∙ c.entries.ensures.kept ∙ c.inner.ensures.kept in
+    subst (All (λ e. c.multiple.result * e.weight < 2 ^ 128)) (sym others)
+    (λ k d within. omega (arith, joint_within (inners_of c.args.b.now) _ _ c.scale-2.ensures.shape c.args.j none c.requires.inner k d within, ap (λ n. n * (get_or inner.entries k d).weight) c.multiple.ensures, c.scale-2.ensures.shape.narrow))
 
 pub returns : goal.returns
 returns c =

@@ -1,5 +1,5 @@
 -- The rules of distributions, as the code meets them.
-use Rattle.std.proofs.Common.{◌≡◌, ◌≢◌, ℕ, ◌<◌, ◌≤◌, ◌⊎◌, List, [], ◌∷◌, ◌++◌, length, map, get_or, take, Result, Ok, Err, inl, inr, refl, sym, ap, ◌∙◌, subst, rules, arith}
+use Rattle.std.proofs.Common.{◌≡◌, ◌≢◌, ℕ, ◌<◌, ◌≤◌, ◌⊎◌, List, [], ◌∷◌, ◌++◌, length, map, get_or, take, Result, Ok, Err, IfOk, IfErr, inl, inr, refl, sym, ap, ◌∙◌, subst, rules, arith}
 use Rattle.std.specs.Result.{IsErrAnd}
 use Rattle.kf_value.specs.Kinds.{KindTree, TruthKind, WholeKind, SetKind}
 use Rattle.kf_value.specs.Views.{kind_tree}
@@ -46,6 +46,14 @@ module _ (known : List Known) where
       → AnswersAskedDx known k d r
   fails_asked k d (Ok t) e h told = absurd h
   fails_asked k d (Err f) e h told = let P : TypeError → Type 0 = λ g. g ≢ broken.Mem → AsksDist known k d (Err g) in subst P (sym h) told
+
+  -- a distribution that was asked for its kind
+  pub asked_answers : (k : KindTree) (d : Dist) (t : TypedDx) → AnswersDx known (dist_tree d) (Ok t) → (r : Result Dx TypeError) → IfOk r (λ x. (x ≡ t.dx) × (kind_tree t.kind ≡ k))
+      → IfErr r (λ e. (e ≡ broken.Clash d.at) × (kind_tree t.kind ≡ k → ⊥)) → AnswersAskedDx known k (dist_tree d) r
+  asked_answers k d t typed (Ok x) ok err = ((kind_tree t.kind, typed.0, (ok.1, refl)), ap dx_tree ok.0 ∙ typed.1)
+  asked_answers k d t typed (Err e) ok err = λ told.
+      let P : TypeError → Type 0 = λ f. AsksDist known k (dist_tree d) (Err f) in
+      subst P (sym err.0) (inr (kind_tree t.kind, typed.0, (λ j q. err.1 q.0, refl)))
 
   pub fails_case : (k : KindTree) (c : Case) (r : Result DxCase TypeError) (e : TypeError) → IsErrAnd r (λ f. f ≡ e)
       → (e ≢ broken.Mem → JudgesPair known k (expr_tree c.value) (expr_tree c.weight) (Err e)) → AnswersCase known k (case_tree c) r

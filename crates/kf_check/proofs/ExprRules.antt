@@ -85,7 +85,7 @@ module _ (known : List Known) where
   as_shown x y same r h = subst (λ z. Judges known z r) (sym same) h
 
   module _ (x : ExprTree) (at row : ℕ) (xs items : List Expr) (shown : x ≡ expr_at at (Apply row (exprs (map expr_tree items)))) (same : xs ≡ items) where
-    applied : x ≡ expr_at at (Apply row (exprs (map expr_tree xs)))
+    pub applied : x ≡ expr_at at (Apply row (exprs (map expr_tree xs)))
     applied = shown ∙ ap (λ ys. expr_at at (Apply row (exprs (map expr_tree ys)))) (sym same)
 
     pub apply_built : IsBuilt Takes x → Takes row (expr_count (exprs (map expr_tree xs))) × AreBuilt Takes (exprs (map expr_tree xs))
@@ -96,15 +96,6 @@ module _ (known : List Known) where
 
     pub apply_broken : (e : TypeError) → JudgesAll known (exprs (map expr_tree xs)) (Err e) → Judges known x (Err e)
     apply_broken e h = as_shown x _ applied (Err e) (inl h)
-
-    pub apply_clashes : (ks : List KindTree) → IsBuilt Takes x → JudgesAll known (exprs (map expr_tree xs)) (Ok ks) → HasNoResult row ks → Judges known x (Err (broken.Clash at))
-    apply_clashes ks built h none = as_shown x _ applied (Err (broken.Clash at)) (inr (ks, h, (λ k q. none q.0 q.1 q.2 q.3, refl)))
-
-    pub apply_judged : (ks : List KindTree) (k : KindTree) → JudgesAll known (exprs (map expr_tree xs)) (Ok ks) → IsResult row ks k → Judges known x (Ok k)
-    apply_judged ks k h result = as_shown x _ applied (Ok k) (ks, h, result)
-
-    pub apply_becomes : (ys : List Ex) → exs (map ex_tree ys) ≡ exs_of (names_in known) (exprs (map expr_tree xs)) → ex.Apply row (exs (map ex_tree ys)) ≡ ex_of (names_in known) x
-    apply_becomes ys h = ap (λ zs. ex.Apply row zs) h ∙ sym (ap (ex_of (names_in known)) applied)
 
   module _ (x : ExprTree) (at : ℕ) (xs items : List Expr) (shown : x ≡ expr_at at (Tuple (exprs (map expr_tree items)))) (same : xs ≡ items) where
     in_tuple : x ≡ expr_at at (Tuple (exprs (map expr_tree xs)))
@@ -120,7 +111,7 @@ module _ (known : List Known) where
     tuple_becomes ys h = ap ex.Tuple h ∙ sym (ap (ex_of (names_in known)) in_tuple)
 
   module _ (x : ExprTree) (at : ℕ) (xs items : List Expr) (shown : x ≡ expr_at at (SetOf (exprs (map expr_tree items)))) (same : xs ≡ items) where
-    in_set : x ≡ expr_at at (SetOf (exprs (map expr_tree xs)))
+    pub in_set : x ≡ expr_at at (SetOf (exprs (map expr_tree xs)))
     in_set = shown ∙ ap (λ ys. expr_at at (SetOf (exprs (map expr_tree ys)))) (sym same)
 
     pub set_built : IsBuilt Takes x → (1 ≤ expr_count (exprs (map expr_tree xs))) × AreBuilt Takes (exprs (map expr_tree xs))
@@ -132,27 +123,39 @@ module _ (known : List Known) where
     pub set_broken : (e : TypeError) → JudgesAll known (exprs (map expr_tree xs)) (Err e) → Judges known x (Err e)
     set_broken e h = as_shown x _ in_set (Err e) (inl h)
 
-    pub set_clashes : (ks : List KindTree) → 1 ≤ length ks → JudgesAll known (exprs (map expr_tree xs)) (Ok ks) → HasNoCommon ks → Judges known x (Err (broken.Clash at))
-    set_clashes ks some h none = as_shown x _ in_set (Err (broken.Clash at)) (inr (ks, h, inl (none, refl)))
-
-    pub set_judged : (ks : List KindTree) (k : KindTree) → JudgesAll known (exprs (map expr_tree xs)) (Ok ks) → IsCommon ks k → Judges known x (Ok (SetKind k))
-    set_judged ks k h common = as_shown x _ in_set (Ok (SetKind k)) (ks, h, (k, common, refl))
-
-    pub set_becomes : (ys : List Ex) → exs (map ex_tree ys) ≡ exs_of (names_in known) (exprs (map expr_tree xs)) → ex.SetOf (exs (map ex_tree ys)) ≡ ex_of (names_in known) x
-    set_becomes ys h = ap ex.SetOf h ∙ sym (ap (ex_of (names_in known)) in_set)
-
   module _ (x : ExprTree) (at n : ℕ) (y : ExprTree) (shown : x ≡ expr_at at (Part y n)) where
     pub part_broken : (e : TypeError) → Judges known y (Err e) → Judges known x (Err e)
     part_broken e h = as_shown x _ shown (Err e) (inl h)
 
-    pub part_clashes : (j : KindTree) → Judges known y (Ok j) → HasNoPart j n → Judges known x (Err (broken.Clash at))
-    part_clashes j h none = as_shown x _ shown (Err (broken.Clash at)) (inr (j, h, (none, refl)))
+  -- ---- what is made of parts that are read
+  module _ (at : ℕ) (xs : ExprTrees) (l : KindList) (s : List Kind) (same : s ≡ kind_items l) (judged : JudgesAll known xs (Ok (kind_trees l))) where
+    read : JudgesAll known xs (Ok (map kind_tree s))
+    read = reread xs l s same judged
 
-    pub part_judged : (j k : KindTree) → Judges known y (Ok j) → IsPart j n k → Judges known x (Ok k)
-    part_judged j k h part = as_shown x _ shown (Ok k) (j, h, part)
+    pub apply_clashes : (row : ℕ) (e : TypeError) → (e ≡ broken.Clash at) × HasNoResult row (map kind_tree s) → Judges known (expr_at at (Apply row xs)) (Err e)
+    apply_clashes row e h =
+        let P : TypeError → Type 0 = λ f. Judges known (expr_at at (Apply row xs)) (Err f) in
+        subst P (sym h.0) (inr (map kind_tree s, read, (λ k q. h.1 q.0 q.1 q.2 q.3, refl)))
 
-    pub part_becomes : (z : ExTree) → z ≡ ex_of (names_in known) y → ex.Part z n ≡ ex_of (names_in known) x
-    part_becomes z h = ap (λ w. ex.Part w n) h ∙ sym (ap (ex_of (names_in known)) shown)
+    pub apply_judged : (row : ℕ) (k : KindTree) → IsResult row (map kind_tree s) k → Judges known (expr_at at (Apply row xs)) (Ok k)
+    apply_judged row k result = (map kind_tree s, read, result)
+
+    pub set_clashes : (e : TypeError) → (e ≡ broken.Clash at) × HasNoCommon (map kind_tree s) → Judges known (expr_at at (SetOf xs)) (Err e)
+    set_clashes e h =
+        let P : TypeError → Type 0 = λ f. Judges known (expr_at at (SetOf xs)) (Err f) in
+        subst P (sym h.0) (inr (map kind_tree s, read, inl (h.1, refl)))
+
+    pub set_judged : (k : KindTree) → IsCommon (map kind_tree s) k → Judges known (expr_at at (SetOf xs)) (Ok (SetKind k))
+    set_judged k common = (map kind_tree s, read, (k, common, refl))
+
+  module _ (at n : ℕ) (x : ExprTree) (j : KindTree) (judged : Judges known x (Ok j)) where
+    pub part_clashes : (e : TypeError) → (e ≡ broken.Clash at) × HasNoPart j n → Judges known (expr_at at (Part x n)) (Err e)
+    part_clashes e h =
+        let P : TypeError → Type 0 = λ f. Judges known (expr_at at (Part x n)) (Err f) in
+        subst P (sym h.0) (inr (j, judged, (h.1, refl)))
+
+    pub part_judged : (k : KindTree) → IsPart j n k → Judges known (expr_at at (Part x n)) (Ok k)
+    part_judged k part = (j, judged, part)
 
 -- an element of a list of well-built expressions
 built_behind : (ps : List Expr) (x : Expr) (rest : List Expr) → AreBuilt Takes (exprs (map expr_tree (ps ++ x ∷ rest))) → IsBuilt Takes (expr_tree x)
@@ -164,8 +167,13 @@ built_at xs i x within read h =
     let P : List Expr → Type 0 = λ ys. AreBuilt Takes (exprs (map expr_tree ys)) in
     built_behind (take i xs) x _ (subst P (around xs i x within read) h)
 
-pub takes_slice : (row : ℕ) (s : List Kind) → Takes row (length (map kind_tree s)) → Takes row (length s)
-takes_slice row s h = subst (Takes row) (length-map s kind_tree) h
+-- a list that is read out of a list of kinds is as long
+module _ (l : KindList) (s : List Kind) (same : s ≡ kind_items l) where
+  as_long : length (kind_trees l) ≡ length s
+  as_long = length-map (kind_items l) kind_tree ∙ ap length (sym same)
 
-pub some_slice : (s : List Kind) → 1 ≤ length (map kind_tree s) → 1 ≤ length s
-some_slice s h = let P : ℕ → Type 0 = λ n. 1 ≤ n in subst P (length-map s kind_tree) h
+  pub takes_slice : (row : ℕ) → Takes row (length (kind_trees l)) → Takes row (length s)
+  takes_slice row h = subst (Takes row) as_long h
+
+  pub some_slice : 1 ≤ length (kind_trees l) → 1 ≤ length s
+  some_slice h = let P : ℕ → Type 0 = λ n. 1 ≤ n in subst P as_long h

@@ -1,5 +1,5 @@
 -- What checking a statement gives, form by form, and a turn of the loop over statements.
-use Rattle.std.proofs.Common.{◌≡◌, ◌≢◌, ℕ, Bool, false, List, [], ◌∷◌, ◌++◌, map, get_or, Result, Ok, Err, inl, inr, refl, sym, ap, ◌∙◌, subst, rules, append_assoc, append-nil}
+use Rattle.std.proofs.Common.{◌≡◌, ◌≢◌, ℕ, Bool, false, List, [], ◌∷◌, ◌++◌, map, get_or, Result, Ok, Err, IfOk, IfErr, inl, inr, refl, sym, ap, ◌∙◌, subst, rules, append_assoc, append-nil}
 use Rattle.std.proofs.lemmas.List.{map-append}
 use Rattle.kf_value.specs.declared.kind.Kind.{the_lemmas as kind_lemmas}
 use Rattle.kf_value.specs.declared.kind.Kind.TheVariants as kind
@@ -109,32 +109,40 @@ module _ (known : List Known) (flags : List Bool) where
   pub skip : (s : Stmt) → s.node ≡ node.Skip → AnswersSt known flags (stmt_tree s) (Ok code.Skip)
   skip s is = made (stmt_tree s) (stmt_at s.at Skip) code.Skip st.Skip (tree-Skip s is) code-Skip refl refl
 
-  module _ (s : Stmt) (n : Ident) (d : Dist) (text : List ℕ) (is : s.node ≡ node.Assign n d) (reads : text ≡ n.text) where
-    abbrev assigned : StmtTree
-    assigned = stmt_at s.at (Assign (name_tree n) (dist_tree d))
+  -- an assignment and an observation, wherever they stand
+  pub assignment_at : (s : Stmt) (n : Ident) (d : Dist) (r : Result St TypeError) → s.node ≡ node.Assign n d → AnswersSt known flags (stmt_at s.at (Assign (name_tree n) (dist_tree d))) r → AnswersSt known flags (stmt_tree s) r
+  assignment_at s n d r is h = subst (λ x. AnswersSt known flags x r) (sym (tree-Assign s n d is)) h
 
-    pub unknown : IsUnknown known text → JudgesStmt known (stmt_tree s) (Err (broken.Unknown n.at))
-    unknown h = let unheard = subst (IsUnknown known) reads h in as_shown (stmt_tree s) assigned (tree-Assign s n d is) (broken.Unknown n.at) (inl (λ k g. not_unknown known n.text g.0 k g.1 unheard, refl))
+  pub observation_at : (s : Stmt) (d : Dist) (r : Result St TypeError) → s.node ≡ node.Observe d → AnswersSt known flags (stmt_at s.at (Observe (dist_tree d))) r → AnswersSt known flags (stmt_tree s) r
+  observation_at s d r is h = subst (λ x. AnswersSt known flags x r) (sym (tree-Observe s d is)) h
+
+  module _ (at : ℕ) (n : Ident) (d : Dist) (text : List ℕ) (reads : text ≡ n.text) where
+    abbrev assigned : StmtTree
+    assigned = stmt_at at (Assign (name_tree n) (dist_tree d))
+
+    pub unknown : IsUnknown known text → JudgesStmt known assigned (Err (broken.Unknown n.at))
+    unknown h = let unheard = subst (IsUnknown known) reads h in inl (λ k g. not_unknown known n.text g.0 k g.1 unheard, refl)
 
     module _ (i : ℕ) (k : KindTree) (found : IsFound known text i k) where
       here : IsFound known n.text i k
       here = subst (λ t. IsFound known t i k) reads found
 
-      pub assign_fails : (e : TypeError) → (e ≢ broken.Mem → AsksDist known k (dist_tree d) (Err e)) → e ≢ broken.Mem → JudgesStmt known (stmt_tree s) (Err e)
-      assign_fails e h other = as_shown (stmt_tree s) assigned (tree-Assign s n d is) e (inr (k, (i, here.0), inl (h other)))
+      pub assign_fails : (e : TypeError) → (e ≢ broken.Mem → AsksDist known k (dist_tree d) (Err e)) → e ≢ broken.Mem → JudgesStmt known assigned (Err e)
+      assign_fails e h other = inr (k, (i, here.0), inl (h other))
 
-      pub assign : (x : Dx) (shown : Bool) → AnswersAskedDx known k (dist_tree d) (Ok x) → shown ≡ get_or flags i false → AnswersSt known flags (stmt_tree s) (Ok (code.Assign i x shown))
-      assign x shown h flagged =
-          made (stmt_tree s) assigned (code.Assign i x shown) (st.Assign i (dx_tree x) shown) (tree-Assign s n d is) (code-Assign i x shown) (k, (i, here.0), (k, h.0, refl))
-          (ap (λ b. st.Assign i (dx_tree x) b) flagged ∙ ap (λ j. st.Assign j (dx_tree x) (get_or flags j false)) (sym here.1)
-          ∙ ap (λ e. st.Assign (place_of (names_in known) n.text) e (get_or flags (place_of (names_in known) n.text) false)) h.1)
+      pub assign : (x : Dx) (shown : Bool) → AnswersAskedDx known k (dist_tree d) (Ok x) → shown ≡ get_or flags i false → AnswersSt known flags assigned (Ok (code.Assign i x shown))
+      assign x shown h flagged = (
+        (k, (i, here.0), (k, h.0, refl)),
+        code-Assign i x shown ∙ (ap (λ b. st.Assign i (dx_tree x) b) flagged ∙ ap (λ j. st.Assign j (dx_tree x) (get_or flags j false)) (sym here.1)
+            ∙ ap (λ e. st.Assign (place_of (names_in known) n.text) e (get_or flags (place_of (names_in known) n.text) false)) h.1),
+      )
 
-  module _ (s : Stmt) (d : Dist) (is : s.node ≡ node.Observe d) where
-    pub observe_fails : (e : TypeError) → (e ≢ broken.Mem → JudgesDist known (dist_tree d) (Err e)) → e ≢ broken.Mem → JudgesStmt known (stmt_tree s) (Err e)
-    observe_fails e h other = as_shown (stmt_tree s) (stmt_at s.at (Observe (dist_tree d))) (tree-Observe s d is) e (inl (h other))
+  module _ (at : ℕ) (d : Dist) where
+    pub observe_fails : (e : TypeError) → (e ≢ broken.Mem → JudgesDist known (dist_tree d) (Err e)) → e ≢ broken.Mem → JudgesStmt known (stmt_at at (Observe (dist_tree d))) (Err e)
+    observe_fails e h other = inl (h other)
 
-    pub observe : (x : Dx) (k : KindTree) → JudgesDist known (dist_tree d) (Ok k) × (dx_tree x ≡ dx_of (names_in known) (dist_tree d)) → AnswersSt known flags (stmt_tree s) (Ok (code.Observe x))
-    observe x k h = made (stmt_tree s) (stmt_at s.at (Observe (dist_tree d))) (code.Observe x) (st.Observe (dx_tree x)) (tree-Observe s d is) (code-Observe x) (k, h.0, refl) (ap st.Observe h.1)
+    pub observe : (x : Dx) (k : KindTree) → JudgesDist known (dist_tree d) (Ok k) × (dx_tree x ≡ dx_of (names_in known) (dist_tree d)) → AnswersSt known flags (stmt_at at (Observe (dist_tree d))) (Ok (code.Observe x))
+    observe x k h = ((k, h.0, refl), code-Observe x ∙ ap st.Observe h.1)
 
   -- a block becomes what its statements become
   block : (xs : List StmtTree) (ys : List StTree) → ys ≡ map (st_of (names_in known) flags) xs → sts ys ≡ sts_of (names_in known) flags (stmts xs)
@@ -166,6 +174,11 @@ module _ (known : List Known) (flags : List Bool) where
             (ap (λ e. st.If e (sts (map st_tree (st_items us))) (sts (map st_tree (st_items vs)))) guard.1 ∙ ap (λ a. st.If (dx_of (names_in known) (dist_tree d)) a (sts (map st_tree (st_items vs)))) first
             ∙ ap (λ b. st.If (dx_of (names_in known) (dist_tree d)) (sts_of (names_in known) flags (stmts (map stmt_tree (stmt_items xs)))) b) second)
 
+        pub branch_answers : (others : Result StList TypeError) (r : Result St TypeError) → AnswersSts known flags (map stmt_tree (stmt_items ys)) others → IfOk r (λ t. (vs : StList) × (others ≡ Ok vs) × (t ≡ code.If x us vs))
+            → IfErr r (λ e. others ≡ Err e) → AnswersSt known flags (stmt_tree s) r
+        branch_answers others (Ok t) h ok err = subst (λ u. AnswersSt known flags (stmt_tree s) (Ok u)) (sym ok.2) (if_else ok.0 (subst (AnswersSts known flags (map stmt_tree (stmt_items ys))) ok.1 h))
+        branch_answers others (Err e) h ok err = no_fails e (subst (AnswersSts known flags (map stmt_tree (stmt_items ys))) err h)
+
   module _ (s : Stmt) (d : Dist) (xs : StmtList) (is : s.node ≡ node.While d xs) (k : KindTree) (truth : k ≡ TruthKind) where
     abbrev looped : StmtTree
     looped = stmt_at s.at (While (dist_tree d) (stmts (map stmt_tree (stmt_items xs))))
@@ -184,6 +197,11 @@ module _ (known : List Known) (flags : List Bool) where
       while us h =
           made (stmt_tree s) looped (code.While x us) (st.While (dx_tree x) (sts (map st_tree (st_items us)))) (tree-While s d xs is) (code-While x us) (TruthKind, while_guard, h.0)
           (ap (λ e. st.While e (sts (map st_tree (st_items us)))) guard.1 ∙ ap (λ a. st.While (dx_of (names_in known) (dist_tree d)) a) (block (map stmt_tree (stmt_items xs)) (map st_tree (st_items us)) h.1))
+
+      pub loop_answers : (body : Result StList TypeError) (r : Result St TypeError) → AnswersSts known flags (map stmt_tree (stmt_items xs)) body → IfOk r (λ t. (us : StList) × (body ≡ Ok us) × (t ≡ code.While x us)) → IfErr r (λ e. body ≡ Err e)
+          → AnswersSt known flags (stmt_tree s) r
+      loop_answers body (Ok t) h ok err = subst (λ u. AnswersSt known flags (stmt_tree s) (Ok u)) (sym ok.2) (while ok.0 (subst (AnswersSts known flags (map stmt_tree (stmt_items xs))) ok.1 h))
+      loop_answers body (Err e) h ok err = body_fails e (subst (AnswersSts known flags (map stmt_tree (stmt_items xs))) err h)
 
   -- ---- the loop
 

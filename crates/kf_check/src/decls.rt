@@ -1,12 +1,13 @@
-ghost use Rattle.std.specs.Prelude.{◌≡◌, ◌*◌, ◌^◌, ◌≤◌, map, IfOk};
+ghost use Rattle.std.specs.Prelude.{◌≡◌, ◌*◌, ◌<◌, ◌++◌, ◌∷◌, [], length, map, IfOk, IfErr, OnOk};
 ghost use Rattle.kf_value.specs.Types.{count, product};
 ghost use Rattle.kf_value.specs.Views.{kind_tree};
 ghost use Rattle.kf_ast.specs.Views.{decl_tree, type_form, dist_tree};
 ghost use Rattle.kf_ast.specs.Built.{IsTypeBuilt, IsDistBuilt, AreDeclsBuilt};
 ghost use Rattle.kf_ops.specs.Fitting.{Takes};
 ghost use Rattle.kf_value.specs.Kinds.{kind_of as kind_of_type};
+ghost use Rattle.kf_check.specs.Kinds.{IsUnknown};
 ghost use Rattle.kf_check.specs.Sources.{known_of, types_of};
-ghost use Rattle.kf_check.specs.Views.{known_in};
+ghost use Rattle.kf_check.specs.Views.{known_in, flags_in};
 ghost use Rattle.kf_check.specs.Variables.{variable_of, variables_in};
 ghost use Rattle.kf_check.specs.SourceAnswers.{AnswersDecl, AnswersDecls};
 
@@ -42,8 +43,8 @@ fn check_decl(
     let ty = ty(alloc, &decl.ty)?;
     let stores = grow(variables.len(), stores, &ty, at)?;
     let kind = kind_of(alloc, &ty)?;
-    let dist = asks_dist(alloc, names, &kind, &decl.dist)?;
     let name = decl.name.text.copy(alloc)?;
+    let dist = asks_dist(alloc, names, &kind, &decl.dist)?;
     Ok(Declaration {
         variable: Variable { name, ty },
         kind,
@@ -59,26 +60,50 @@ pub fn check_decls(alloc: Global, decls: &[Decl]) -> Result<Declared, TypeError>
     ensures known { IfOk result (λ x. known_in x.names ≡ known_of (variables_in x)) }
     ensures counted { IfOk result (λ x. x.stores ≡ product (map count (types_of (variables_in x)))) }
 {
-    let mut names = Names::new(alloc);
-    let mut variables = Vec::new(alloc);
-    let mut dists = Vec::new(alloc);
-    let mut stores: u64 = 1;
+    let mut declared = Declared {
+        names: Names::new(alloc),
+        variables: Vec::new(alloc),
+        dists: Vec::new(alloc),
+        stores: 1,
+    };
     for decl in decls {
-        let Declaration {
-            variable,
-            kind,
-            dist,
-            stores: grown,
-        } = check_decl(alloc, &names, &variables, stores, decl)?;
-        names.push(alloc, &variable.name, kind, decl.visible)?;
-        variables.push(variable)?;
-        dists.push(dist)?;
-        stores = grown;
+        let declaration = check_decl(
+            alloc,
+            &declared.names,
+            &declared.variables,
+            declared.stores,
+            decl,
+        )?;
+        declare(alloc, &mut declared, declaration, decl.visible)?;
     }
-    Ok(Declared {
-        names,
-        variables,
-        dists,
+    Ok(declared)
+}
+
+/// One more declaration, behind the others.
+fn declare(
+    alloc: Global,
+    declared: &mut Declared,
+    declaration: Declaration,
+    visible: bool,
+) -> Result<(), TypeError>
+    requires room { length (known_in declared.old.names) < 32 }
+    requires fresh { IsUnknown (known_in declared.old.names) declaration.variable.name }
+    ensures known { OnOk result (known_in declared.new.names ≡ known_in declared.old.names ++ record { name = declaration.variable.name; kind = kind_tree declaration.kind } ∷ []) }
+    ensures flags { OnOk result (flags_in declared.new.names ≡ flags_in declared.old.names ++ visible ∷ []) }
+    ensures variables { OnOk result (declared.new.variables.items ≡ declared.old.variables.items ++ declaration.variable ∷ []) }
+    ensures dists { OnOk result (declared.new.dists.items ≡ declared.old.dists.items ++ declaration.dist ∷ []) }
+    ensures stores { OnOk result (declared.new.stores ≡ declaration.stores) }
+    ensures memory { IfErr result (λ e. e ≡ TypeError.Mem) }
+{
+    let Declaration {
+        variable,
+        kind,
+        dist,
         stores,
-    })
+    } = declaration;
+    declared.dists.push(dist)?;
+    declared.names.push(alloc, &variable.name, kind, visible)?;
+    declared.variables.push(variable)?;
+    declared.stores = stores;
+    Ok(())
 }

@@ -1,22 +1,32 @@
-ghost use Rattle.std.specs.Prelude.{◌≤◌, length, map};
+ghost use Rattle.std.specs.Prelude.{◌≡◌, ◌≢◌, ◌≤◌, length, map, Ok, Err, IfOk, IfErr};
 ghost use Rattle.kf_value.specs.Views.{kind_tree};
 ghost use Rattle.kf_ast.specs.Views.{expr_tree, case_tree, dist_tree};
 ghost use Rattle.kf_ast.specs.Dists.{dist_at, Choose, UniformRange};
 ghost use Rattle.kf_ast.specs.Built.{IsBuilt, IsDistBuilt, AreCasesBuilt};
+ghost use Rattle.kf_core.specs.Views.{ex_tree};
 ghost use Rattle.kf_ops.specs.Fitting.{Takes};
+ghost use Rattle.kf_check.specs.Kinds.{JudgesPair};
+ghost use Rattle.kf_check.specs.Picks.{names_in};
+ghost use Rattle.kf_check.specs.Translation.{ex_of};
 ghost use Rattle.kf_check.specs.Views.{known_in};
 ghost use Rattle.kf_check.specs.Answers.{AnswersDx, AnswersAskedDx, AnswersCase};
 
 use crate::TypeError;
 use crate::exprs::expr;
-use crate::kinds::same_kind;
 use crate::names::Names;
 use crate::picks::element_kind;
 use crate::typed::TypedDx;
 use kf_ast::{Case, Dist, DistNode, Expr};
-use kf_core::{Dx, DxCase, DxCaseList, DxNode};
+use kf_core::{Dx, DxCase, DxCaseList, DxNode, Ex};
 use kf_value::Kind;
 use std::alloc::Global;
+
+/// Two expressions whose names are known.
+#[derive(Drop)]
+struct Pair {
+    first: Ex,
+    second: Ex,
+}
 
 /// A distribution with the kind of its values, or its first broken rule.
 pub fn dist(alloc: Global, known: &Names, d: &Dist) -> Result<TypedDx, TypeError>
@@ -60,15 +70,9 @@ fn uniform_range(
     requires high { IsBuilt Takes (expr_tree high.now) }
     ensures { AnswersDx (known_in known.now) (dist_at at (UniformRange (expr_tree low.now) (expr_tree high.now))) result }
 {
-    let lower = expr(alloc, known, low)?;
-    let upper = expr(alloc, known, high)?;
-    if !same_kind(&lower.kind, &Kind::Int) {
-        return Err(TypeError::Clash { at: low.at });
-    }
-    if !same_kind(&upper.kind, &Kind::Int) {
-        return Err(TypeError::Clash { at: high.at });
-    }
-    Ok(TypedDx::new(at, DxNode::UniformRange(lower.ex, upper.ex), Kind::Int))
+    let bounds = asks_pair(alloc, known, &Kind::Int, low, high)?;
+    let node = DxNode::UniformRange(bounds.first, bounds.second);
+    Ok(TypedDx::new(at, node, Kind::Int))
 }
 
 /// The cases' values with their weights, at `at`: all are of the first value's kind.
@@ -91,17 +95,35 @@ fn choice(alloc: Global, known: &Names, kind: &Kind, case: &Case) -> Result<DxCa
     requires weight { IsBuilt Takes (expr_tree case.now.weight) }
     ensures { AnswersCase (known_in known.now) (kind_tree kind.now) (case_tree case.now) result }
 {
-    let value = expr(alloc, known, &case.value)?;
-    let weight = expr(alloc, known, &case.weight)?;
-    if !same_kind(&value.kind, kind) {
-        return Err(TypeError::Clash { at: case.value.at });
-    }
-    if !same_kind(&weight.kind, &Kind::Int) {
-        return Err(TypeError::Clash { at: case.weight.at });
-    }
+    let pair = asks_pair(alloc, known, kind, &case.value, &case.weight)?;
     Ok(DxCase {
-        value: value.ex,
-        weight: weight.ex,
+        value: pair.first,
+        weight: pair.second,
+    })
+}
+
+/// Two expressions, the first to be of this kind and the second a whole number, or the first broken rule.
+fn asks_pair(
+    alloc: Global,
+    known: &Names,
+    kind: &Kind,
+    first: &Expr,
+    second: &Expr,
+) -> Result<Pair, TypeError>
+    requires first { IsBuilt Takes (expr_tree first.now) }
+    requires second { IsBuilt Takes (expr_tree second.now) }
+    ensures judged { IfOk result (λ p. JudgesPair (known_in known.now) (kind_tree kind.now) (expr_tree first.now) (expr_tree second.now) (Ok (kind_tree kind.now))) }
+    ensures first { IfOk result (λ p. ex_tree p.first ≡ ex_of (names_in (known_in known.now)) (expr_tree first.now)) }
+    ensures second { IfOk result (λ p. ex_tree p.second ≡ ex_of (names_in (known_in known.now)) (expr_tree second.now)) }
+    ensures err { IfErr result (λ e. e ≢ TypeError.Mem → JudgesPair (known_in known.now) (kind_tree kind.now) (expr_tree first.now) (expr_tree second.now) (Err e)) }
+{
+    let one = expr(alloc, known, first)?;
+    let other = expr(alloc, known, second)?;
+    let one = one.asked(kind, first.at)?;
+    let other = other.asked(&Kind::Int, second.at)?;
+    Ok(Pair {
+        first: one,
+        second: other,
     })
 }
 
@@ -110,10 +132,5 @@ pub fn asks_dist(alloc: Global, known: &Names, kind: &Kind, d: &Dist) -> Result<
     requires { IsDistBuilt Takes (dist_tree d.now) }
     ensures { AnswersAskedDx (known_in known.now) (kind_tree kind.now) (dist_tree d.now) result }
 {
-    let typed = dist(alloc, known, d)?;
-    if same_kind(&typed.kind, kind) {
-        Ok(typed.dx)
-    } else {
-        Err(TypeError::Clash { at: d.at })
-    }
+    dist(alloc, known, d)?.asked(kind, d.at)
 }

@@ -1,13 +1,13 @@
-ghost use Rattle.std.specs.Prelude.{◌≡◌, ◌≢◌, ℕ, map, IfOk, IfErr};
-ghost use Rattle.kf_value.specs.Views.{kind_trees};
+ghost use Rattle.std.specs.Prelude.{◌≡◌, ◌≢◌, ◌≤◌, ℕ, List, length, map, Ok, IfOk, IfErr};
+ghost use Rattle.kf_value.specs.Views.{kind_tree, kind_trees};
 ghost use Rattle.kf_ast.specs.Views.{name_tree, expr_tree};
-ghost use Rattle.kf_ast.specs.Exprs.{expr_at, exprs, Name};
+ghost use Rattle.kf_ast.specs.Exprs.{ExprTree, ExprTrees, expr_at, exprs, Name, Apply, SetOf, Part};
 ghost use Rattle.kf_ast.specs.Built.{IsBuilt, AreBuilt};
 ghost use Rattle.kf_core.specs.Exs.{exs};
 ghost use Rattle.kf_core.specs.Views.{ex_tree, ex_items};
 ghost use Rattle.kf_ops.specs.Fitting.{Takes};
-ghost use Rattle.kf_check.specs.Kinds.{JudgesAll};
-ghost use Rattle.kf_check.specs.Translation.{exs_of};
+ghost use Rattle.kf_check.specs.Kinds.{Known, Judges, JudgesAll};
+ghost use Rattle.kf_check.specs.Translation.{ex_of, exs_of};
 ghost use Rattle.kf_check.specs.Views.{known_in};
 ghost use Rattle.kf_check.specs.Answers.{AnswersEx};
 ghost use Rattle.kf_check.specs.Picks.{names_in};
@@ -47,14 +47,7 @@ pub fn expr(alloc: Global, known: &Names, x: &Expr) -> Result<TypedEx, TypeError
         ExprNode::Name(name) => variable(alloc, known, name),
         ExprNode::Apply { row, args } => {
             let args = typed_exprs(alloc, known, args.as_slice())?;
-            let kind = result_kind(alloc, *row, args.kinds.as_slice(), x.at)?;
-            Ok(TypedEx {
-                ex: Ex::Apply {
-                    row: *row,
-                    args: args.exs,
-                },
-                kind,
-            })
+            applied(alloc, *row, args, x.at)
         }
         ExprNode::Tuple(parts) => {
             let parts = typed_exprs(alloc, known, parts.as_slice())?;
@@ -65,22 +58,56 @@ pub fn expr(alloc: Global, known: &Names, x: &Expr) -> Result<TypedEx, TypeError
         }
         ExprNode::SetOf(members) => {
             let members = typed_exprs(alloc, known, members.as_slice())?;
-            let kind = common_kind(alloc, members.kinds.as_slice(), x.at)?;
-            Ok(TypedEx {
-                ex: Ex::SetOf(members.exs),
-                kind: Kind::Set(Box::new(alloc, kind)?),
-            })
+            set_of(alloc, members, x.at)
         }
         ExprNode::Part { of, k } => {
             let tuple = expr(alloc, known, of)?;
-            let kind = part_kind(alloc, &tuple.kind, *k, x.at)?;
-            let of = Box::new(alloc, tuple.ex)?;
-            Ok(TypedEx {
-                ex: Ex::Part { of, k: *k },
-                kind,
-            })
+            part(alloc, tuple, *k, x.at)
         }
     }
+}
+
+/// The operator of a row at these arguments, or Clash at `at`.
+fn applied(alloc: Global, row: u8, args: TypedExs, at: u32) -> Result<TypedEx, TypeError>
+    requires { Takes row (length (kind_trees args.kinds)) }
+    ensures { (known : List Known) (xs : ExprTrees) → JudgesAll known xs (Ok (kind_trees args.kinds)) → exs (map ex_tree (ex_items args.exs)) ≡ exs_of (names_in known) xs
+        → AnswersEx known (expr_at at (Apply row xs)) result }
+{
+    let kind = result_kind(alloc, row, args.kinds.as_slice(), at)?;
+    Ok(TypedEx {
+        ex: Ex::Apply {
+            row,
+            args: args.exs,
+        },
+        kind,
+    })
+}
+
+/// The set of these members, or Clash at `at`.
+fn set_of(alloc: Global, members: TypedExs, at: u32) -> Result<TypedEx, TypeError>
+    requires { 1 ≤ length (kind_trees members.kinds) }
+    ensures { (known : List Known) (xs : ExprTrees) → JudgesAll known xs (Ok (kind_trees members.kinds)) → exs (map ex_tree (ex_items members.exs)) ≡ exs_of (names_in known) xs
+        → AnswersEx known (expr_at at (SetOf xs)) result }
+{
+    let kind = common_kind(alloc, members.kinds.as_slice(), at)?;
+    let kind = Box::new(alloc, kind)?;
+    Ok(TypedEx {
+        ex: Ex::SetOf(members.exs),
+        kind: Kind::Set(kind),
+    })
+}
+
+/// The part `k` of a tuple, or Clash at `at`.
+fn part(alloc: Global, tuple: TypedEx, k: u32, at: u32) -> Result<TypedEx, TypeError>
+    ensures { (known : List Known) (x : ExprTree) → Judges known x (Ok (kind_tree tuple.kind)) → ex_tree tuple.ex ≡ ex_of (names_in known) x
+        → AnswersEx known (expr_at at (Part x k)) result }
+{
+    let kind = part_kind(alloc, &tuple.kind, k, at)?;
+    let of = Box::new(alloc, tuple.ex)?;
+    Ok(TypedEx {
+        ex: Ex::Part { of, k },
+        kind,
+    })
 }
 
 /// The variable of a name, wherever the expression itself stands.

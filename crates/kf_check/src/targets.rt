@@ -1,4 +1,4 @@
-ghost use Rattle.std.specs.Prelude.{◌≡◌, ◌≤◌, ◌++◌, [], false, length, map, option_to_list, IfOk, IfErr, OnOk};
+ghost use Rattle.std.specs.Prelude.{◌≡◌, ◌≤◌, ◌++◌, ◌∷◌, [], false, length, map, option_to_list, IfOk, IfErr, OnOk};
 ghost use Rattle.std.specs.List.{range_with_len};
 ghost use Rattle.kf_value.specs.TypeViews.{item_of as item_shown};
 ghost use Rattle.kf_value.specs.Views.{items_of};
@@ -24,6 +24,18 @@ pub struct Targeted {
     pub copies: SlotList,
     /// The variable from which each item is read.
     pub slots: SlotList,
+}
+
+/// Items of a target, which break no rule.
+#[derive(Drop)]
+struct ReadItems {
+    items: Vec<TargetItem>,
+    /// The variable of each carried copy.
+    copies: Vec<u8>,
+    /// The variable from which each item is read.
+    slots: Vec<u8>,
+    /// How many stores there are with the carried copies.
+    stores: u64,
 }
 
 /// The target of a source, or its first broken rule.
@@ -95,36 +107,45 @@ fn check_items(alloc: Global, declared: &Declared, items: &[Item]) -> Result<Tar
     requires counted { declared.now.stores ≡ product (map count (types_of (variables_in declared.now))) }
     ensures { AnswersTarget (variables_in declared.now) (map item_tree items.now) result }
 {
-    let mut stores = declared.stores;
-    let mut copies = Vec::new(alloc);
-    let mut read = Vec::new(alloc);
-    let mut slots = Vec::new(alloc);
+    let mut read = ReadItems {
+        items: Vec::new(alloc),
+        copies: Vec::new(alloc),
+        slots: Vec::new(alloc),
+        stores: declared.stores,
+    };
     for i in 0..items.len() {
-        let ReadItem {
-            item,
-            slot,
-            copied,
-            stores: grown,
-        } = check_item(
+        let item = check_item(
             alloc,
             declared,
-            copies.len(),
-            stores,
+            read.copies.len(),
+            read.stores,
             &items[..i],
             &items[i],
         )?;
-        push_copy(&mut copies, copied)?;
-        read.push(item)?;
-        slots.push(slot)?;
-        stores = grown;
+        push_item(&mut read, item)?;
     }
     Ok(Targeted {
         target: Target {
-            items: TargetItemList::new(read),
+            items: TargetItemList::new(read.items),
         },
-        copies: SlotList::new(copies),
-        slots: SlotList::new(slots),
+        copies: SlotList::new(read.copies),
+        slots: SlotList::new(read.slots),
     })
+}
+
+/// One item more.
+fn push_item(read: &mut ReadItems, item: ReadItem) -> Result<(), TypeError>
+    ensures items { OnOk result (read.new.items.items ≡ read.old.items.items ++ item.item ∷ []) }
+    ensures copies { OnOk result (read.new.copies.items ≡ read.old.copies.items ++ option_to_list item.copied) }
+    ensures slots { OnOk result (read.new.slots.items ≡ read.old.slots.items ++ item.slot ∷ []) }
+    ensures stores { OnOk result (read.new.stores ≡ item.stores) }
+    ensures memory { IfErr result (λ e. e ≡ TypeError.Mem) }
+{
+    read.items.push(item.item)?;
+    push_copy(&mut read.copies, item.copied)?;
+    read.slots.push(item.slot)?;
+    read.stores = item.stores;
+    Ok(())
 }
 
 /// One carried copy more, if there is one.

@@ -1,5 +1,8 @@
-ghost use Rattle.std.specs.Prelude.{◌≡◌};
+ghost use Rattle.std.specs.Prelude.{◌≡◌, IfOk, IfErr};
+ghost use Rattle.kf_value.specs.Views.{kind_tree};
 
+use crate::TypeError;
+use crate::kinds::same_kind;
 use kf_core::{Dx, DxNode, Ex};
 use kf_value::Kind;
 
@@ -8,6 +11,21 @@ use kf_value::Kind;
 pub struct TypedEx {
     pub ex: Ex,
     pub kind: Kind,
+}
+
+impl TypedEx {
+    /// The expression, whose value is to be of this kind, else Clash at `at`.
+    pub fn asked(self, kind: &Kind, at: u32) -> Result<Ex, TypeError>
+        ensures ok { IfOk result (λ x. (x ≡ self.ex) × (kind_tree self.kind ≡ kind_tree kind.now)) }
+        ensures err { IfErr result (λ e. (e ≡ TypeError.Clash at) × (kind_tree self.kind ≡ kind_tree kind.now → ⊥)) }
+    {
+        if same_kind(&self.kind, kind) {
+            Ok(self.ex)
+        } else {
+            drop(self);
+            Err(TypeError::Clash { at })
+        }
+    }
 }
 
 /// A distribution whose names are known, and the kind of its values.
@@ -26,6 +44,26 @@ impl TypedDx {
         TypedDx {
             dx: Dx { at, node },
             kind,
+        }
+    }
+
+    /// The distribution alone.
+    pub fn into_dx(self) -> Dx
+        ensures { result ≡ self.dx }
+    {
+        self.dx
+    }
+
+    /// The distribution, whose values are to be of this kind, else Clash at `at`.
+    pub fn asked(self, kind: &Kind, at: u32) -> Result<Dx, TypeError>
+        ensures ok { IfOk result (λ x. (x ≡ self.dx) × (kind_tree self.kind ≡ kind_tree kind.now)) }
+        ensures err { IfErr result (λ e. (e ≡ TypeError.Clash at) × (kind_tree self.kind ≡ kind_tree kind.now → ⊥)) }
+    {
+        if same_kind(&self.kind, kind) {
+            Ok(self.dx)
+        } else {
+            drop(self);
+            Err(TypeError::Clash { at })
         }
     }
 }

@@ -7,4 +7,4 @@ use Rattle.kf_check.proofs.DeclTurns.{DeclaredBefore}
 use Rattle.kf_check.proofs.decls.check_decls.Given as goal
 
 abbrev pub invariant-loop-decl : goal.invariant-loop-decl
-invariant-loop-decl l = DeclaredBefore (map decl_tree l.decls) (map decl_tree (drop l.decl-index l.decls)) (map variable_of l.variables.items) (map dx_tree l.dists.items) (known_in l.names) (flags_in l.names) l.stores
+invariant-loop-decl l = DeclaredBefore (map decl_tree l.decls) (map decl_tree (drop l.decl-index l.decls)) (map variable_of l.declared.variables.items) (map dx_tree l.declared.dists.items) (known_in l.declared.names) (flags_in l.declared.names) l.declared.stores

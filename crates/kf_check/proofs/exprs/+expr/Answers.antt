@@ -1,4 +1,4 @@
-use Rattle.std.proofs.Common.{refl, Err, map, sym, ap, ◌∙◌, subst, arith, rules, FitsSigned}
+use Rattle.std.proofs.Common.{refl, Err, map, sym, ap, ◌∙◌, arith, rules, FitsSigned}
 use Rattle.std.proofs.lemmas.Int.{to_z-of_z}
 use mir.Syntax.{w64}
 use Rattle.kf_value.specs.Views.{kind_tree, kind_trees}
@@ -7,14 +7,13 @@ use Rattle.kf_ast.specs.Views.{name_tree, expr_tree, expr_items}
 use Rattle.kf_ast.specs.declared.expr.Expr.{the_lemmas}
 use Rattle.kf_ast.specs.Exprs.{expr_at, Name, Part, exprs}
 use Rattle.kf_core.specs.Views.{ex_tree, ex_items}
-use Rattle.kf_check.specs.declared.errors.TypeError.{TypeError}
-use Rattle.kf_check.specs.Kinds.{Judges, JudgesAll}
+use Rattle.kf_check.specs.Kinds.{JudgesAll}
 use Rattle.kf_check.specs.Views.{known_in}
 use Rattle.kf_check.proofs.Judging.{passed_on}
 use Rattle.kf_check.proofs.Each.{each_start, each_turn, each_end}
-use Rattle.kf_check.proofs.Nodes.{kind_tree-Bool, kind_tree-Int, kind_tree-Tuple, kind_tree-Set}
-use Rattle.kf_check.proofs.ExprNodes.{expr_tree-Number, expr_tree-Truth, expr_tree-Name, expr_tree-Apply, expr_tree-Tuple, expr_tree-SetOf, expr_tree-Part, ex_tree-Const, ex_tree-Apply, ex_tree-Tuple, ex_tree-SetOf, ex_tree-Part}
-use Rattle.kf_check.proofs.ExprRules.{HasItsKind, Becomes, all_judged, all_become, all_broken, reread, fails, answered, apply_takes, apply_broken, apply_clashes, apply_judged, apply_becomes, tuple_broken, tuple_judged, tuple_becomes, set_some, set_broken, set_clashes, set_judged, set_becomes, part_broken, part_clashes, part_judged, part_becomes, built_at, takes_slice, some_slice}
+use Rattle.kf_check.proofs.Nodes.{kind_tree-Bool, kind_tree-Int, kind_tree-Tuple}
+use Rattle.kf_check.proofs.ExprNodes.{expr_tree-Number, expr_tree-Truth, expr_tree-Name, expr_tree-Apply, expr_tree-Tuple, expr_tree-SetOf, expr_tree-Part, ex_tree-Const, ex_tree-Tuple}
+use Rattle.kf_check.proofs.ExprRules.{HasItsKind, Becomes, all_judged, all_become, all_broken, fails, answered, applied, apply_takes, apply_broken, tuple_broken, tuple_judged, tuple_becomes, in_set, set_some, set_broken, part_broken, built_at}
 use Rattle.kf_check.proofs.exprs.+expr.Goals as goal
 
 pub expr-returns-in_err-args-in-Apply : goal.expr-returns-in_err-args-in-Apply
@@ -22,14 +21,8 @@ expr-returns-in_err-args-in-Apply t c =
     fails (known_in c.args.known.now) (expr_tree c.args.x.now) c.from_residual.result c.in_err-args-in-Apply.field-0.0 c.from_residual.ensures.1
     (λ told. apply_broken (known_in c.args.known.now) (expr_tree c.args.x.now) c.args.x.now.at c.in-Apply.row c.as_slice.result.now (expr_items c.in-Apply.args) (expr_tree-Apply c.args.x.now c.in-Apply.row c.in-Apply.args c.in-Apply.is) c.as_slice.ensures c.in_err-args-in-Apply.field-0.0 (c.in_err-args-in-Apply.ensures.err told))
 
-pub expr-result_kind-requires : goal.expr-result_kind-requires
-expr-result_kind-requires t c =
-    takes_slice c.in-Apply.row c.as_slice-in-Apply.result.now (apply_takes (known_in c.args.known.now) (expr_tree c.args.x.now) c.args.x.now.at c.in-Apply.row c.as_slice.result.now (expr_items c.in-Apply.args) (expr_tree-Apply c.args.x.now c.in-Apply.row c.in-Apply.args c.in-Apply.is) c.as_slice.ensures (map kind_tree c.as_slice-in-Apply.result.now) c.requires (reread (known_in c.args.known.now) (exprs (map expr_tree c.as_slice.result.now)) c.in_ok-args-in-Apply.args.kinds c.as_slice-in-Apply.result.now c.as_slice-in-Apply.ensures c.in_ok-args-in-Apply.ensures.judged))
-
-pub expr-returns-in_err-kind-in-Apply : goal.expr-returns-in_err-kind-in-Apply
-expr-returns-in_err-kind-in-Apply t c =
-    fails (known_in c.args.known.now) (expr_tree c.args.x.now) c.from_residual-in_err-kind-in-Apply.result c.in_err-kind-in-Apply.field-0.0 c.from_residual-in_err-kind-in-Apply.ensures.1
-    (λ told. let P : TypeError → Type 0 = λ e. Judges (known_in c.args.known.now) (expr_tree c.args.x.now) (Err e) in subst P (sym (c.in_err-kind-in-Apply.ensures.err told).0) (apply_clashes (known_in c.args.known.now) (expr_tree c.args.x.now) c.args.x.now.at c.in-Apply.row c.as_slice.result.now (expr_items c.in-Apply.args) (expr_tree-Apply c.args.x.now c.in-Apply.row c.in-Apply.args c.in-Apply.is) c.as_slice.ensures (map kind_tree c.as_slice-in-Apply.result.now) c.requires (reread (known_in c.args.known.now) (exprs (map expr_tree c.as_slice.result.now)) c.in_ok-args-in-Apply.args.kinds c.as_slice-in-Apply.result.now c.as_slice-in-Apply.ensures c.in_ok-args-in-Apply.ensures.judged) (c.in_err-kind-in-Apply.ensures.err told).1))
+pub expr-applied-requires : goal.expr-applied-requires
+expr-applied-requires t c = apply_takes (known_in c.args.known.now) (expr_tree c.args.x.now) c.args.x.now.at c.in-Apply.row c.as_slice.result.now (expr_items c.in-Apply.args) (expr_tree-Apply c.args.x.now c.in-Apply.row c.in-Apply.args c.in-Apply.is) c.as_slice.ensures (kind_trees c.in_ok-args-in-Apply.args.kinds) c.requires c.in_ok-args-in-Apply.ensures.judged
 
 pub expr-returns-in_err-parts-in-Tuple : goal.expr-returns-in_err-parts-in-Tuple
 expr-returns-in_err-parts-in-Tuple t c =
@@ -41,24 +34,13 @@ expr-returns-in_err-members-in-SetOf t c =
     fails (known_in c.args.known.now) (expr_tree c.args.x.now) c.from_residual-in_err-members-in-SetOf.result c.in_err-members-in-SetOf.field-0.0 c.from_residual-in_err-members-in-SetOf.ensures.1
     (λ told. set_broken (known_in c.args.known.now) (expr_tree c.args.x.now) c.args.x.now.at c.as_slice-in-SetOf.result.now (expr_items c.in-SetOf.members) (expr_tree-SetOf c.args.x.now c.in-SetOf.members c.in-SetOf.is) c.as_slice-in-SetOf.ensures c.in_err-members-in-SetOf.field-0.0 (c.in_err-members-in-SetOf.ensures.err told))
 
-pub expr-common_kind-requires : goal.expr-common_kind-requires
-expr-common_kind-requires t c =
-    some_slice c.as_slice-in-SetOf-2.result.now (set_some (known_in c.args.known.now) (expr_tree c.args.x.now) c.args.x.now.at c.as_slice-in-SetOf.result.now (expr_items c.in-SetOf.members) (expr_tree-SetOf c.args.x.now c.in-SetOf.members c.in-SetOf.is) c.as_slice-in-SetOf.ensures (map kind_tree c.as_slice-in-SetOf-2.result.now) c.requires (reread (known_in c.args.known.now) (exprs (map expr_tree c.as_slice-in-SetOf.result.now)) c.in_ok-members-in-SetOf.members.kinds c.as_slice-in-SetOf-2.result.now c.as_slice-in-SetOf-2.ensures c.in_ok-members-in-SetOf.ensures.judged))
-
-pub expr-returns-in_err-kind-in-SetOf : goal.expr-returns-in_err-kind-in-SetOf
-expr-returns-in_err-kind-in-SetOf t c =
-    fails (known_in c.args.known.now) (expr_tree c.args.x.now) c.from_residual-in_err-kind-in-SetOf.result c.in_err-kind-in-SetOf.field-0.0 c.from_residual-in_err-kind-in-SetOf.ensures.1
-    (λ told. let P : TypeError → Type 0 = λ e. Judges (known_in c.args.known.now) (expr_tree c.args.x.now) (Err e) in subst P (sym (c.in_err-kind-in-SetOf.ensures.err told).0) (set_clashes (known_in c.args.known.now) (expr_tree c.args.x.now) c.args.x.now.at c.as_slice-in-SetOf.result.now (expr_items c.in-SetOf.members) (expr_tree-SetOf c.args.x.now c.in-SetOf.members c.in-SetOf.is) c.as_slice-in-SetOf.ensures (map kind_tree c.as_slice-in-SetOf-2.result.now) (set_some (known_in c.args.known.now) (expr_tree c.args.x.now) c.args.x.now.at c.as_slice-in-SetOf.result.now (expr_items c.in-SetOf.members) (expr_tree-SetOf c.args.x.now c.in-SetOf.members c.in-SetOf.is) c.as_slice-in-SetOf.ensures (map kind_tree c.as_slice-in-SetOf-2.result.now) c.requires (reread (known_in c.args.known.now) (exprs (map expr_tree c.as_slice-in-SetOf.result.now)) c.in_ok-members-in-SetOf.members.kinds c.as_slice-in-SetOf-2.result.now c.as_slice-in-SetOf-2.ensures c.in_ok-members-in-SetOf.ensures.judged)) (reread (known_in c.args.known.now) (exprs (map expr_tree c.as_slice-in-SetOf.result.now)) c.in_ok-members-in-SetOf.members.kinds c.as_slice-in-SetOf-2.result.now c.as_slice-in-SetOf-2.ensures c.in_ok-members-in-SetOf.ensures.judged) (c.in_err-kind-in-SetOf.ensures.err told).1))
+pub expr-set_of-requires : goal.expr-set_of-requires
+expr-set_of-requires t c = set_some (known_in c.args.known.now) (expr_tree c.args.x.now) c.args.x.now.at c.as_slice-in-SetOf.result.now (expr_items c.in-SetOf.members) (expr_tree-SetOf c.args.x.now c.in-SetOf.members c.in-SetOf.is) c.as_slice-in-SetOf.ensures (kind_trees c.in_ok-members-in-SetOf.members.kinds) c.requires c.in_ok-members-in-SetOf.ensures.judged
 
 pub expr-returns-in_err-tuple-in-Part : goal.expr-returns-in_err-tuple-in-Part
 expr-returns-in_err-tuple-in-Part t c =
     fails (known_in c.args.known.now) (expr_tree c.args.x.now) c.from_residual-in_err-tuple-in-Part.result c.in_err-tuple-in-Part.field-0.0 c.from_residual-in_err-tuple-in-Part.ensures.1
     (λ told. part_broken (known_in c.args.known.now) (expr_tree c.args.x.now) c.args.x.now.at c.in-Part.k (expr_tree c.deref.result.now) (expr_tree-Part c.args.x.now c.in-Part.of c.in-Part.k c.in-Part.is ∙ ap (λ z. expr_at c.args.x.now.at (Part (expr_tree z) c.in-Part.k)) (sym c.deref.ensures)) c.in_err-tuple-in-Part.field-0.0 (c.in_err-tuple-in-Part.ensures told))
-
-pub expr-returns-in_err-kind-in-Part : goal.expr-returns-in_err-kind-in-Part
-expr-returns-in_err-kind-in-Part t c =
-    fails (known_in c.args.known.now) (expr_tree c.args.x.now) c.from_residual-in_err-kind-in-Part.result c.in_err-kind-in-Part.field-0.0 c.from_residual-in_err-kind-in-Part.ensures.1
-    (λ told. let P : TypeError → Type 0 = λ e. Judges (known_in c.args.known.now) (expr_tree c.args.x.now) (Err e) in subst P (sym (c.in_err-kind-in-Part.ensures.err told).0) (part_clashes (known_in c.args.known.now) (expr_tree c.args.x.now) c.args.x.now.at c.in-Part.k (expr_tree c.deref.result.now) (expr_tree-Part c.args.x.now c.in-Part.of c.in-Part.k c.in-Part.is ∙ ap (λ z. expr_at c.args.x.now.at (Part (expr_tree z) c.in-Part.k)) (sym c.deref.ensures)) (kind_tree c.in_ok-tuple-in-Part.tuple.kind) c.in_ok-tuple-in-Part.ensures.0 (c.in_err-kind-in-Part.ensures.err told).1))
 
 pub expr-returns-in-Number : goal.expr-returns-in-Number
 expr-returns-in-Number t c =
@@ -77,11 +59,11 @@ pub expr-returns-in-Name : goal.expr-returns-in-Name
 expr-returns-in-Name t c =
     answered (known_in c.args.known.now) (expr_tree c.args.x.now) (expr_at c.args.x.now.at (Name (name_tree c.in-Name.name))) c.variable.result (expr_tree-Name c.args.x.now c.in-Name.name c.in-Name.is) (c.variable.ensures c.args.x.now.at)
 
-pub expr-returns-in_ok-kind-in-Apply : goal.expr-returns-in_ok-kind-in-Apply
-expr-returns-in_ok-kind-in-Apply t c = (
-  apply_judged (known_in c.args.known.now) (expr_tree c.args.x.now) c.args.x.now.at c.in-Apply.row c.as_slice.result.now (expr_items c.in-Apply.args) (expr_tree-Apply c.args.x.now c.in-Apply.row c.in-Apply.args c.in-Apply.is) c.as_slice.ensures (map kind_tree c.as_slice-in-Apply.result.now) (kind_tree c.in_ok-kind-in-Apply.kind) (reread (known_in c.args.known.now) (exprs (map expr_tree c.as_slice.result.now)) c.in_ok-args-in-Apply.args.kinds c.as_slice-in-Apply.result.now c.as_slice-in-Apply.ensures c.in_ok-args-in-Apply.ensures.judged) c.in_ok-kind-in-Apply.ensures.ok,
-  rw (ex_tree-Apply c.in-Apply.row c.in_ok-args-in-Apply.args.exs) (apply_becomes (known_in c.args.known.now) (expr_tree c.args.x.now) c.args.x.now.at c.in-Apply.row c.as_slice.result.now (expr_items c.in-Apply.args) (expr_tree-Apply c.args.x.now c.in-Apply.row c.in-Apply.args c.in-Apply.is) c.as_slice.ensures (ex_items c.in_ok-args-in-Apply.args.exs) c.in_ok-args-in-Apply.ensures.translated),
-)
+pub expr-returns-in_ok-args-in-Apply : goal.expr-returns-in_ok-args-in-Apply
+expr-returns-in_ok-args-in-Apply t c =
+    answered (known_in c.args.known.now) (expr_tree c.args.x.now) _ c.applied.result
+    (applied (known_in c.args.known.now) (expr_tree c.args.x.now) c.args.x.now.at c.in-Apply.row c.as_slice.result.now (expr_items c.in-Apply.args) (expr_tree-Apply c.args.x.now c.in-Apply.row c.in-Apply.args c.in-Apply.is) c.as_slice.ensures)
+    (c.applied.ensures (known_in c.args.known.now) (exprs (map expr_tree c.as_slice.result.now)) c.in_ok-args-in-Apply.ensures.judged c.in_ok-args-in-Apply.ensures.translated)
 
 pub expr-returns-in_ok-parts-in-Tuple : goal.expr-returns-in_ok-parts-in-Tuple
 expr-returns-in_ok-parts-in-Tuple t c = (
@@ -89,17 +71,17 @@ expr-returns-in_ok-parts-in-Tuple t c = (
   rw (ex_tree-Tuple c.in_ok-parts-in-Tuple.parts.exs) (tuple_becomes (known_in c.args.known.now) (expr_tree c.args.x.now) c.args.x.now.at c.as_slice-in-Tuple.result.now (expr_items c.in-Tuple.parts) (expr_tree-Tuple c.args.x.now c.in-Tuple.parts c.in-Tuple.is) c.as_slice-in-Tuple.ensures (ex_items c.in_ok-parts-in-Tuple.parts.exs) c.in_ok-parts-in-Tuple.ensures.translated),
 )
 
-pub expr-returns-in_ok-new-in-SetOf : goal.expr-returns-in_ok-new-in-SetOf
-expr-returns-in_ok-new-in-SetOf t c = (
-  rw (kind_tree-Set c.in_ok-new-in-SetOf.field-0, c.in_ok-new-in-SetOf.ensures.ok) (set_judged (known_in c.args.known.now) (expr_tree c.args.x.now) c.args.x.now.at c.as_slice-in-SetOf.result.now (expr_items c.in-SetOf.members) (expr_tree-SetOf c.args.x.now c.in-SetOf.members c.in-SetOf.is) c.as_slice-in-SetOf.ensures (map kind_tree c.as_slice-in-SetOf-2.result.now) (kind_tree c.in_ok-kind-in-SetOf.kind) (reread (known_in c.args.known.now) (exprs (map expr_tree c.as_slice-in-SetOf.result.now)) c.in_ok-members-in-SetOf.members.kinds c.as_slice-in-SetOf-2.result.now c.as_slice-in-SetOf-2.ensures c.in_ok-members-in-SetOf.ensures.judged) c.in_ok-kind-in-SetOf.ensures.ok),
-  rw (ex_tree-SetOf c.in_ok-members-in-SetOf.members.exs) (set_becomes (known_in c.args.known.now) (expr_tree c.args.x.now) c.args.x.now.at c.as_slice-in-SetOf.result.now (expr_items c.in-SetOf.members) (expr_tree-SetOf c.args.x.now c.in-SetOf.members c.in-SetOf.is) c.as_slice-in-SetOf.ensures (ex_items c.in_ok-members-in-SetOf.members.exs) c.in_ok-members-in-SetOf.ensures.translated),
-)
+pub expr-returns-in_ok-members-in-SetOf : goal.expr-returns-in_ok-members-in-SetOf
+expr-returns-in_ok-members-in-SetOf t c =
+    answered (known_in c.args.known.now) (expr_tree c.args.x.now) _ c.set_of.result
+    (in_set (known_in c.args.known.now) (expr_tree c.args.x.now) c.args.x.now.at c.as_slice-in-SetOf.result.now (expr_items c.in-SetOf.members) (expr_tree-SetOf c.args.x.now c.in-SetOf.members c.in-SetOf.is) c.as_slice-in-SetOf.ensures)
+    (c.set_of.ensures (known_in c.args.known.now) (exprs (map expr_tree c.as_slice-in-SetOf.result.now)) c.in_ok-members-in-SetOf.ensures.judged c.in_ok-members-in-SetOf.ensures.translated)
 
-pub expr-returns-in_ok-of-in-Part : goal.expr-returns-in_ok-of-in-Part
-expr-returns-in_ok-of-in-Part t c = (
-  part_judged (known_in c.args.known.now) (expr_tree c.args.x.now) c.args.x.now.at c.in-Part.k (expr_tree c.deref.result.now) (expr_tree-Part c.args.x.now c.in-Part.of c.in-Part.k c.in-Part.is ∙ ap (λ z. expr_at c.args.x.now.at (Part (expr_tree z) c.in-Part.k)) (sym c.deref.ensures)) (kind_tree c.in_ok-tuple-in-Part.tuple.kind) (kind_tree c.in_ok-kind-in-Part.kind) c.in_ok-tuple-in-Part.ensures.0 c.in_ok-kind-in-Part.ensures.ok,
-  rw (ex_tree-Part c.in_ok-of-in-Part.of c.in-Part.k, c.in_ok-of-in-Part.ensures.ok) (part_becomes (known_in c.args.known.now) (expr_tree c.args.x.now) c.args.x.now.at c.in-Part.k (expr_tree c.deref.result.now) (expr_tree-Part c.args.x.now c.in-Part.of c.in-Part.k c.in-Part.is ∙ ap (λ z. expr_at c.args.x.now.at (Part (expr_tree z) c.in-Part.k)) (sym c.deref.ensures)) (ex_tree c.in_ok-tuple-in-Part.tuple.ex) c.in_ok-tuple-in-Part.ensures.1),
-)
+pub expr-returns-in_ok-tuple-in-Part : goal.expr-returns-in_ok-tuple-in-Part
+expr-returns-in_ok-tuple-in-Part t c =
+    answered (known_in c.args.known.now) (expr_tree c.args.x.now) _ c.part.result
+    (expr_tree-Part c.args.x.now c.in-Part.of c.in-Part.k c.in-Part.is ∙ ap (λ z. expr_at c.args.x.now.at (Part (expr_tree z) c.in-Part.k)) (sym c.deref.ensures))
+    (c.part.ensures (known_in c.args.known.now) (expr_tree c.deref.result.now) c.in_ok-tuple-in-Part.ensures.0 c.in_ok-tuple-in-Part.ensures.1)
 
 pub typed_exprs-loop-x-init : goal.typed_exprs-loop-x-init
 typed_exprs-loop-x-init t c =

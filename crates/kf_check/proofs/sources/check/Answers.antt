@@ -10,74 +10,31 @@ use Rattle.kf_check.proofs.Programs as whole
 use Rattle.kf_check.proofs.SourceTurns as turn
 use Rattle.kf_check.proofs.sources.check.Goals as goal
 
-pub returns-then-is_empty-clause-broken : goal.returns-then-is_empty-clause-broken
-returns-then-is_empty-clause-broken c not_memory = turn.none_declared (decl_items c.args.src.now.decls) _ _ c.is_empty.result (rw c.as_slice-decls.ensures at c.is_empty.ensures) c.if-is_empty.true
-
-pub returns-in_err-declared-clause-broken : goal.returns-in_err-declared-clause-broken
-returns-in_err-declared-clause-broken c =
-    let some = turn.some_declared (decl_items c.args.src.now.decls) c.is_empty.result (rw c.as_slice-decls.ensures at c.is_empty.ensures) c.if-is_empty.false in
-    rw (passed c.from_residual.result c.in_err-declared.field-0.0 c.from_residual.ensures.1)
-    (λ not_memory. whole.broken_decls _ _ (map decl_tree (decl_items c.args.src.now.decls)) some c.in_err-declared.field-0.0 ((rw c.as_slice-decls.ensures at c.in_err-declared.ensures.answer) not_memory))
-
-pub check_target-requires-clause-some : goal.check_target-requires-clause-some
-check_target-requires-clause-some c =
-    let some = turn.some_declared (decl_items c.args.src.now.decls) c.is_empty.result (rw c.as_slice-decls.ensures at c.is_empty.ensures) c.if-is_empty.false in
-    whole.some_variables (variables_in c.in_ok-declared.declared) (map decl_tree (decl_items c.args.src.now.decls)) (rw c.as_slice-decls.ensures at c.in_ok-declared.ensures.answer).0 some
-
-pub returns-in_err-targeted-clause-broken : goal.returns-in_err-targeted-clause-broken
-returns-in_err-targeted-clause-broken c =
-    let some = turn.some_declared (decl_items c.args.src.now.decls) c.is_empty.result (rw c.as_slice-decls.ensures at c.is_empty.ensures) c.if-is_empty.false in
-    rw (passed c.from_residual-in_err-targeted.result c.in_err-targeted.field-0.0 c.from_residual-in_err-targeted.ensures.1)
-    (
-    λ not_memory. whole.broken_target (map item_tree (target_items c.args.src.now.target)) _ (map decl_tree (decl_items c.args.src.now.decls)) some (variables_in c.in_ok-declared.declared) (rw c.as_slice-decls.ensures at c.in_ok-declared.ensures.answer).0 c.in_err-targeted.field-0.0
-    ((rw c.as_slice.ensures at c.in_err-targeted.ensures) not_memory)
-    )
+pub returns-in_err-head-clause-broken : goal.returns-in_err-head-clause-broken
+returns-in_err-head-clause-broken c = rw (passed c.from_residual.result c.in_err-head.field-0.0 c.from_residual.ensures.1) c.in_err-head.ensures.broken
 
 pub returns-in_err-body-clause-broken : goal.returns-in_err-body-clause-broken
 returns-in_err-body-clause-broken c =
-    let some = turn.some_declared (decl_items c.args.src.now.decls) c.is_empty.result (rw c.as_slice-decls.ensures at c.is_empty.ensures) c.if-is_empty.false in
+    let head = c.in_ok-head.head in
+    let has = c.in_ok-head.ensures in
     rw (passed c.from_residual-in_err-body.result c.in_err-body.field-0.0 c.from_residual-in_err-body.ensures.1)
     (
     λ not_memory.
-    let target = rw c.as_slice.ensures at c.in_ok-targeted.ensures in
-    whole.broken_body (map item_tree (target_items c.args.src.now.target)) (map stmt_tree (stmt_items c.args.src.now.body)) (map decl_tree (decl_items c.args.src.now.decls)) some (variables_in c.in_ok-declared.declared)
-    (rw c.as_slice-decls.ensures at c.in_ok-declared.ensures.answer).0 _ c.in_err-body.field-0.0 target.1
-    (turn.stmts_broken (variables_in c.in_ok-declared.declared) (known_in c.in_ok-declared.declared.names) (stmts (map stmt_tree (stmt_items c.args.src.now.body))) c.in_err-body.field-0.0 c.in_ok-declared.ensures.known ((rw c.as_slice-2.ensures at c.in_err-body.ensures) not_memory))
+    whole.broken_body (map item_tree (target_items c.args.src.now.target)) (map stmt_tree (stmt_items c.args.src.now.body)) (map decl_tree (decl_items c.args.src.now.decls)) has.some (variables_in head.declared) has.declared.0 _ c.in_err-body.field-0.0 has.targeted.1
+    (turn.stmts_broken (variables_in head.declared) (known_in head.declared.names) (stmts (map stmt_tree (stmt_items c.args.src.now.body))) c.in_err-body.field-0.0 has.known ((rw c.as_slice.ensures at c.in_err-body.ensures) not_memory))
     )
-
-pub shape_of-requires-clause-some : goal.shape_of-requires-clause-some
-shape_of-requires-clause-some c =
-    let some = turn.some_declared (decl_items c.args.src.now.decls) c.is_empty.result (rw c.as_slice-decls.ensures at c.is_empty.ensures) c.if-is_empty.false in
-    rw c.deref.ensures.value (turn.some_code c.in_ok-declared.declared.variables.items (map decl_tree (decl_items c.args.src.now.decls)) (rw c.as_slice-decls.ensures at c.in_ok-declared.ensures.answer).0 some)
-
-pub shape_of-requires-clause-within : goal.shape_of-requires-clause-within
-shape_of-requires-clause-within c =
-    let fits = turn.fits_variables c.in_ok-declared.declared.variables.items (map decl_tree (decl_items c.args.src.now.decls)) c.requires.0 (rw c.as_slice-decls.ensures at c.in_ok-declared.ensures.answer).0 c.in_ok-targeted.ensures in
-    rw (c.deref.ensures.value, c.as_slice-3.ensures) fits.within
-
-pub shape_of-requires-clause-few : goal.shape_of-requires-clause-few
-shape_of-requires-clause-few c =
-    let fits = turn.fits_variables c.in_ok-declared.declared.variables.items (map decl_tree (decl_items c.args.src.now.decls)) c.requires.0 (rw c.as_slice-decls.ensures at c.in_ok-declared.ensures.answer).0 c.in_ok-targeted.ensures in
-    rw (c.deref.ensures.value, c.as_slice-3.ensures) fits.few
-
-pub shape_of-requires-clause-narrow : goal.shape_of-requires-clause-narrow
-shape_of-requires-clause-narrow c =
-    let fits = turn.fits_variables c.in_ok-declared.declared.variables.items (map decl_tree (decl_items c.args.src.now.decls)) c.requires.0 (rw c.as_slice-decls.ensures at c.in_ok-declared.ensures.answer).0 c.in_ok-targeted.ensures in
-    rw (c.deref.ensures.value, c.as_slice-3.ensures) fits.narrow
 
 pub returns-clause-typed : goal.returns-clause-typed
 returns-clause-typed c =
-    let some = turn.some_declared (decl_items c.args.src.now.decls) c.is_empty.result (rw c.as_slice-decls.ensures at c.is_empty.ensures) c.if-is_empty.false in
-    let vs = variables_in c.in_ok-declared.declared in
+    let head = c.in_ok-head.head in
+    let has = c.in_ok-head.ensures in
+    let vs = variables_in head.declared in
     let ds = map decl_tree (decl_items c.args.src.now.decls) in
     let items = map item_tree (target_items c.args.src.now.target) in
     let xs = map stmt_tree (stmt_items c.args.src.now.body) in
-    let decls = rw c.as_slice-decls.ensures at c.in_ok-declared.ensures.answer in
-    let target = rw c.as_slice.ensures at c.in_ok-targeted.ensures in
-    let body = turn.stmts_declared vs (known_in c.in_ok-declared.declared.names) ds (flags_in c.in_ok-declared.declared.names) xs (map st_tree (st_items c.in_ok-body.body)) c.in_ok-declared.ensures.known decls.2 (rw c.as_slice-2.ensures at c.in_ok-body.ensures) in
-    let shape = rw (c.deref.ensures.value, c.as_slice-3.ensures) at c.in_ok-shape.ensures.shape in
-    let all = turn.all_types vs items c.in_ok-targeted.targeted.copies _ shape.0 shape.1 shape.2 target.0 target.1 target.2 in
-    whole.typed items xs ds some vs decls.0 _ all body.0 (rw c.new.ensures decls.1) target.3 body.1
+    let body = turn.stmts_declared vs (known_in head.declared.names) ds (flags_in head.declared.names) xs (map st_tree (st_items c.in_ok-body.body)) has.known has.declared.2 (rw c.as_slice.ensures at c.in_ok-body.ensures) in
+    let all = turn.all_types vs items head.targeted.copies _ has.shape.0 has.shape.1 has.shape.2 has.targeted.0 has.targeted.1 has.targeted.2 in
+    whole.typed items xs ds has.some vs has.declared.0 _ all body.0 (rw c.new.ensures has.declared.1) has.targeted.3 body.1
 
 pub returns-clause-checked : goal.returns-clause-checked
 returns-clause-checked c = checked_if_typed (source_tree c.args.src.now) _ c.requires (returns-clause-typed c)

@@ -6,4 +6,4 @@ use Rattle.kf_check.proofs.ItemTurns.{ItemsBefore}
 use Rattle.kf_check.proofs.targets.check_items.Given as goal
 
 abbrev pub invariant-loop-i : goal.invariant-loop-i
-invariant-loop-i l = ItemsBefore (variables_in l.declared) (map item_tree l.items) (map item_tree (take l.i l.items)) (map item_tree (drop l.i l.items)) l.copies.items (map item_of l.read.items) l.slots.items l.stores
+invariant-loop-i l = ItemsBefore (variables_in l.declared) (map item_tree l.items) (map item_tree (take l.i l.items)) (map item_tree (drop l.i l.items)) l.read.copies.items (map item_of l.read.items.items) l.read.slots.items l.read.stores

@@ -1,6 +1,7 @@
 -- The rules of distributions, as the code meets them.
 use Rattle.std.proofs.Common.{◌≡◌, ◌≢◌, ℕ, ◌<◌, ◌≤◌, ◌⊎◌, List, [], ◌∷◌, ◌++◌, length, map, get_or, take, Result, Ok, Err, IfOk, IfErr, inl, inr, refl, sym, ap, ◌∙◌, subst, rules, arith}
 use Rattle.std.specs.Result.{IsErrAnd}
+use Rattle.kf_value.specs.declared.kind.Kind.{Kind}
 use Rattle.kf_value.specs.Kinds.{KindTree, TruthKind, WholeKind, SetKind}
 use Rattle.kf_value.specs.Views.{kind_tree}
 use Rattle.kf_ast.specs.declared.dist.Case.{Case}
@@ -20,12 +21,14 @@ use Rattle.kf_core.specs.Dxs.{DxTree, dx_at}
 use Rattle.kf_core.specs.Dxs as dx
 use Rattle.kf_check.specs.declared.errors.TypeError.{TypeError}
 use Rattle.kf_check.specs.declared.errors.TypeError.TheVariants as broken
+use Rattle.kf_core.specs.declared.ex.Ex.{Ex}
+use Rattle.kf_check.specs.declared.typed.TypedEx.{TypedEx}
 use Rattle.kf_check.specs.declared.typed.TypedDx.{TypedDx}
 use Rattle.kf_check.specs.Kinds.{Known, Judges, JudgesPair, JudgesCases, JudgesDist, AsksDist}
 use Rattle.kf_check.specs.Translation.{ex_of, dx_of, dx_case_of}
 use Rattle.kf_check.proofs.Judging.{past}
 use Rattle.kf_check.specs.Picks.{HasNoElement, names_in}
-use Rattle.kf_check.specs.Answers.{AnswersCase, AnswersDx, AnswersAskedDx}
+use Rattle.kf_check.specs.Answers.{AnswersEx, AnswersCase, AnswersDx, AnswersAskedDx}
 use Rattle.kf_check.proofs.Each.{Each, around}
 use Rattle.kf_check.proofs.Each as each
 
@@ -35,6 +38,13 @@ expr_place x = search (rules, expr_lemmas)
 not_chance : (num den : ℕ) → (den ≡ 0) ⊎ (den < num) → (1 ≤ den) × (num ≤ den) → ⊥
 not_chance num den (inl e) h = let some = h.0 in omega arith
 not_chance num den (inr e) h = let low = h.1 in omega arith
+
+-- an expression that was asked for its kind
+pub asked_beside : (t : TypedEx) (k : KindTree) (found : Result Ex TypeError) (x : Ex) → found ≡ Ok x → IfOk found (λ y. (y ≡ t.ex) × (kind_tree t.kind ≡ k)) → (x ≡ t.ex) × (kind_tree t.kind ≡ k)
+asked_beside t k found x is h = subst (λ r. IfOk r (λ y. (y ≡ t.ex) × (kind_tree t.kind ≡ k))) is h
+
+pub clash_beside : (t : TypedEx) (k : KindTree) (at : ℕ) (found : Result Ex TypeError) (e : TypeError) → found ≡ Err e → IfErr found (λ f. (f ≡ broken.Clash at) × (kind_tree t.kind ≡ k → ⊥)) → (e ≡ broken.Clash at) × (kind_tree t.kind ≡ k → ⊥)
+clash_beside t k at found e is h = subst (λ r. IfErr r (λ f. (f ≡ broken.Clash at) × (kind_tree t.kind ≡ k → ⊥))) is h
 
 module _ (known : List Known) where
   -- an error is passed on
@@ -54,6 +64,13 @@ module _ (known : List Known) where
   asked_answers k d t typed (Err e) ok err = λ told.
       let P : TypeError → Type 0 = λ f. AsksDist known k (dist_tree d) (Err f) in
       subst P (sym err.0) (inr (kind_tree t.kind, typed.0, (λ j q. err.1 q.0, refl)))
+
+  -- what was read beside an expression that is held
+  pub read_beside : (x : Expr) (found r : Result TypedEx TypeError) → found ≡ r → AnswersEx known (expr_tree x) found → AnswersEx known (expr_tree x) r
+  read_beside x found r is h = subst (AnswersEx known (expr_tree x)) is h
+
+  pub held_beside : (x : Expr) (t u : TypedEx) → u ≡ t → AnswersEx known (expr_tree x) (Ok t) → AnswersEx known (expr_tree x) (Ok u)
+  held_beside x t u is h = subst (λ v. AnswersEx known (expr_tree x) (Ok v)) (sym is) h
 
   pub fails_case : (k : KindTree) (c : Case) (r : Result DxCase TypeError) (e : TypeError) → IsErrAnd r (λ f. f ≡ e)
       → (e ≢ broken.Mem → JudgesPair known k (expr_tree c.value) (expr_tree c.weight) (Err e)) → AnswersCase known k (case_tree c) r
@@ -89,13 +106,15 @@ module _ (known : List Known) where
     pub set_broken : (e : TypeError) → Judges known (expr_tree x) (Err e) → JudgesDist known (dist_tree d) (Err e)
     set_broken e h = as_shown (dist_tree d) _ is_set (Err e) (inl h)
 
-    pub set_clashes : (j : KindTree) → Judges known (expr_tree x) (Ok j) → HasNoElement j → JudgesDist known (dist_tree d) (Err (broken.Clash x.at))
-    set_clashes j h none =
-        let P : ℕ → Type 0 = λ n. JudgesDist known (dist_tree d) (Err (broken.Clash n)) in
-        subst P (expr_place x) (as_shown (dist_tree d) _ is_set (Err (broken.Clash (place (expr_tree x)))) (inr (j, h, (none, refl))))
+    pub set_clashes : (j : KindTree) (found : Result Kind TypeError) (e : TypeError) → Judges known (expr_tree x) (Ok j) → found ≡ Err e → IfErr found (λ f. f ≢ broken.Mem → (f ≡ broken.Clash x.at) × HasNoElement j) → e ≢ broken.Mem
+        → JudgesDist known (dist_tree d) (Err e)
+    set_clashes j found e h failed told other =
+        let none = subst (λ r. IfErr r (λ f. f ≢ broken.Mem → (f ≡ broken.Clash x.at) × HasNoElement j)) failed told other in
+        let P : TypeError → Type 0 = λ f. JudgesDist known (dist_tree d) (Err f) in
+        subst P (sym (none.0 ∙ ap broken.Clash (sym (expr_place x)))) (as_shown (dist_tree d) _ is_set (Err (broken.Clash (place (expr_tree x)))) (inr (j, h, (none.1, refl))))
 
-    pub set_judged : (j k : KindTree) → Judges known (expr_tree x) (Ok j) → j ≡ SetKind k → JudgesDist known (dist_tree d) (Ok k)
-    set_judged j k h set = as_shown (dist_tree d) _ is_set (Ok k) (j, h, set)
+    pub set_judged : (j : KindTree) (found : Result Kind TypeError) (k : Kind) → Judges known (expr_tree x) (Ok j) → found ≡ Ok k → IfOk found (λ element. j ≡ SetKind (kind_tree element)) → JudgesDist known (dist_tree d) (Ok (kind_tree k))
+    set_judged j found k h is set = as_shown (dist_tree d) _ is_set (Ok (kind_tree k)) (j, h, subst (λ r. IfOk r (λ element. j ≡ SetKind (kind_tree element))) is set)
 
     pub set_becomes : (y : ExTree) → y ≡ ex_of (names_in known) (expr_tree x) → dx_at d.at (dx.UniformSet y) ≡ dx_of (names_in known) (dist_tree d)
     set_becomes y h = ap (λ z. dx_at d.at (dx.UniformSet z)) h ∙ sym (ap (dx_of (names_in known)) is_set)

@@ -1,5 +1,5 @@
 -- The rules of expressions, as the code meets them.
-use Rattle.std.proofs.Common.{◌≡◌, ◌≢◌, ℕ, suc, ◌<◌, ◌≤◌, List, [], ◌∷◌, ◌++◌, length, map, get_or, take, Result, Ok, Err, inl, inr, refl, sym, ap, ◌∙◌, subst}
+use Rattle.std.proofs.Common.{◌≡◌, ◌≢◌, ℕ, suc, ◌<◌, ◌≤◌, List, [], ◌∷◌, ◌++◌, length, map, get_or, take, Result, Ok, Err, IfOk, IfErr, inl, inr, refl, sym, ap, ◌∙◌, subst}
 use Rattle.std.proofs.lemmas.List.{length-map}
 use Rattle.std.specs.Result.{IsErrAnd}
 use Rattle.kf_value.specs.declared.kind.Kind.{Kind}
@@ -13,7 +13,7 @@ use Rattle.kf_ast.specs.Exprs.{ExprTree, ExprTrees, no_exprs, more_exprs, expr_a
 use Rattle.kf_ast.specs.Built.{expr_count, IsBuilt, AreBuilt}
 use Rattle.kf_ops.specs.Fitting.{Takes}
 use Rattle.kf_core.specs.declared.ex.Ex.{Ex}
-use Rattle.kf_core.specs.Exs.{ExTree, more_exs, exs}
+use Rattle.kf_core.specs.Exs.{more_exs, exs}
 use Rattle.kf_core.specs.Views.{ex_tree}
 use Rattle.kf_core.specs.Exs as ex
 use Rattle.kf_check.specs.declared.errors.TypeError.{TypeError}
@@ -149,13 +149,14 @@ module _ (known : List Known) where
     set_judged k common = (map kind_tree s, read, (k, common, refl))
 
   module _ (at n : ℕ) (x : ExprTree) (j : KindTree) (judged : Judges known x (Ok j)) where
-    pub part_clashes : (e : TypeError) → (e ≡ broken.Clash at) × HasNoPart j n → Judges known (expr_at at (Part x n)) (Err e)
-    part_clashes e h =
+    pub part_clashes : (found : Result Kind TypeError) (e : TypeError) → found ≡ Err e → IfErr found (λ f. f ≢ broken.Mem → (f ≡ broken.Clash at) × HasNoPart j n) → e ≢ broken.Mem → Judges known (expr_at at (Part x n)) (Err e)
+    part_clashes found e is h other =
         let P : TypeError → Type 0 = λ f. Judges known (expr_at at (Part x n)) (Err f) in
-        subst P (sym h.0) (inr (j, judged, (h.1, refl)))
+        let none = subst (λ r. IfErr r (λ f. f ≢ broken.Mem → (f ≡ broken.Clash at) × HasNoPart j n)) is h other in
+        subst P (sym none.0) (inr (j, judged, (none.1, refl)))
 
-    pub part_judged : (k : KindTree) → IsPart j n k → Judges known (expr_at at (Part x n)) (Ok k)
-    part_judged k part = (j, judged, part)
+    pub part_judged : (found : Result Kind TypeError) (k : Kind) → found ≡ Ok k → IfOk found (λ p. IsPart j n (kind_tree p)) → Judges known (expr_at at (Part x n)) (Ok (kind_tree k))
+    part_judged found k is h = (j, judged, subst (λ r. IfOk r (λ p. IsPart j n (kind_tree p))) is h)
 
 -- an element of a list of well-built expressions
 built_behind : (ps : List Expr) (x : Expr) (rest : List Expr) → AreBuilt Takes (exprs (map expr_tree (ps ++ x ∷ rest))) → IsBuilt Takes (expr_tree x)

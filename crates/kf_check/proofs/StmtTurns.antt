@@ -1,5 +1,5 @@
 -- What checking a statement gives, form by form, and a turn of the loop over statements.
-use Rattle.std.proofs.Common.{◌≡◌, ◌≢◌, ℕ, Bool, false, List, [], ◌∷◌, ◌++◌, map, get_or, Result, Ok, Err, IfOk, IfErr, inl, inr, refl, sym, ap, ◌∙◌, subst, rules, append_assoc, append-nil}
+use Rattle.std.proofs.Common.{◌≡◌, ◌≢◌, ℕ, Bool, false, List, [], ◌∷◌, ◌++◌, map, get_or, Result, Ok, Err, inl, inr, refl, sym, ap, ◌∙◌, subst, rules, append_assoc, append-nil}
 use Rattle.std.proofs.lemmas.List.{map-append}
 use Rattle.kf_value.specs.declared.kind.Kind.{the_lemmas as kind_lemmas}
 use Rattle.kf_value.specs.declared.kind.Kind.TheVariants as kind
@@ -87,8 +87,8 @@ pub built_as : (xs ys : List Stmt) → xs ≡ ys → AreListedBuilt Takes (map s
 built_as xs ys same h = subst (λ zs. AreListedBuilt Takes (map stmt_tree zs)) (sym same) h
 
 module _ (known : List Known) (flags : List Bool) where
-  pub answers_as : (xs ys : List Stmt) (r : Result StList TypeError) → xs ≡ ys → AnswersSts known flags (map stmt_tree xs) r → AnswersSts known flags (map stmt_tree ys) r
-  answers_as xs ys r same h = subst (λ zs. AnswersSts known flags (map stmt_tree zs) r) same h
+  pub answers_as : (xs ys : List Stmt) (found r : Result StList TypeError) → xs ≡ ys → found ≡ r → AnswersSts known flags (map stmt_tree xs) found → AnswersSts known flags (map stmt_tree ys) r
+  answers_as xs ys found r same is h = subst (AnswersSts known flags (map stmt_tree ys)) is (subst (λ zs. AnswersSts known flags (map stmt_tree zs) found) same h)
 
   -- the answer is this error
   pub failing : (x : StmtTree) (r : Result St TypeError) (e : TypeError) → r ≡ Err e → (e ≢ broken.Mem → JudgesStmt known x (Err e)) → AnswersSt known flags x r
@@ -174,11 +174,6 @@ module _ (known : List Known) (flags : List Bool) where
             (ap (λ e. st.If e (sts (map st_tree (st_items us))) (sts (map st_tree (st_items vs)))) guard.1 ∙ ap (λ a. st.If (dx_of (names_in known) (dist_tree d)) a (sts (map st_tree (st_items vs)))) first
             ∙ ap (λ b. st.If (dx_of (names_in known) (dist_tree d)) (sts_of (names_in known) flags (stmts (map stmt_tree (stmt_items xs)))) b) second)
 
-        pub branch_answers : (others : Result StList TypeError) (r : Result St TypeError) → AnswersSts known flags (map stmt_tree (stmt_items ys)) others → IfOk r (λ t. (vs : StList) × (others ≡ Ok vs) × (t ≡ code.If x us vs))
-            → IfErr r (λ e. others ≡ Err e) → AnswersSt known flags (stmt_tree s) r
-        branch_answers others (Ok t) h ok err = subst (λ u. AnswersSt known flags (stmt_tree s) (Ok u)) (sym ok.2) (if_else ok.0 (subst (AnswersSts known flags (map stmt_tree (stmt_items ys))) ok.1 h))
-        branch_answers others (Err e) h ok err = no_fails e (subst (AnswersSts known flags (map stmt_tree (stmt_items ys))) err h)
-
   module _ (s : Stmt) (d : Dist) (xs : StmtList) (is : s.node ≡ node.While d xs) (k : KindTree) (truth : k ≡ TruthKind) where
     abbrev looped : StmtTree
     looped = stmt_at s.at (While (dist_tree d) (stmts (map stmt_tree (stmt_items xs))))
@@ -197,11 +192,6 @@ module _ (known : List Known) (flags : List Bool) where
       while us h =
           made (stmt_tree s) looped (code.While x us) (st.While (dx_tree x) (sts (map st_tree (st_items us)))) (tree-While s d xs is) (code-While x us) (TruthKind, while_guard, h.0)
           (ap (λ e. st.While e (sts (map st_tree (st_items us)))) guard.1 ∙ ap (λ a. st.While (dx_of (names_in known) (dist_tree d)) a) (block (map stmt_tree (stmt_items xs)) (map st_tree (st_items us)) h.1))
-
-      pub loop_answers : (body : Result StList TypeError) (r : Result St TypeError) → AnswersSts known flags (map stmt_tree (stmt_items xs)) body → IfOk r (λ t. (us : StList) × (body ≡ Ok us) × (t ≡ code.While x us)) → IfErr r (λ e. body ≡ Err e)
-          → AnswersSt known flags (stmt_tree s) r
-      loop_answers body (Ok t) h ok err = subst (λ u. AnswersSt known flags (stmt_tree s) (Ok u)) (sym ok.2) (while ok.0 (subst (AnswersSts known flags (map stmt_tree (stmt_items xs))) ok.1 h))
-      loop_answers body (Err e) h ok err = body_fails e (subst (AnswersSts known flags (map stmt_tree (stmt_items xs))) err h)
 
   -- ---- the loop
 

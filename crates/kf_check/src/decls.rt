@@ -1,8 +1,8 @@
 ghost use Rattle.std.specs.Prelude.{◌≡◌, ◌*◌, ◌<◌, ◌++◌, ◌∷◌, [], length, map, IfOk, IfErr, OnOk};
 ghost use Rattle.kf_value.specs.Types.{count, product};
 ghost use Rattle.kf_value.specs.Views.{kind_tree};
-ghost use Rattle.kf_ast.specs.Views.{decl_tree, type_form, dist_tree};
-ghost use Rattle.kf_ast.specs.Built.{IsTypeBuilt, IsDistBuilt, AreDeclsBuilt};
+ghost use Rattle.kf_ast.specs.Views.{decl_tree, dist_tree};
+ghost use Rattle.kf_ast.specs.Built.{IsDistBuilt, AreDeclsBuilt};
 ghost use Rattle.kf_ops.specs.Fitting.{Takes};
 ghost use Rattle.kf_value.specs.Kinds.{kind_of as kind_of_type};
 ghost use Rattle.kf_check.specs.Kinds.{IsUnknown};

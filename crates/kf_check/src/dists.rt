@@ -12,6 +12,7 @@ ghost use Rattle.kf_check.specs.Views.{known_in};
 ghost use Rattle.kf_check.specs.Answers.{AnswersDx, AnswersAskedDx, AnswersCase};
 
 use crate::TypeError;
+use crate::errors::beside;
 use crate::exprs::expr;
 use crate::names::Names;
 use crate::picks::element_kind;
@@ -40,7 +41,7 @@ pub fn dist(alloc: Global, known: &Names, d: &Dist) -> Result<TypedDx, TypeError
         }
         DistNode::UniformSet(x) => {
             let typed = expr(alloc, known, x)?;
-            let kind = element_kind(alloc, &typed.kind, x.at)?;
+            let (kind, typed) = beside(element_kind(alloc, &typed.kind, x.at), typed)?;
             Ok(TypedDx::new(d.at, DxNode::UniformSet(typed.ex), kind))
         }
         DistNode::UniformRange(low, high) => uniform_range(alloc, known, low, high, d.at),
@@ -118,13 +119,10 @@ fn asks_pair(
     ensures err { IfErr result (λ e. e ≢ TypeError.Mem → JudgesPair (known_in known.now) (kind_tree kind.now) (expr_tree first.now) (expr_tree second.now) (Err e)) }
 {
     let one = expr(alloc, known, first)?;
-    let other = expr(alloc, known, second)?;
-    let one = one.asked(kind, first.at)?;
-    let other = other.asked(&Kind::Int, second.at)?;
-    Ok(Pair {
-        first: one,
-        second: other,
-    })
+    let (other, one) = beside(expr(alloc, known, second), one)?;
+    let (first, other) = beside(one.asked(kind, first.at), other)?;
+    let (second, first) = beside(other.asked(&Kind::Int, second.at), first)?;
+    Ok(Pair { first, second })
 }
 
 /// A distribution whose values are to be of this kind, or its first broken rule.

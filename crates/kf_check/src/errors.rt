@@ -1,3 +1,5 @@
+ghost use Rattle.std.specs.Prelude.{◌≡◌, Ok, Err, IfOk, IfErr};
+
 use kf_value::Mem;
 use std::alloc::{AllocError, AllocFailed};
 use thiserror::Error;
@@ -67,5 +69,20 @@ impl<T: Drop> From<AllocFailed<T>> for TypeError {
 
     fn from(_: AllocFailed<T>) -> Self {
         TypeError::Mem
+    }
+}
+
+/// What was found, beside what is held meanwhile, which is dropped where nothing was found. The call keeps proofs short: at a
+/// `?` each form of a value that is held is a case of its own.
+pub fn beside<A, B: Drop>(found: Result<A, TypeError>, held: B) -> Result<(A, B), TypeError>
+    ensures ok { IfOk result (λ both. (found ≡ Ok both.0) × (both.1 ≡ held)) }
+    ensures err { IfErr result (λ e. found ≡ Err e) }
+{
+    match found {
+        Ok(value) => Ok((value, held)),
+        Err(e) => {
+            drop(held);
+            Err(e)
+        }
     }
 }

@@ -13,6 +13,7 @@ ghost use Rattle.kf_check.specs.Answers.{AnswersEx};
 ghost use Rattle.kf_check.specs.Picks.{names_in};
 
 use crate::TypeError;
+use crate::errors::beside;
 use crate::names::Names;
 use crate::picks::{common_kind, part_kind};
 use crate::rows::result_kind;
@@ -102,7 +103,7 @@ fn part(alloc: Global, tuple: TypedEx, k: u32, at: u32) -> Result<TypedEx, TypeE
     ensures { (known : List Known) (x : ExprTree) → Judges known x (Ok (kind_tree tuple.kind)) → ex_tree tuple.ex ≡ ex_of (names_in known) x
         → AnswersEx known (expr_at at (Part x k)) result }
 {
-    let kind = part_kind(alloc, &tuple.kind, k, at)?;
+    let (kind, tuple) = beside(part_kind(alloc, &tuple.kind, k, at), tuple)?;
     let of = Box::new(alloc, tuple.ex)?;
     Ok(TypedEx {
         ex: Ex::Part { of, k },

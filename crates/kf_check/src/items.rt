@@ -1,9 +1,9 @@
-ghost use Rattle.std.specs.Prelude.{◌≡◌, ◌<◌, ◌≤◌, ◌+◌, ◌*◌, ℕ, List, ◌++◌, length, map, option_to_list, IfOk, IfErr, OnOk, MatchBool, Contains};
+ghost use Rattle.std.specs.Prelude.{◌≡◌, ◌≤◌, ◌+◌, ◌*◌, List, length, map, option_to_list, IfOk, MatchBool};
 ghost use Rattle.kf_value.specs.Types.{TypeTree, count, product};
 ghost use Rattle.kf_value.specs.TypeViews.{type_tree, item_of};
 ghost use Rattle.kf_ast.specs.Sources.{ItemTree};
 ghost use Rattle.kf_ast.specs.Views.{item_tree};
-ghost use Rattle.kf_check.specs.Sources.{known_of, types_of};
+ghost use Rattle.kf_check.specs.Sources.{known_of};
 ghost use Rattle.kf_check.specs.Views.{known_in};
 ghost use Rattle.kf_check.specs.Variables.{variables_in, AreDeclared};
 ghost use Rattle.kf_check.specs.SourceAnswers.{AnswersItem, HasSame, Stands};

@@ -1,4 +1,4 @@
-ghost use Rattle.std.specs.Prelude.{◌≡◌, ℕ, map, Ok, Err, IfOk, IfErr};
+ghost use Rattle.std.specs.Prelude.{ℕ, map};
 ghost use Rattle.kf_ast.specs.Stmts.{stmt_at, Assign, Observe};
 ghost use Rattle.kf_ast.specs.Views.{name_tree, dist_tree, stmt_tree};
 ghost use Rattle.kf_ast.specs.Built.{IsDistBuilt, IsStmtBuilt, AreListedBuilt};
@@ -8,9 +8,10 @@ ghost use Rattle.kf_check.specs.SourceAnswers.{AnswersSt, AnswersSts};
 
 use crate::TypeError;
 use crate::dists::{asks_dist, dist};
+use crate::errors::beside;
 use crate::names::Names;
 use kf_ast::{Dist, Ident, Stmt, StmtNode};
-use kf_core::{Dx, St, StList};
+use kf_core::{St, StList};
 use kf_value::Kind;
 use std::alloc::Global;
 
@@ -26,45 +27,14 @@ pub fn check_stmt(alloc: Global, known: &Names, stmt: &Stmt) -> Result<St, TypeE
         StmtNode::Observe(observed) => observation(alloc, known, observed),
         StmtNode::If { guard, yes, no } => {
             let guard = asks_dist(alloc, known, &Kind::Bool, guard)?;
-            match check_stmts(alloc, known, yes.as_slice()) {
-                Ok(yes) => branched(guard, yes, check_stmts(alloc, known, no.as_slice())),
-                Err(e) => {
-                    drop(guard);
-                    Err(e)
-                }
-            }
+            let (yes, guard) = beside(check_stmts(alloc, known, yes.as_slice()), guard)?;
+            let (no, guard) = beside(check_stmts(alloc, known, no.as_slice()), guard)?;
+            Ok(St::If { guard, yes, no })
         }
         StmtNode::While { guard, body } => {
             let guard = asks_dist(alloc, known, &Kind::Bool, guard)?;
-            looped(guard, check_stmts(alloc, known, body.as_slice()))
-        }
-    }
-}
-
-/// The conditional of a guard and two blocks, or the first broken rule of the second block.
-fn branched(guard: Dx, yes: StList, no: Result<StList, TypeError>) -> Result<St, TypeError>
-    ensures ok { IfOk result (λ s. (block : StList) × (no ≡ Ok block) × (s ≡ St.If guard yes block)) }
-    ensures err { IfErr result (λ e. no ≡ Err e) }
-{
-    match no {
-        Ok(no) => Ok(St::If { guard, yes, no }),
-        Err(e) => {
-            drop(guard);
-            Err(e)
-        }
-    }
-}
-
-/// The loop of a guard and a body, or the body's first broken rule.
-fn looped(guard: Dx, body: Result<StList, TypeError>) -> Result<St, TypeError>
-    ensures ok { IfOk result (λ s. (block : StList) × (body ≡ Ok block) × (s ≡ St.While guard block)) }
-    ensures err { IfErr result (λ e. body ≡ Err e) }
-{
-    match body {
-        Ok(body) => Ok(St::While { guard, body }),
-        Err(e) => {
-            drop(guard);
-            Err(e)
+            let (body, guard) = beside(check_stmts(alloc, known, body.as_slice()), guard)?;
+            Ok(St::While { guard, body })
         }
     }
 }

@@ -1,7 +1,6 @@
 ghost use Rattle.std.specs.Prelude.{◌≡◌, ◌≤◌, ◌++◌, ◌∷◌, [], false, length, map, option_to_list, IfOk, IfErr, OnOk};
 ghost use Rattle.std.specs.List.{range_with_len};
 ghost use Rattle.kf_value.specs.TypeViews.{item_of as item_shown};
-ghost use Rattle.kf_value.specs.Views.{items_of};
 ghost use Rattle.kf_value.specs.Types.{count, product};
 ghost use Rattle.kf_ast.specs.Views.{item_tree};
 ghost use Rattle.kf_check.specs.Sources.{known_of, types_of};

@@ -1,12 +1,10 @@
-use Rattle.std.proofs.Common.{Err, inl, inr, sym, ap, ◌∙◌, subst, arith}
+use Rattle.std.proofs.Common.{inl, inr, ap, ◌∙◌, arith}
 use Rattle.kf_value.specs.Kinds.{TruthKind}
 use Rattle.kf_value.specs.Views.{kind_tree}
 use Rattle.kf_ast.specs.Views.{dist_tree}
 use Rattle.kf_core.specs.Views.{ex_tree, dx_tree}
 use Rattle.kf_core.specs.Dxs.{dx_at}
 use Rattle.kf_core.specs.Dxs as dx
-use Rattle.kf_check.specs.declared.errors.TypeError.{TypeError}
-use Rattle.kf_check.specs.Kinds.{JudgesDist}
 use Rattle.kf_check.specs.Views.{known_in}
 use Rattle.kf_check.proofs.Nodes.{kind_tree-Bool}
 use Rattle.kf_check.proofs.DistRules.{fails_dist, sure_judged, sure_becomes, set_broken, set_clashes, set_judged, set_becomes, bad_flip, flip_judged, flip_becomes, made}
@@ -25,10 +23,9 @@ returns-in_err-typed-in-UniformSet c =
 
 pub returns-in_err-kind-in-UniformSet : goal.returns-in_err-kind-in-UniformSet
 returns-in_err-kind-in-UniformSet c =
-    let P : TypeError → Type 0 = λ e. JudgesDist (known_in c.args.known.now) (dist_tree c.args.d.now) (Err e) in
     fails_dist (known_in c.args.known.now) (dist_tree c.args.d.now) c.from_residual-in_err-kind-in-UniformSet.result c.in_err-kind-in-UniformSet.field-0.0 c.from_residual-in_err-kind-in-UniformSet.ensures.1
-    (λ told. let h = c.in_err-kind-in-UniformSet.ensures.err told in
-    subst P (sym h.0) (set_clashes (known_in c.args.known.now) c.args.d.now c.in-UniformSet.x c.in-UniformSet.is (kind_tree c.in_ok-typed-in-UniformSet.typed.kind) c.in_ok-typed-in-UniformSet.ensures.0 h.1))
+    (set_clashes (known_in c.args.known.now) c.args.d.now c.in-UniformSet.x c.in-UniformSet.is (kind_tree c.in_ok-typed-in-UniformSet.typed.kind) c.element_kind.result c.in_err-kind-in-UniformSet.field-0.0 c.in_ok-typed-in-UniformSet.ensures.0
+    c.in_err-kind-in-UniformSet.ensures.err c.element_kind.ensures.err)
 
 pub returns-then-den-eq0 : goal.returns-then-den-eq0
 returns-then-den-eq0 c told =
@@ -45,10 +42,12 @@ returns-in_ok-typed-in-Sure c =
 pub returns-in_ok-kind-in-UniformSet : goal.returns-in_ok-kind-in-UniformSet
 returns-in_ok-kind-in-UniformSet c =
     let n = c.new-in-UniformSet.ensures in
-    made (known_in c.args.known.now) (dist_tree c.args.d.now) c.new-in-UniformSet.result (kind_tree c.in_ok-kind-in-UniformSet.kind) (dx_at c.args.d.now.at (dx.UniformSet (ex_tree c.in_ok-typed-in-UniformSet.typed.ex)))
+    let kind = c.in_ok-kind-in-UniformSet.kind in
+    let typed = c.in_ok-kind-in-UniformSet.typed in
+    made (known_in c.args.known.now) (dist_tree c.args.d.now) c.new-in-UniformSet.result (kind_tree kind) (dx_at c.args.d.now.at (dx.UniformSet (ex_tree typed.ex)))
     (ap kind_tree n.kind) (ap dx_tree n.dx)
-    (set_judged (known_in c.args.known.now) c.args.d.now c.in-UniformSet.x c.in-UniformSet.is (kind_tree c.in_ok-typed-in-UniformSet.typed.kind) _ c.in_ok-typed-in-UniformSet.ensures.0 c.in_ok-kind-in-UniformSet.ensures.ok)
-    (set_becomes (known_in c.args.known.now) c.args.d.now c.in-UniformSet.x c.in-UniformSet.is _ c.in_ok-typed-in-UniformSet.ensures.1)
+    (set_judged (known_in c.args.known.now) c.args.d.now c.in-UniformSet.x c.in-UniformSet.is (kind_tree c.in_ok-typed-in-UniformSet.typed.kind) c.element_kind.result kind c.in_ok-typed-in-UniformSet.ensures.0 c.in_ok-kind-in-UniformSet.ensures.ok.0 c.element_kind.ensures.ok)
+    (set_becomes (known_in c.args.known.now) c.args.d.now c.in-UniformSet.x c.in-UniformSet.is _ (ap (λ t. ex_tree t.ex) c.in_ok-kind-in-UniformSet.ensures.ok.1 ∙ c.in_ok-typed-in-UniformSet.ensures.1))
 
 pub returns-else-num-den : goal.returns-else-num-den
 returns-else-num-den c =

@@ -1,12 +1,12 @@
 use Rattle.std.proofs.Common.{refl, Err, map, sym, ap, ◌∙◌, arith, rules, FitsSigned}
 use Rattle.std.proofs.lemmas.Int.{to_z-of_z}
 use mir.Syntax.{w64}
-use Rattle.kf_value.specs.Views.{kind_tree, kind_trees}
+use Rattle.kf_value.specs.Views.{kind_trees}
 use Rattle.kf_value.proofs.Trees.{value_tree-Bool, value_tree-Int}
 use Rattle.kf_ast.specs.Views.{name_tree, expr_tree, expr_items}
 use Rattle.kf_ast.specs.declared.expr.Expr.{the_lemmas}
 use Rattle.kf_ast.specs.Exprs.{expr_at, Name, Part, exprs}
-use Rattle.kf_core.specs.Views.{ex_tree, ex_items}
+use Rattle.kf_core.specs.Views.{ex_items}
 use Rattle.kf_check.specs.Kinds.{JudgesAll}
 use Rattle.kf_check.specs.Views.{known_in}
 use Rattle.kf_check.proofs.Judging.{passed_on}

@@ -14,13 +14,14 @@ check_stmt-returns-in_err-guard-in-If t c =
 pub check_stmt-check_stmts-requires : goal.check_stmt-check_stmts-requires
 check_stmt-check_stmts-requires t c = (search (rules, the_lemmas), turn.built_as c.as_slice.result.now _ c.as_slice.ensures (turn.yes_built c.args.stmt.now c.in-If.guard c.in-If.yes c.in-If.no c.in-If.is c.requires))
 
-pub check_stmt-returns-in-Err : goal.check_stmt-returns-in-Err
-check_stmt-returns-in-Err t c =
-    turn.yes_fails (known_in c.args.known.now) (flags_in c.args.known.now) c.args.stmt.now c.in-If.guard c.in-If.yes c.in-If.no c.in-If.is _ turn.kind-Bool c.in_ok-guard-in-If.guard c.in_ok-guard-in-If.ensures c.in-Err.e
-    (turn.answers_as (known_in c.args.known.now) (flags_in c.args.known.now) c.as_slice.result.now (stmt_items c.in-If.yes) (Err c.in-Err.e) c.as_slice.ensures c.in-Err.ensures)
+pub check_stmt-returns-in_err-yes-in-If : goal.check_stmt-returns-in_err-yes-in-If
+check_stmt-returns-in_err-yes-in-If t c =
+    turn.failing (known_in c.args.known.now) (flags_in c.args.known.now) _ c.from_residual-in_err-yes-in-If.result c.in_err-yes-in-If.field-0.0 (passed c.from_residual-in_err-yes-in-If.result _ c.from_residual-in_err-yes-in-If.ensures.1)
+    (turn.yes_fails (known_in c.args.known.now) (flags_in c.args.known.now) c.args.stmt.now c.in-If.guard c.in-If.yes c.in-If.no c.in-If.is _ turn.kind-Bool c.in_ok-guard-in-If.guard c.in_ok-guard-in-If.ensures _
+    (turn.answers_as (known_in c.args.known.now) (flags_in c.args.known.now) c.as_slice.result.now (stmt_items c.in-If.yes) c.check_stmts.result (Err c.in_err-yes-in-If.field-0.0) c.as_slice.ensures c.in_err-yes-in-If.ensures.err c.check_stmts.ensures))
 
-pub check_stmt-check_stmts-requires-in-Ok : goal.check_stmt-check_stmts-requires-in-Ok
-check_stmt-check_stmts-requires-in-Ok t c = (search (rules, the_lemmas), turn.built_as c.as_slice-in-Ok.result.now _ c.as_slice-in-Ok.ensures (turn.no_built c.args.stmt.now c.in-If.guard c.in-If.yes c.in-If.no c.in-If.is c.requires))
+pub check_stmt-check_stmts-requires-in-If : goal.check_stmt-check_stmts-requires-in-If
+check_stmt-check_stmts-requires-in-If t c = (search (rules, the_lemmas), turn.built_as c.as_slice-in-If.result.now _ c.as_slice-in-If.ensures (turn.no_built c.args.stmt.now c.in-If.guard c.in-If.yes c.in-If.no c.in-If.is c.requires))
 
 pub check_stmt-returns-in_err-guard-in-While : goal.check_stmt-returns-in_err-guard-in-While
 check_stmt-returns-in_err-guard-in-While t c =
@@ -39,17 +40,31 @@ check_stmt-returns-in-Assign t c = turn.assignment_at (known_in c.args.known.now
 pub check_stmt-returns-in-Observe : goal.check_stmt-returns-in-Observe
 check_stmt-returns-in-Observe t c = turn.observation_at (known_in c.args.known.now) (flags_in c.args.known.now) c.args.stmt.now c.in-Observe.observed c.observation.result c.in-Observe.is (c.observation.ensures c.args.stmt.now.at)
 
-pub check_stmt-returns-in-Ok : goal.check_stmt-returns-in-Ok
-check_stmt-returns-in-Ok t c =
-    turn.branch_answers (known_in c.args.known.now) (flags_in c.args.known.now) c.args.stmt.now c.in-If.guard c.in-If.yes c.in-If.no c.in-If.is _ turn.kind-Bool c.in_ok-guard-in-If.guard c.in_ok-guard-in-If.ensures c.in-Ok.yes
-    (turn.answers_as (known_in c.args.known.now) (flags_in c.args.known.now) c.as_slice.result.now (stmt_items c.in-If.yes) (Ok c.in-Ok.yes) c.as_slice.ensures c.in-Ok.ensures)
-    c.check_stmts-in-Ok.result c.branched.result
-    (turn.answers_as (known_in c.args.known.now) (flags_in c.args.known.now) c.as_slice-in-Ok.result.now (stmt_items c.in-If.no) c.check_stmts-in-Ok.result c.as_slice-in-Ok.ensures c.check_stmts-in-Ok.ensures) c.branched.ensures.ok c.branched.ensures.err
+pub check_stmt-returns-in_err-no-in-If : goal.check_stmt-returns-in_err-no-in-If
+check_stmt-returns-in_err-no-in-If t c =
+    turn.failing (known_in c.args.known.now) (flags_in c.args.known.now) _ c.from_residual-in_err-no-in-If.result c.in_err-no-in-If.field-0.0 (passed c.from_residual-in_err-no-in-If.result _ c.from_residual-in_err-no-in-If.ensures.1)
+    (turn.no_fails (known_in c.args.known.now) (flags_in c.args.known.now) c.args.stmt.now c.in-If.guard c.in-If.yes c.in-If.no c.in-If.is _ turn.kind-Bool c.in_ok-guard-in-If.guard c.in_ok-guard-in-If.ensures c.in_ok-yes-in-If.yes
+    (turn.answers_as (known_in c.args.known.now) (flags_in c.args.known.now) c.as_slice.result.now (stmt_items c.in-If.yes) c.check_stmts.result (Ok c.in_ok-yes-in-If.yes) c.as_slice.ensures c.in_ok-yes-in-If.ensures.ok.0 c.check_stmts.ensures)
+    _ (turn.answers_as (known_in c.args.known.now) (flags_in c.args.known.now) c.as_slice-in-If.result.now (stmt_items c.in-If.no) c.check_stmts-in-If.result (Err c.in_err-no-in-If.field-0.0) c.as_slice-in-If.ensures c.in_err-no-in-If.ensures.err c.check_stmts-in-If.ensures))
 
-pub check_stmt-returns-in_ok-guard-in-While : goal.check_stmt-returns-in_ok-guard-in-While
-check_stmt-returns-in_ok-guard-in-While t c =
-    turn.loop_answers (known_in c.args.known.now) (flags_in c.args.known.now) c.args.stmt.now c.in-While.guard c.in-While.body c.in-While.is _ turn.kind-Bool c.in_ok-guard-in-While.guard c.in_ok-guard-in-While.ensures c.check_stmts-in-While.result c.looped.result
-    (turn.answers_as (known_in c.args.known.now) (flags_in c.args.known.now) c.as_slice-in-While.result.now (stmt_items c.in-While.body) c.check_stmts-in-While.result c.as_slice-in-While.ensures c.check_stmts-in-While.ensures) c.looped.ensures.ok c.looped.ensures.err
+pub check_stmt-returns-in_ok-no-in-If : goal.check_stmt-returns-in_ok-no-in-If
+check_stmt-returns-in_ok-no-in-If t c =
+    rw (c.in_ok-no-in-If.ensures.ok.1, c.in_ok-yes-in-If.ensures.ok.1)
+    (turn.if_else (known_in c.args.known.now) (flags_in c.args.known.now) c.args.stmt.now c.in-If.guard c.in-If.yes c.in-If.no c.in-If.is _ turn.kind-Bool c.in_ok-guard-in-If.guard c.in_ok-guard-in-If.ensures c.in_ok-yes-in-If.yes
+    (turn.answers_as (known_in c.args.known.now) (flags_in c.args.known.now) c.as_slice.result.now (stmt_items c.in-If.yes) c.check_stmts.result (Ok c.in_ok-yes-in-If.yes) c.as_slice.ensures c.in_ok-yes-in-If.ensures.ok.0 c.check_stmts.ensures)
+    c.in_ok-no-in-If.no (turn.answers_as (known_in c.args.known.now) (flags_in c.args.known.now) c.as_slice-in-If.result.now (stmt_items c.in-If.no) c.check_stmts-in-If.result (Ok c.in_ok-no-in-If.no) c.as_slice-in-If.ensures c.in_ok-no-in-If.ensures.ok.0 c.check_stmts-in-If.ensures))
+
+pub check_stmt-returns-in_err-body-in-While : goal.check_stmt-returns-in_err-body-in-While
+check_stmt-returns-in_err-body-in-While t c =
+    turn.failing (known_in c.args.known.now) (flags_in c.args.known.now) _ c.from_residual-in_err-body-in-While.result c.in_err-body-in-While.field-0.0 (passed c.from_residual-in_err-body-in-While.result _ c.from_residual-in_err-body-in-While.ensures.1)
+    (turn.body_fails (known_in c.args.known.now) (flags_in c.args.known.now) c.args.stmt.now c.in-While.guard c.in-While.body c.in-While.is _ turn.kind-Bool c.in_ok-guard-in-While.guard c.in_ok-guard-in-While.ensures _
+    (turn.answers_as (known_in c.args.known.now) (flags_in c.args.known.now) c.as_slice-in-While.result.now (stmt_items c.in-While.body) c.check_stmts-in-While.result (Err c.in_err-body-in-While.field-0.0) c.as_slice-in-While.ensures c.in_err-body-in-While.ensures.err c.check_stmts-in-While.ensures))
+
+pub check_stmt-returns-in_ok-body-in-While : goal.check_stmt-returns-in_ok-body-in-While
+check_stmt-returns-in_ok-body-in-While t c =
+    rw (c.in_ok-body-in-While.ensures.ok.1)
+    (turn.while (known_in c.args.known.now) (flags_in c.args.known.now) c.args.stmt.now c.in-While.guard c.in-While.body c.in-While.is _ turn.kind-Bool c.in_ok-guard-in-While.guard c.in_ok-guard-in-While.ensures c.in_ok-body-in-While.body
+    (turn.answers_as (known_in c.args.known.now) (flags_in c.args.known.now) c.as_slice-in-While.result.now (stmt_items c.in-While.body) c.check_stmts-in-While.result (Ok c.in_ok-body-in-While.body) c.as_slice-in-While.ensures c.in_ok-body-in-While.ensures.ok.0 c.check_stmts-in-While.ensures))
 
 pub check_stmts-check_stmt-requires : goal.check_stmts-check_stmt-requires
 check_stmts-check_stmt-requires t c = (search (rules, the_lemmas), (rw (left_step stmt_tree c.args.stmts.now c.loop-stmt.stmt-index c.stmt-item.result (omega arith) c.stmt-item.is) at c.loop-stmt.invariant.built).0)

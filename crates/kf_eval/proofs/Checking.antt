@@ -234,15 +234,11 @@ module _ (ks : List KindTree) (s : List ValueTree) (place : ℕ) (xs : List ExTr
     applied_row : at_all (operator_at place) (evs s (exs xs)) ≡ applied calls.row.code vs
     applied_row = listed_row ∙ ap (λ r. then_ok r (applied calls.row.code)) known
 
-    pub row_value_is : (read : List ValueTree) (v : ValueTree) → read ≡ vs → ((r : Row) → IsRow place r → applied r.code read ≡ Ok v)
-        → at_all (operator_at place) (evs s (exs xs)) ≡ Ok v
-    row_value_is read v same gives = applied_row ∙ (ap (applied calls.row.code) (sym same) ∙ gives calls.row calls.here)
-
-    pub row_fault_is : (read : List ValueTree) (f : OpFault) → read ≡ vs → ((r : Row) → IsRow place r → OpAnswers (Err f) (applied r.code read))
-        → IsFaultOf (at_all (operator_at place) (evs s (exs xs))) (error_of f)
-    row_fault_is read f same gives =
+    pub row_answers : (read : List ValueTree) (result : Result Value EvalError) → read ≡ vs → ((r : Row) → IsRow place r → Answers result (applied r.code read))
+        → Answers result (at_all (operator_at place) (evs s (exs xs)))
+    row_answers read result same gives =
         let defined = applied_row ∙ ap (applied calls.row.code) (sym same) in
-        subst (λ (e : Evaluated). IsFaultOf e (error_of f)) (sym defined) (fault_of_op (applied calls.row.code read) f (gives calls.row calls.here))
+        subst (λ (e : Evaluated). Answers result e) (sym defined) (gives calls.row calls.here)
 
 -- ---- one argument, or two
 

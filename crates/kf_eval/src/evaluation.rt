@@ -12,6 +12,10 @@ ghost use Rattle.kf_core.specs.Exs.{Apply, SetOf, Tuple, exs as exs_tree};
 ghost use Rattle.kf_core.specs.Views.{ex_tree};
 ghost use Rattle.kf_core.specs.Evaluation.{ev, evs, all_values, operated, operator_at};
 ghost use Rattle.kf_core.specs.Checked.{Kinded};
+ghost use Rattle.kf_ops.specs.Fitting.{FitsRow};
+ghost use Rattle.kf_ops.specs.Places.{IsRow};
+ghost use Rattle.kf_ops.specs.Rows.{Row};
+ghost use Rattle.kf_ops.specs.Values.{applied};
 ghost use Rattle.kf_ops.specs.declared.row.Op.TheVariants as op;
 ghost use Rattle.kf_eval.specs.Answers.{Answers, IsFaultOf, at_all};
 ghost use Rattle.kf_eval.specs.Kinds.{shape_kinds, IsKinded, AreKinded};
@@ -123,6 +127,14 @@ fn operation(
     }
 }
 
+/// The operator of a row at these values.
+fn apply_row(alloc: Global, row: usize, values: &[Value]) -> Result<Value, EvalError>
+    requires { FitsRow row (map value_tree values.now) }
+    ensures { (r : Row) → IsRow row r → Answers result (applied r.code (map value_tree values.now)) }
+{
+    Ok(apply(alloc, row, values)?)
+}
+
 /// An operator that needs all its arguments.
 #[cycle(eval)]
 fn strict(
@@ -140,16 +152,16 @@ fn strict(
     match args {
         [x] => {
             let a = value_of(alloc, x, shape, store)?;
-            Ok(apply(alloc, row, &[a])?)
+            apply_row(alloc, row, &[a])
         }
         [x, y] => {
             let a = value_of(alloc, x, shape, store)?;
             let b = value_of(alloc, y, shape, store)?;
-            Ok(apply(alloc, row, &[a, b])?)
+            apply_row(alloc, row, &[a, b])
         }
         _ => {
             let values = values_of(alloc, args, shape, store)?;
-            Ok(apply(alloc, row, &values)?)
+            apply_row(alloc, row, &values)
         }
     }
 }

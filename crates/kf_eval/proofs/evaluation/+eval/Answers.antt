@@ -12,7 +12,7 @@ use Rattle.kf_core.specs.Evaluation.{Evaluated, evs}
 use Rattle.kf_ops.specs.declared.row.Op.TheVariants as op
 use Rattle.kf_eval.specs.Answers.{Answers}
 use Rattle.kf_eval.specs.Kinds.{shape_kinds}
-use Rattle.kf_eval.proofs.Checking.{calls_row, needed, row_within, each_kinded, parts_kinded, members_kinded, fits_row, has_part, store_kinds, slot_within, slot_value, or_first, and_first, cond_second, needs_all, row_stops, row_value_is, row_fault_is, nth_kinded, first_stops, one_value, second_stops, two_values, values_start, values_step, values_fault, values_end}
+use Rattle.kf_eval.proofs.Checking.{calls_row, needed, row_within, each_kinded, parts_kinded, members_kinded, fits_row, has_part, store_kinds, slot_within, slot_value, or_first, and_first, cond_second, needs_all, row_stops, row_answers, nth_kinded, first_stops, one_value, second_stops, two_values, values_start, values_step, values_fault, values_end}
 use Rattle.kf_eval.proofs.evaluation.+eval.Goals as goal
 
 pub or-returns-then-is_true : goal.or-returns-then-is_true
@@ -84,8 +84,8 @@ strict-returns-in_err-a-in-len1 t c =
     let p = err_from_is_err_and c.from_residual.result c.from_residual.ensures.1 in
     rw (p.1, p.2) (row_stops ks s c.args.row (map ex_tree args) calls _ (first_stops s args c.x-item.result _ (omega (arith, long)) c.x-item.is c.in_err-a-in-len1.ensures))
 
-pub strict-apply-requires : goal.strict-apply-requires
-strict-apply-requires t c =
+pub strict-apply_row-requires : goal.strict-apply_row-requires
+strict-apply_row-requires t c =
     let ks = shape_kinds c.args.shape.now in
     let s = store_at (shape_types c.args.shape.now) c.args.store in
     let args = c.args.args.now in
@@ -95,26 +95,15 @@ strict-apply-requires t c =
     let known = one_value s args c.x-item.result (value_tree c.in_ok-a-in-len1.a) long c.x-item.is c.in_ok-a-in-len1.ensures in
     fits_row c.evaluation_laws.ensures.kinds ks s are c.args.row (map ex_tree args) (value_tree c.in_ok-a-in-len1.a ∷ []) calls known
 
-pub strict-returns-in_err-apply-in-len1 : goal.strict-returns-in_err-apply-in-len1
-strict-returns-in_err-apply-in-len1 t c =
+pub strict-returns-in_ok-a-in-len1 : goal.strict-returns-in_ok-a-in-len1
+strict-returns-in_ok-a-in-len1 t c =
     let ks = shape_kinds c.args.shape.now in
     let s = store_at (shape_types c.args.shape.now) c.args.store in
     let args = c.args.args.now in
     let calls = calls_row ks c.args.row (map ex_tree args) c.requires.kinded in
     let long : length args ≡ 1 = omega (arith, c.in-len1.len_at_least, c.in-len1.len_below) in
     let known = one_value s args c.x-item.result (value_tree c.in_ok-a-in-len1.a) long c.x-item.is c.in_ok-a-in-len1.ensures in
-    let p = err_from_is_err_and c.from_residual-in_err-apply-in-len1.result c.from_residual-in_err-apply-in-len1.ensures.1 in
-    rw (p.1, p.2) (row_fault_is ks s c.args.row (map ex_tree args) calls (value_tree c.in_ok-a-in-len1.a ∷ []) known (value_tree c.in_ok-a-in-len1.a ∷ []) c.in_err-apply-in-len1.field-0.0 refl c.in_err-apply-in-len1.ensures.value)
-
-pub strict-returns-in_ok-apply-in-len1 : goal.strict-returns-in_ok-apply-in-len1
-strict-returns-in_ok-apply-in-len1 t c =
-    let ks = shape_kinds c.args.shape.now in
-    let s = store_at (shape_types c.args.shape.now) c.args.store in
-    let args = c.args.args.now in
-    let calls = calls_row ks c.args.row (map ex_tree args) c.requires.kinded in
-    let long : length args ≡ 1 = omega (arith, c.in-len1.len_at_least, c.in-len1.len_below) in
-    let known = one_value s args c.x-item.result (value_tree c.in_ok-a-in-len1.a) long c.x-item.is c.in_ok-a-in-len1.ensures in
-    row_value_is ks s c.args.row (map ex_tree args) calls (value_tree c.in_ok-a-in-len1.a ∷ []) known (value_tree c.in_ok-a-in-len1.a ∷ []) (value_tree c.in_ok-apply-in-len1.field-0) refl c.in_ok-apply-in-len1.ensures.value
+    row_answers ks s c.args.row (map ex_tree args) calls (value_tree c.in_ok-a-in-len1.a ∷ []) known (value_tree c.in_ok-a-in-len1.a ∷ []) c.apply_row.result refl c.apply_row.ensures
 
 pub strict-value_of-requires-in-len2 : goal.strict-value_of-requires-in-len2
 strict-value_of-requires-in-len2 t c =
@@ -152,8 +141,8 @@ strict-returns-in_err-b-in-len2 t c =
     let p = err_from_is_err_and c.from_residual-in_err-b-in-len2.result c.from_residual-in_err-b-in-len2.ensures.1 in
     rw (p.1, p.2) (row_stops ks s c.args.row (map ex_tree args) calls _ (second_stops s c.x-item-then-args-lt3.result c.y-item.result (value_tree c.in_ok-a-in-len2.a) c.in_ok-a-in-len2.ensures args _ long c.x-item-then-args-lt3.is c.y-item.is c.in_err-b-in-len2.ensures))
 
-pub strict-apply-requires-in-len2 : goal.strict-apply-requires-in-len2
-strict-apply-requires-in-len2 t c =
+pub strict-apply_row-requires-in-len2 : goal.strict-apply_row-requires-in-len2
+strict-apply_row-requires-in-len2 t c =
     let ks = shape_kinds c.args.shape.now in
     let s = store_at (shape_types c.args.shape.now) c.args.store in
     let args = c.args.args.now in
@@ -163,26 +152,15 @@ strict-apply-requires-in-len2 t c =
     let known = two_values s c.x-item-then-args-lt3.result c.y-item.result (value_tree c.in_ok-a-in-len2.a) c.in_ok-a-in-len2.ensures args (value_tree c.in_ok-b-in-len2.b) long c.x-item-then-args-lt3.is c.y-item.is c.in_ok-b-in-len2.ensures in
     fits_row c.evaluation_laws.ensures.kinds ks s are c.args.row (map ex_tree args) (value_tree c.in_ok-a-in-len2.a ∷ value_tree c.in_ok-b-in-len2.b ∷ []) calls known
 
-pub strict-returns-in_err-apply-in-len2 : goal.strict-returns-in_err-apply-in-len2
-strict-returns-in_err-apply-in-len2 t c =
+pub strict-returns-in_ok-b-in-len2 : goal.strict-returns-in_ok-b-in-len2
+strict-returns-in_ok-b-in-len2 t c =
     let ks = shape_kinds c.args.shape.now in
     let s = store_at (shape_types c.args.shape.now) c.args.store in
     let args = c.args.args.now in
     let calls = calls_row ks c.args.row (map ex_tree args) c.requires.kinded in
     let long : length args ≡ 2 = omega (arith, c.in-len2.len_at_least, c.in-len2.len_below) in
     let known = two_values s c.x-item-then-args-lt3.result c.y-item.result (value_tree c.in_ok-a-in-len2.a) c.in_ok-a-in-len2.ensures args (value_tree c.in_ok-b-in-len2.b) long c.x-item-then-args-lt3.is c.y-item.is c.in_ok-b-in-len2.ensures in
-    let p = err_from_is_err_and c.from_residual-in_err-apply-in-len2.result c.from_residual-in_err-apply-in-len2.ensures.1 in
-    rw (p.1, p.2) (row_fault_is ks s c.args.row (map ex_tree args) calls (value_tree c.in_ok-a-in-len2.a ∷ value_tree c.in_ok-b-in-len2.b ∷ []) known (value_tree c.in_ok-a-in-len2.a ∷ value_tree c.in_ok-b-in-len2.b ∷ []) c.in_err-apply-in-len2.field-0.0 refl c.in_err-apply-in-len2.ensures.value)
-
-pub strict-returns-in_ok-apply-in-len2 : goal.strict-returns-in_ok-apply-in-len2
-strict-returns-in_ok-apply-in-len2 t c =
-    let ks = shape_kinds c.args.shape.now in
-    let s = store_at (shape_types c.args.shape.now) c.args.store in
-    let args = c.args.args.now in
-    let calls = calls_row ks c.args.row (map ex_tree args) c.requires.kinded in
-    let long : length args ≡ 2 = omega (arith, c.in-len2.len_at_least, c.in-len2.len_below) in
-    let known = two_values s c.x-item-then-args-lt3.result c.y-item.result (value_tree c.in_ok-a-in-len2.a) c.in_ok-a-in-len2.ensures args (value_tree c.in_ok-b-in-len2.b) long c.x-item-then-args-lt3.is c.y-item.is c.in_ok-b-in-len2.ensures in
-    row_value_is ks s c.args.row (map ex_tree args) calls (value_tree c.in_ok-a-in-len2.a ∷ value_tree c.in_ok-b-in-len2.b ∷ []) known (value_tree c.in_ok-a-in-len2.a ∷ value_tree c.in_ok-b-in-len2.b ∷ []) (value_tree c.in_ok-apply-in-len2.field-0) refl c.in_ok-apply-in-len2.ensures.value
+    row_answers ks s c.args.row (map ex_tree args) calls (value_tree c.in_ok-a-in-len2.a ∷ value_tree c.in_ok-b-in-len2.b ∷ []) known (value_tree c.in_ok-a-in-len2.a ∷ value_tree c.in_ok-b-in-len2.b ∷ []) c.apply_row-in-len2.result refl c.apply_row-in-len2.ensures
 
 pub strict-values_of-requires : goal.strict-values_of-requires
 strict-values_of-requires t c =
@@ -191,8 +169,8 @@ strict-values_of-requires t c =
     let calls = calls_row ks c.args.row (map ex_tree args) c.requires.kinded in
     (search rules, (c.requires.store, each_kinded ks calls.args))
 
-pub strict-apply-requires-in_default : goal.strict-apply-requires-in_default
-strict-apply-requires-in_default t c =
+pub strict-apply_row-requires-in_default : goal.strict-apply_row-requires-in_default
+strict-apply_row-requires-in_default t c =
     let ks = shape_kinds c.args.shape.now in
     let s = store_at (shape_types c.args.shape.now) c.args.store in
     let args = c.args.args.now in
@@ -200,22 +178,13 @@ strict-apply-requires-in_default t c =
     let are = store_kinds c.evaluation_laws.ensures.stores c.args.shape.now c.args.store c.requires.store in
     rw c.deref.ensures.value (fits_row c.evaluation_laws.ensures.kinds ks s are c.args.row (map ex_tree args) (map value_tree c.in_ok-values-in_default.values.items) calls c.in_ok-values-in_default.ensures)
 
-pub strict-returns-in_err-apply-in_default : goal.strict-returns-in_err-apply-in_default
-strict-returns-in_err-apply-in_default t c =
+pub strict-returns-in_ok-values-in_default : goal.strict-returns-in_ok-values-in_default
+strict-returns-in_ok-values-in_default t c =
     let ks = shape_kinds c.args.shape.now in
     let s = store_at (shape_types c.args.shape.now) c.args.store in
     let args = c.args.args.now in
     let calls = calls_row ks c.args.row (map ex_tree args) c.requires.kinded in
-    let p = err_from_is_err_and c.from_residual-in_err-apply-in_default.result c.from_residual-in_err-apply-in_default.ensures.1 in
-    rw (p.1, p.2) (row_fault_is ks s c.args.row (map ex_tree args) calls (map value_tree c.in_ok-values-in_default.values.items) c.in_ok-values-in_default.ensures (map value_tree c.deref.result.now) c.in_err-apply-in_default.field-0.0 (ap (map value_tree) c.deref.ensures.value) c.in_err-apply-in_default.ensures.value)
-
-pub strict-returns-in_ok-apply-in_default : goal.strict-returns-in_ok-apply-in_default
-strict-returns-in_ok-apply-in_default t c =
-    let ks = shape_kinds c.args.shape.now in
-    let s = store_at (shape_types c.args.shape.now) c.args.store in
-    let args = c.args.args.now in
-    let calls = calls_row ks c.args.row (map ex_tree args) c.requires.kinded in
-    row_value_is ks s c.args.row (map ex_tree args) calls (map value_tree c.in_ok-values-in_default.values.items) c.in_ok-values-in_default.ensures (map value_tree c.deref.result.now) (value_tree c.in_ok-apply-in_default.field-0) (ap (map value_tree) c.deref.ensures.value) c.in_ok-apply-in_default.ensures.value
+    row_answers ks s c.args.row (map ex_tree args) calls (map value_tree c.in_ok-values-in_default.values.items) c.in_ok-values-in_default.ensures (map value_tree c.deref.result.now) c.apply_row-in_default.result (ap (map value_tree) c.deref.ensures.value) c.apply_row-in_default.ensures
 
 pub value_of-value_in-requires-clause-within : goal.value_of-value_in-requires-clause-within
 value_of-value_in-requires-clause-within t c =

@@ -1,5 +1,5 @@
 -- What was read, and what fails in the first of its parts.
-use Rattle.std.proofs.Common.{◌≡◌, Bool, true, false, List, [], ◌∷◌, Err, refl, sym, ap, subst}
+use Rattle.std.proofs.Common.{◌≡◌, Bool, true, false, List, [], ◌∷◌, Result, Ok, Err, refl, sym, ◌∙◌, ap, subst}
 use Rattle.kf_lex.specs.declared.token.Token.{Token}
 use Rattle.kf_lex.specs.declared.token.Tok.{Tok}
 use Rattle.kf_parse.specs.declared.stop.Stop.{Stop}
@@ -24,6 +24,13 @@ fails view view' o f stop.Mem left g = tt
 -- what fails is the same as what is equal to it
 pub fails_as : {B Y : Type 0} (view : Y → B) (o o' : Outcome B) (e : Stop) (left : List Token) → o ≡ o' → Reads view o' (Err e) left → Reads view o (Err e) left
 fails_as view o o' e left same h = let P : Outcome _ → Type 0 = λ z. Reads view z (Err e) left in subst P (sym same) h
+
+-- what is made, without reading on, of what was read
+pub made_of : {B X : Type 0} (view : X → B) (o : Outcome B) (v : B) (r : Result X Stop) (rest : List Token) → o ≡ got v rest → Reads view (pure v []) r [] → Reads view o r rest
+made_of view o v (Ok x) rest e g = e ∙ ap (λ z. got z rest) (got_value g)
+made_of view o v (Err stop.Syntax) rest e g = absurd (cc)
+made_of view o v (Err stop.Deep) rest e g = absurd (cc)
+made_of view o v (Err stop.Mem) rest e g = tt
 
 -- a token that is expected is read first
 pub expected : {A : Type 0} (test : Tok → Bool) (f : Token → Parser A) (ts : List Token) → expect test f ts ≡ and_then (expect test pure ts) f

@@ -1,6 +1,8 @@
-ghost use Rattle.std.specs.Prelude.{◌≡◌, map};
-ghost use Rattle.kf_ast.specs.Views.{name_tree, decl_tree, item_tree, source_tree, target_items};
-ghost use Rattle.kf_ast.specs.Sources.{item};
+ghost use Rattle.std.specs.Prelude.{◌≡◌, map, List};
+ghost use Rattle.kf_ast.specs.Views.{name_tree, decl_tree, dist_tree, item_tree, source_tree, target_items, type_form};
+ghost use Rattle.kf_ast.specs.Dists.{DistTree};
+ghost use Rattle.kf_ast.specs.Sources.{item, DeclTree};
+ghost use Rattle.kf_ast.specs.TypeForms.{TypeForm};
 ghost use Rattle.kf_lex.specs.declared.token.Sign.TheVariants as s;
 ghost use Rattle.kf_lex.specs.declared.token.Tok.TheVariants as t;
 ghost use Rattle.kf_parse.specs.Begins.{begins_declaration};
@@ -10,13 +12,13 @@ ghost use Rattle.kf_parse.specs.Outcomes.{and_then, expect, pure};
 ghost use Rattle.kf_parse.specs.Reading as r;
 ghost use Rattle.kf_parse.specs.Reads.{Reads, passes_next};
 ghost use Rattle.kf_parse.specs.Tokens.{is};
-ghost use Rattle.kf_parse.specs.Trimmed.{trimmed};
+ghost use Rattle.kf_parse.specs.Trimmed.{trimmed, Trimmed as Of};
 
 use crate::compose::{push_declaration, source};
 use crate::cursor::Cursor;
 use crate::kept::Trimmed;
 use crate::stop::Stop;
-use kf_ast::{Decl, Ident, Item, ItemList, Source, TyTree};
+use kf_ast::{Decl, Dist, Ident, Item, ItemList, Source, TyTree};
 use kf_lex::{Sign, Tok, Word};
 
 /// Whether a token of this kind begins a declaration.
@@ -67,12 +69,21 @@ impl<'a> Cursor<'a> {
         ensures source { self.new.src.now ≡ self.old.src.now }
         ensures reads { Reads (trimmed_of (all_of decl_tree)) (expect (is (t.Sign s.Colon)) (λ c. λ ts. and_then (r.type depth ts) (λ y. expect (is (t.Sign s.Assign)) (λ g. λ us. and_then (r.dist trimmed self.old.src.now depth us) (λ x. expect (is (t.Sign s.Semi)) (λ e. pure (trimmed.push_declaration (trimmed_of (all_of decl_tree) decls) visible (name_tree name) y x)))))) self.old.rest.now) result self.new.rest.now }
     {
+        let (ty, dist) = self.type_and_dist(depth)?;
+        push_declaration(decls, visible, name, ty, dist)
+    }
+
+    /// The type and the distribution of a declaration, whatever is made of them.
+    fn type_and_dist(&mut self, depth: u32) -> Result<(TyTree, Trimmed<Dist>), Stop>
+        ensures source { self.new.src.now ≡ self.old.src.now }
+        ensures reads { (made : TypeForm → Of DistTree → Of (List DeclTree)) → Reads (λ p. made (type_form p.0) (trimmed_of dist_tree p.1)) (expect (is (t.Sign s.Colon)) (λ c. λ ts. and_then (r.type depth ts) (λ y. expect (is (t.Sign s.Assign)) (λ g. λ us. and_then (r.dist trimmed self.old.src.now depth us) (λ x. expect (is (t.Sign s.Semi)) (λ e. pure (made y x)))))) self.old.rest.now) result self.new.rest.now }
+    {
         self.expect(Tok::Sign(Sign::Colon))?;
         let ty = self.type_tree(depth)?;
         self.expect(Tok::Sign(Sign::Assign))?;
         let dist = self.dist(depth)?;
         self.expect(Tok::Sign(Sign::Semi))?;
-        push_declaration(decls, visible, name, ty, dist)
+        Ok((ty, dist))
     }
 
     /// The declarations up to a token that begins none.

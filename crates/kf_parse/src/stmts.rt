@@ -1,14 +1,16 @@
-ghost use Rattle.std.specs.Prelude.{◌≡◌, ◌-◌, ◌<◌};
+ghost use Rattle.std.specs.Prelude.{◌≡◌, ◌-◌, ◌<◌, List};
+ghost use Rattle.kf_ast.specs.Stmts.{StmtTree};
 ghost use Rattle.kf_ast.specs.Views.{name_tree, stmt_tree};
 ghost use Rattle.kf_parse.specs.Begins.{begins_statement};
 ghost use Rattle.kf_parse.specs.Views.{trimmed_of, all_of};
 ghost use Rattle.kf_lex.specs.declared.token.Tok.TheVariants as t;
 ghost use Rattle.kf_lex.specs.declared.token.Sign.TheVariants as s;
+ghost use Rattle.kf_lex.specs.declared.token.Word.TheVariants as w;
 ghost use Rattle.kf_parse.specs.Outcomes.{and_then, expect, first, pure};
 ghost use Rattle.kf_parse.specs.Reading as r;
 ghost use Rattle.kf_parse.specs.Reads.{Reads, passes_next};
 ghost use Rattle.kf_parse.specs.Tokens.{is};
-ghost use Rattle.kf_parse.specs.Trimmed.{trimmed};
+ghost use Rattle.kf_parse.specs.Trimmed.{trimmed, Trimmed as Of};
 
 use crate::compose::{assign, if_else, observe, push_statement, skip, while_loop};
 use crate::cursor::Cursor;
@@ -100,10 +102,22 @@ impl<'a> Cursor<'a> {
         ensures reads { Reads (trimmed_of stmt_tree) (r.if_else trimmed self.old.src.now (r.statements trimmed self.old.src.now (depth - 1)) depth i self.old.rest.now) result self.new.rest.now }
     {
         let guard = self.dist(depth)?;
+        let (yes, no) = self.branches(depth)?;
+        Ok(if_else(i.start, guard, yes, no))
+    }
+
+    /// The two blocks of a conditional, whatever is made of them.
+    #[cycle(stmts)]
+    fn branches(&mut self, depth: u32) -> Result<(Trimmed<Vec<Stmt>>, Trimmed<Vec<Stmt>>), Stop>
+        requires { 0 < depth }
+        ensures source { self.new.src.now ≡ self.old.src.now }
+        ensures reads { (made : Of (List StmtTree) → Of (List StmtTree) → Of StmtTree) → let block = r.block trimmed self.old.src.now (r.statements trimmed self.old.src.now (depth - 1)) depth in
+            Reads (λ b. made (trimmed_of (all_of stmt_tree) b.0) (trimmed_of (all_of stmt_tree) b.1)) (and_then (block self.old.rest.now) (λ xs. expect (is (t.Word w.ElseWord)) (λ e. λ ts. and_then (block ts) (λ ys. pure (made xs ys))))) result self.new.rest.now }
+    {
         let yes = self.block(depth)?;
         self.expect(Tok::Word(Word::ElseWord))?;
         let no = self.block(depth)?;
-        Ok(if_else(i.start, guard, yes, no))
+        Ok((yes, no))
     }
 
     /// The loop behind its word `o`.

@@ -1,7 +1,8 @@
 ghost use Rattle.std.specs.Prelude.{◌≡◌, map};
-ghost use Rattle.kf_ast.specs.TypeForms.{type_at, SetOf};
+ghost use Rattle.kf_ast.specs.TypeForms.{type_at, types, SetOf, TupleOf};
 ghost use Rattle.kf_ast.specs.Views.{type_form, ty_items};
 ghost use Rattle.kf_lex.specs.declared.token.Tok.TheVariants as t;
+ghost use Rattle.kf_lex.specs.declared.token.Sign.TheVariants as s;
 ghost use Rattle.kf_lex.specs.declared.token.Word.TheVariants as w;
 ghost use Rattle.kf_parse.specs.Outcomes.{and_then, expect, first, pure};
 ghost use Rattle.kf_parse.specs.Tokens.{is};
@@ -142,7 +143,16 @@ impl<'a> Cursor<'a> {
         members.push(self.type_tree(depth)?)?;
         self.expect(Tok::Sign(Sign::Comma))?;
         members.push(self.type_tree(depth)?)?;
-        let members = self.other_types(depth, members)?;
+        self.tuple_of(depth, p, members)
+    }
+
+    /// The tuple of its first types and of those that go on behind commas.
+    #[cycle(types)]
+    fn tuple_of(&mut self, depth: u32, p: Token, first: Vec<TyTree>) -> Result<TyTree, Stop>
+        ensures source { self.new.src.now ≡ self.old.src.now }
+        ensures reads { Reads type_form (and_then (r.other_types (r.type depth) (map type_form first.items) self.old.rest.now) (λ xs. expect (is (t.Sign s.ParenClose)) (λ q. pure (type_at p.start (TupleOf (types xs)))))) result self.new.rest.now }
+    {
+        let members = self.other_types(depth, first)?;
         self.expect(Tok::Sign(Sign::ParenClose))?;
         Ok(TyTree {
             at: p.start,

@@ -1,11 +1,17 @@
-use Rattle.std.proofs.Common.{rules, arith, ◌≡◌, ◌-◌, sym, ◌∙◌}
+use Rattle.std.proofs.Common.{rules, arith, ℕ, List, ◌≡◌, ◌-◌, sym, ◌∙◌, ap}
 use Rattle.std.proofs.lemmas.Grind.{common_steps}
-use Rattle.kf_ast.specs.Views.{stmt_tree}
+use Rattle.std.proofs.lemmas.Result.{err_from_is_err_and}
+use Rattle.kf_ast.specs.Views.{stmt_tree, dist_tree}
 use Rattle.kf_parse.specs.Views.{trimmed_of, all_of}
+use Rattle.kf_lex.specs.declared.token.Token.{Token}
+use Rattle.kf_lex.specs.declared.token.Tok.TheVariants as tok
+use Rattle.kf_lex.specs.declared.token.Word.TheVariants as word
+use Rattle.kf_parse.specs.Tokens.{is}
+use Rattle.kf_parse.specs.Outcomes.{got, Parser, and_then, pure, expect}
 use Rattle.kf_parse.specs.Reading as r
 use Rattle.kf_parse.specs.Trimmed.{trimmed}
 use Rattle.kf_parse.proofs.Depths.{statements_step}
-use Rattle.kf_parse.proofs.Failing.{got_value}
+use Rattle.kf_parse.proofs.Failing.{fails_as, got_value}
 use Rattle.kf_parse.proofs.Runs.{run_stops, run_stuck, run_deep, run_got, run_shorter}
 use Rattle.kf_parse.proofs.Shrinks.{statements_shrinks}
 use Rattle.kf_parse.proofs.cursor.Cursor.+stmts.Goals as goal
@@ -16,6 +22,33 @@ statements-returns-then-depth-eq0-clause-reads t c = search rules
 
 pub statements-returns-clause-reads : goal.statements-returns-clause-reads
 statements-returns-clause-reads t c = rw (statements_step trimmed c.args.self.now.src.now c.args.depth c.args.self.now.rest.now c.if-depth-eq0.false) c.all_statements.ensures.reads
+
+module _ (src : List ℕ) (d : ℕ) where
+  abbrev block : Parser trimmed.Ss
+  block = r.block trimmed src (r.statements trimmed src (d - 1)) d
+
+  -- what is made of the blocks of a conditional
+  abbrev blocks : (trimmed.Ss → trimmed.Ss → trimmed.St) → Parser trimmed.St
+  blocks made us = and_then (block us) (λ xs. expect (is (tok.Word word.ElseWord)) (λ e. λ ts. and_then (block ts) (λ ys. pure (made xs ys))))
+
+  past_guard : (i : Token) (ts us : List Token) (x : trimmed.Di) → r.dist trimmed src d ts ≡ got x us → r.if_else trimmed src (r.statements trimmed src (d - 1)) d i ts ≡ blocks (trimmed.if_else i.start x) us
+  unfolding r.if_else
+  past_guard i ts us x e = ap (λ o. and_then o (λ y. blocks (trimmed.if_else i.start y))) e
+
+pub if_else-returns-in_err-yes-clause-reads : goal.if_else-returns-in_err-yes-clause-reads
+if_else-returns-in_err-yes-clause-reads t c =
+    let src = c.args.self.now.src.now in
+    let made = trimmed.if_else c.args.i.start (trimmed_of dist_tree c.in_ok-guard.guard) in
+    let same = past_guard src c.args.depth c.args.i c.args.self.now.rest.now c.dist.new.self.rest.now (trimmed_of dist_tree c.in_ok-guard.guard) c.in_ok-guard.ensures.reads ∙ ap (λ (s : List ℕ). blocks s c.args.depth made c.dist.new.self.rest.now) (sym c.dist.ensures.source) in
+    let p = err_from_is_err_and c.from_residual-in_err-yes.result c.from_residual-in_err-yes.ensures.1 in
+    rw (p.1, p.2) (fails_as (λ (x : trimmed.St). x) (r.if_else trimmed src (r.statements trimmed src (c.args.depth - 1)) c.args.depth c.args.i c.args.self.now.rest.now) (blocks c.dist.new.self.src.now c.args.depth made c.dist.new.self.rest.now)
+    c.in_err-yes.field-0.0 c.branches.new.self.rest.now same (c.in_err-yes.ensures.reads made))
+
+pub if_else-returns-clause-reads : goal.if_else-returns-clause-reads
+unfolding r.if_else
+if_else-returns-clause-reads t c =
+    let made = rw c.dist.ensures.source at (c.in_ok-yes.ensures.reads (trimmed.if_else c.args.i.start (trimmed_of dist_tree c.in_ok-guard.guard))) in
+    rw (c.in_ok-guard.ensures.reads, made) (ap (λ z. got z c.branches.new.self.rest.now) (sym c.if_else.ensures))
 
 pub while_loop-returns-in_err-guard-clause-reads : goal.while_loop-returns-in_err-guard-clause-reads
 unfolding r.while

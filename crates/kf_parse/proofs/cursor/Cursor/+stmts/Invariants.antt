@@ -10,19 +10,22 @@ abbrev pub decreases-block : goal.decreases-block
 decreases-block l = 10 * l.depth + 1
 
 abbrev pub decreases-if_else : goal.decreases-if_else
-decreases-if_else l = 10 * l.depth + 2
+decreases-if_else l = 10 * l.depth + 3
+
+abbrev pub decreases-branches : goal.decreases-branches
+decreases-branches l = 10 * l.depth + 2
 
 abbrev pub decreases-while_loop : goal.decreases-while_loop
 decreases-while_loop l = 10 * l.depth + 2
 
 abbrev pub decreases-statement : goal.decreases-statement
-decreases-statement l = 10 * l.depth + 3
+decreases-statement l = 10 * l.depth + 4
 
 abbrev pub decreases-all_statements : goal.decreases-all_statements
-decreases-all_statements l = 10 * l.depth + 4
+decreases-all_statements l = 10 * l.depth + 5
 
 abbrev pub decreases-statements : goal.decreases-statements
-decreases-statements l = 10 * l.depth + 5
+decreases-statements l = 10 * l.depth + 6
 
 abbrev pub invariant-all_statements-statements : goal.invariant-all_statements-statements
 invariant-all_statements-statements l = record {

@@ -10,16 +10,19 @@ abbrev pub decreases-other_types : goal.decreases-other_types
 decreases-other_types l = 0x2_0000_0010 * l.depth + 1
 
 abbrev pub decreases-tuple_type : goal.decreases-tuple_type
-decreases-tuple_type l = 0x2_0000_0010 * l.depth + 2
+decreases-tuple_type l = 0x2_0000_0010 * l.depth + 3
+
+abbrev pub decreases-tuple_of : goal.decreases-tuple_of
+decreases-tuple_of l = 0x2_0000_0010 * l.depth + 2
 
 abbrev pub decreases-base : goal.decreases-base
-decreases-base l = 0x2_0000_0010 * l.depth + 3
+decreases-base l = 0x2_0000_0010 * l.depth + 4
 
 abbrev pub decreases-set_of : goal.decreases-set_of
-decreases-set_of l = 0x2_0000_0010 * l.depth + 2 * l.count + 5
+decreases-set_of l = 0x2_0000_0010 * l.depth + 2 * l.count + 6
 
 abbrev pub decreases-sets : goal.decreases-sets
-decreases-sets l = 0x2_0000_0010 * l.depth + 2 * l.count + 4
+decreases-sets l = 0x2_0000_0010 * l.depth + 2 * l.count + 5
 
 abbrev pub invariant-other_types-members : goal.invariant-other_types-members
 invariant-other_types-members l = record {

@@ -1,5 +1,5 @@
 -- Turns of the parser's loops over expressions, and its other steps that take more than one part.
-use Rattle.std.proofs.Common.{◌≡◌, ◌-◌, ◌<◌, ◌≤◌, ℕ, suc, true, false, List, [], ◌∷◌, drop, length, Err, refl, ◌∙◌, ap, arith, Some}
+use Rattle.std.proofs.Common.{◌≡◌, ◌-◌, ◌<◌, ◌≤◌, ℕ, suc, true, false, List, [], ◌∷◌, drop, length, Err, refl, sym, ◌∙◌, ap, arith, Some}
 use Rattle.kf_lex.specs.declared.token.Token.{Token}
 use Rattle.kf_lex.specs.declared.token.Tok.{Tok}
 use Rattle.kf_lex.specs.declared.token.Tok.TheVariants as t
@@ -10,7 +10,7 @@ use Rattle.kf_parse.specs.declared.stop.Stop.TheVariants as stop
 use Rattle.kf_parse.specs.Operators.{arity_of, row_of}
 use Rattle.kf_parse.specs.OperatorTokens.{infix_op}
 use Rattle.kf_parse.specs.Tokens.{is}
-use Rattle.kf_parse.specs.Outcomes.{got, Parser, and_then, ◌>>=◌, pure, expect, repeat}
+use Rattle.kf_parse.specs.Outcomes.{got, Parser, and_then, ◌>>=◌, pure, refuse, behind, where_true, first, expect, repeat}
 use Rattle.kf_parse.specs.Reading as r
 use Rattle.kf_parse.specs.Reads.{Reads, is_next}
 use Rattle.kf_parse.specs.Trimmed.{Cut, Cuts, trimmed}
@@ -156,3 +156,29 @@ module _ (src : List ℕ) (d h : ℕ) (ts : List Token) where
       let e : h ≡ suc (h - 1) = omega arith in
       let q : 7 - (h - 1) ≡ 8 - h = omega arith in
       ap (λ n. r.level trimmed src (r.expr trimmed src d) n ts) e ∙ ap (λ n. r.prefixed trimmed src (r.level trimmed src (r.expr trimmed src d) (h - 1)) n ts) q
+
+-- a list of two, made in steps
+pub two_of : (x y : Cut) (one list two : Cuts) → trimmed.one x ≡ one → one ≡ list → trimmed.push list y ≡ two → trimmed.push (trimmed.one x) y ≡ two
+two_of x y one list two e f g = ap (λ (xs : Cuts). trimmed.push xs y) (e ∙ f) ∙ g
+
+-- what stands in parentheses behind the first expression
+module _ (src : List ℕ) (e : Parser Cut) (p : Token) (x : Cut) where
+  abbrev closed : Parser Cut
+  closed = pure (trimmed.moved p.start x)
+
+  alone : (k : Tok) → is (t.Sign s.Comma) k ≡ false → r.in_parens_by trimmed src e p x k ≡ where_true (is (t.Sign s.ParenClose) k) closed
+  alone (t.Sign s.ParenClose) off = refl
+  alone (t.Sign s.Comma) off = absurd (cc)
+  alone _ off = refl
+
+  followed_on : (k : Tok) → is (t.Sign s.Comma) k ≡ true → r.in_parens_by trimmed src e p x k ≡ Some (r.tuple trimmed src e p x)
+  followed_on (t.Sign s.Comma) there = refl
+  followed_on _ there = absurd (cc)
+
+  pub parens_close : (ts : List Token) → is_next (t.Sign s.Comma) ts ≡ false → first (λ o. r.in_parens_by trimmed src e p x o.kind) ts ≡ expect (is (t.Sign s.ParenClose)) (λ q. closed) ts
+  parens_close [] off = refl
+  parens_close (o ∷ ts) off = ap (λ u. behind u refuse o ts) (alone o.kind off)
+
+  pub parens_go_on : (ts us : List Token) → us ≡ drop 1 ts → is_next (t.Sign s.Comma) ts ≡ true → first (λ o. r.in_parens_by trimmed src e p x o.kind) ts ≡ r.tuple trimmed src e p x us
+  parens_go_on [] us rest there = absurd (cc)
+  parens_go_on (o ∷ ts) us rest there = ap (λ u. behind u refuse o ts) (followed_on o.kind there) ∙ ap (r.tuple trimmed src e p x) (sym rest)

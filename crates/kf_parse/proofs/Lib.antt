@@ -24,6 +24,7 @@ pub mod Closed
 pub mod ClosedForms
 mod ExprTurns
 mod Failing
+mod Followed
 pub mod Shrinks
 pub mod Tame
 pub mod Told

@@ -72,6 +72,15 @@ impl<'a> Cursor<'a> {
         Ok(o)
     }
 
+    /// What was read before the next token, which is to be of this kind.
+    pub(crate) fn followed_by<T: Drop>(&mut self, kind: Tok, x: T) -> Result<T, Stop>
+        ensures source { self.new.src.now ≡ self.old.src.now }
+        ensures reads { Reads (λ y. y) (expect (is kind) (λ o. pure x) self.old.rest.now) result self.new.rest.now }
+    {
+        self.expect(kind)?;
+        Ok(x)
+    }
+
     /// The next token, which is to be a number.
     #[tactic(auto, unfolding(crate::specs::Reading::number))]
     pub(crate) fn number(&mut self) -> Result<u32, Stop>

@@ -1,19 +1,31 @@
 ghost use Rattle.std.specs.Prelude.{◌≡◌, ◌-◌, ◌<◌};
 ghost use Rattle.kf_ast.specs.Views.{case_tree, dist_tree};
 ghost use Rattle.kf_parse.specs.Views.{trimmed_of, all_of};
-ghost use Rattle.kf_parse.specs.Outcomes.{and_then, first_or, pure};
+ghost use Rattle.kf_lex.specs.declared.token.Sign.TheVariants as s;
+ghost use Rattle.kf_lex.specs.declared.token.Tok.TheVariants as t;
+ghost use Rattle.kf_parse.specs.Outcomes.{and_then, expect, first_or, pure};
 ghost use Rattle.kf_parse.specs.Reading as r;
 ghost use Rattle.kf_parse.specs.Reads.{Reads};
+ghost use Rattle.kf_parse.specs.Tokens.{is};
 ghost use Rattle.kf_parse.specs.Trimmed.{trimmed, untouched};
 
 use crate::compose::{choose, flip, push_case, sure, uniform_range, uniform_set};
 use crate::cursor::Cursor;
 use crate::kept::Trimmed;
-use crate::stop::Stop;
+use crate::stop::{Stop, both};
 use kf_ast::{Case, Dist};
 use kf_lex::{Sign, Tok, Token, Word};
 
 impl<'a> Cursor<'a> {
+    /// The distribution behind its sign `:=`.
+    pub(crate) fn given(&mut self, depth: u32) -> Result<Trimmed<Dist>, Stop>
+        ensures source { self.new.src.now ≡ self.old.src.now }
+        ensures reads { Reads (trimmed_of dist_tree) (expect (is (t.Sign s.Assign)) (λ g. r.dist trimmed self.old.src.now depth) self.old.rest.now) result self.new.rest.now }
+    {
+        self.expect(Tok::Sign(Sign::Assign))?;
+        self.dist(depth)
+    }
+
     /// The cases with a value and its weight.
     #[tactic(auto, unfolding(crate::specs::Reading::weighted))]
     fn weighted(
@@ -24,9 +36,9 @@ impl<'a> Cursor<'a> {
         ensures source { self.new.src.now ≡ self.old.src.now }
         ensures reads { Reads (trimmed_of (all_of case_tree)) (r.weighted trimmed self.old.src.now (r.expr trimmed self.old.src.now depth) (trimmed_of (all_of case_tree) cases) self.old.rest.now) result self.new.rest.now }
     {
-        let value = self.expr(depth)?;
-        self.expect(Tok::Sign(Sign::Colon))?;
-        let weight = self.expr(depth)?;
+        let begun = both(cases, self.expr(depth))?;
+        let half = self.followed_by(Tok::Sign(Sign::Colon), begun)?;
+        let ((cases, value), weight) = both(half, self.expr(depth))?;
         push_case(cases, value, weight)
     }
 

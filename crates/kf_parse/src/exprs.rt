@@ -8,7 +8,7 @@ use crate::build::{apply, join, moved, number, one, part, push, set_of, truth, t
 use crate::cursor::{Cursor, same};
 use crate::kept::{Built, BuiltList};
 use crate::operators::{arity, binds_at, called, infix, prefix, row, row_in};
-use crate::stop::Stop;
+use crate::stop::{Stop, both};
 use kf_lex::{Sign, Tok, Token, Word};
 use kf_ops::Op;
 
@@ -191,20 +191,11 @@ impl<'a> Cursor<'a> {
         ensures reads { Reads cut_of (r.in_parens trimmed self.old.src.now (r.expr trimmed self.old.src.now depth) opener self.old.rest.now) result self.new.rest.now }
     {
         let x = self.expr(depth)?;
-        let Some(o) = self.peek() else {
-            return Err(Stop::Syntax);
-        };
-        match o.kind {
-            Tok::Sign(Sign::ParenClose) => {
-                self.skip();
-                Ok(moved(opener.start, x))
-            }
-            Tok::Sign(Sign::Comma) => {
-                self.skip();
-                self.tuple(depth, opener, x)
-            }
-            _ => Err(Stop::Syntax),
+        if !self.at(Tok::Sign(Sign::Comma)) {
+            return self.followed_by(Tok::Sign(Sign::ParenClose), moved(opener.start, x));
         }
+        self.skip();
+        self.tuple(depth, opener, x)
     }
 
     /// A tuple behind its first comma.
@@ -214,11 +205,11 @@ impl<'a> Cursor<'a> {
         ensures source { self.new.src.now ≡ self.old.src.now }
         ensures reads { Reads cut_of (r.tuple trimmed self.old.src.now (r.expr trimmed self.old.src.now depth) opener (cut_of first) self.old.rest.now) result self.new.rest.now }
     {
-        let second = self.expr(depth)?;
-        let begun = push(one(self.alloc, first)?, second)?;
-        let all = self.others(depth, begun)?;
-        self.expect(Tok::Sign(Sign::ParenClose))?;
-        Ok(tuple(opener.start, all))
+        let begun = one(self.alloc, first)?;
+        let (list, second) = both(begun, self.expr(depth))?;
+        let two = push(list, second)?;
+        let all = self.others(depth, two)?;
+        self.followed_by(Tok::Sign(Sign::ParenClose), tuple(opener.start, all))
     }
 
     /// A list with the expressions that follow, each behind a comma.
@@ -246,8 +237,7 @@ impl<'a> Cursor<'a> {
         let first = self.expr(depth)?;
         let begun = one(self.alloc, first)?;
         let all = self.others(depth, begun)?;
-        self.expect(Tok::Sign(Sign::BraceClose))?;
-        Ok(set_of(opener.start, all))
+        self.followed_by(Tok::Sign(Sign::BraceClose), set_of(opener.start, all))
     }
 
     /// An operator's arguments, behind its word.

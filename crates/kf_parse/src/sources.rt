@@ -17,7 +17,7 @@ ghost use Rattle.kf_parse.specs.Trimmed.{trimmed, Trimmed as Of};
 use crate::compose::{push_declaration, source};
 use crate::cursor::Cursor;
 use crate::kept::Trimmed;
-use crate::stop::Stop;
+use crate::stop::{Stop, both};
 use kf_ast::{Decl, Dist, Ident, Item, ItemList, Source, TyTree};
 use kf_lex::{Sign, Tok, Word};
 
@@ -80,10 +80,8 @@ impl<'a> Cursor<'a> {
     {
         self.expect(Tok::Sign(Sign::Colon))?;
         let ty = self.type_tree(depth)?;
-        self.expect(Tok::Sign(Sign::Assign))?;
-        let dist = self.dist(depth)?;
-        self.expect(Tok::Sign(Sign::Semi))?;
-        Ok((ty, dist))
+        let read = both(ty, self.given(depth))?;
+        self.followed_by(Tok::Sign(Sign::Semi), read)
     }
 
     /// The declarations up to a token that begins none.

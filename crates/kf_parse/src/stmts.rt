@@ -1,21 +1,19 @@
-ghost use Rattle.std.specs.Prelude.{◌≡◌, ◌-◌, ◌<◌, List};
-ghost use Rattle.kf_ast.specs.Stmts.{StmtTree};
+ghost use Rattle.std.specs.Prelude.{◌≡◌, ◌-◌, ◌<◌};
 ghost use Rattle.kf_ast.specs.Views.{name_tree, stmt_tree};
 ghost use Rattle.kf_parse.specs.Begins.{begins_statement};
 ghost use Rattle.kf_parse.specs.Views.{trimmed_of, all_of};
 ghost use Rattle.kf_lex.specs.declared.token.Tok.TheVariants as t;
 ghost use Rattle.kf_lex.specs.declared.token.Sign.TheVariants as s;
-ghost use Rattle.kf_lex.specs.declared.token.Word.TheVariants as w;
 ghost use Rattle.kf_parse.specs.Outcomes.{and_then, expect, first, pure};
 ghost use Rattle.kf_parse.specs.Reading as r;
 ghost use Rattle.kf_parse.specs.Reads.{Reads, passes_next};
 ghost use Rattle.kf_parse.specs.Tokens.{is};
-ghost use Rattle.kf_parse.specs.Trimmed.{trimmed, Trimmed as Of};
+ghost use Rattle.kf_parse.specs.Trimmed.{trimmed};
 
 use crate::compose::{assign, if_else, observe, push_statement, skip, while_loop};
 use crate::cursor::Cursor;
 use crate::kept::Trimmed;
-use crate::stop::Stop;
+use crate::stop::{Stop, both};
 use kf_ast::{Ident, Stmt};
 use kf_lex::{Sign, Tok, Token, Word};
 
@@ -60,11 +58,8 @@ impl<'a> Cursor<'a> {
         ensures source { self.new.src.now ≡ self.old.src.now }
         ensures reads { Reads (trimmed_of stmt_tree) (expect (is (t.Sign s.Assign)) (λ g. λ ts. and_then (r.dist trimmed self.old.src.now depth ts) (λ x. expect (is (t.Sign s.Semi)) (λ e. pure (trimmed.assign name.at (name_tree name) x)))) self.old.rest.now) result self.new.rest.now }
     {
-        let at = name.at;
-        self.expect(Tok::Sign(Sign::Assign))?;
-        let dist = self.dist(depth)?;
-        self.expect(Tok::Sign(Sign::Semi))?;
-        Ok(assign(at, name, dist))
+        let (name, dist) = both(name, self.given(depth))?;
+        self.followed_by(Tok::Sign(Sign::Semi), assign(name.at, name, dist))
     }
 
     /// The observation behind its word `o`.
@@ -75,8 +70,7 @@ impl<'a> Cursor<'a> {
         ensures reads { Reads (trimmed_of stmt_tree) (r.observe trimmed self.old.src.now (r.statements trimmed self.old.src.now (depth - 1)) depth o self.old.rest.now) result self.new.rest.now }
     {
         let dist = self.dist(depth)?;
-        self.expect(Tok::Sign(Sign::Semi))?;
-        Ok(observe(o.start, dist))
+        self.followed_by(Tok::Sign(Sign::Semi), observe(o.start, dist))
     }
 
     /// The statements in braces.
@@ -89,8 +83,7 @@ impl<'a> Cursor<'a> {
     {
         self.expect(Tok::Sign(Sign::BraceOpen))?;
         let list = self.statements(depth - 1)?;
-        self.expect(Tok::Sign(Sign::BraceClose))?;
-        Ok(list)
+        self.followed_by(Tok::Sign(Sign::BraceClose), list)
     }
 
     /// The conditional behind its word `i`.
@@ -101,23 +94,11 @@ impl<'a> Cursor<'a> {
         ensures source { self.new.src.now ≡ self.old.src.now }
         ensures reads { Reads (trimmed_of stmt_tree) (r.if_else trimmed self.old.src.now (r.statements trimmed self.old.src.now (depth - 1)) depth i self.old.rest.now) result self.new.rest.now }
     {
-        let guard = self.dist(depth)?;
-        let (yes, no) = self.branches(depth)?;
+        let test = self.dist(depth)?;
+        let begun = both(test, self.block(depth))?;
+        let half = self.followed_by(Tok::Word(Word::ElseWord), begun)?;
+        let ((guard, yes), no) = both(half, self.block(depth))?;
         Ok(if_else(i.start, guard, yes, no))
-    }
-
-    /// The two blocks of a conditional, whatever is made of them.
-    #[cycle(stmts)]
-    fn branches(&mut self, depth: u32) -> Result<(Trimmed<Vec<Stmt>>, Trimmed<Vec<Stmt>>), Stop>
-        requires { 0 < depth }
-        ensures source { self.new.src.now ≡ self.old.src.now }
-        ensures reads { (made : Of (List StmtTree) → Of (List StmtTree) → Of StmtTree) → let block = r.block trimmed self.old.src.now (r.statements trimmed self.old.src.now (depth - 1)) depth in
-            Reads (λ b. made (trimmed_of (all_of stmt_tree) b.0) (trimmed_of (all_of stmt_tree) b.1)) (and_then (block self.old.rest.now) (λ xs. expect (is (t.Word w.ElseWord)) (λ e. λ ts. and_then (block ts) (λ ys. pure (made xs ys))))) result self.new.rest.now }
-    {
-        let yes = self.block(depth)?;
-        self.expect(Tok::Word(Word::ElseWord))?;
-        let no = self.block(depth)?;
-        Ok((yes, no))
     }
 
     /// The loop behind its word `o`.
@@ -127,8 +108,8 @@ impl<'a> Cursor<'a> {
         ensures source { self.new.src.now ≡ self.old.src.now }
         ensures reads { Reads (trimmed_of stmt_tree) (r.while trimmed self.old.src.now (r.statements trimmed self.old.src.now (depth - 1)) depth o self.old.rest.now) result self.new.rest.now }
     {
-        let guard = self.dist(depth)?;
-        let body = self.block(depth)?;
+        let test = self.dist(depth)?;
+        let (guard, body) = both(test, self.block(depth))?;
         Ok(while_loop(o.start, guard, body))
     }
 

@@ -1,3 +1,5 @@
+ghost use Rattle.std.specs.Prelude.{◌≡◌, Ok, Err, IfOk, IfErr};
+
 use std::alloc::{AllocError, AllocFailed};
 
 /// Why reading stopped, at the first token that is left.
@@ -9,6 +11,15 @@ pub(crate) enum Stop {
     Deep,
     /// Want of memory.
     Mem,
+}
+
+/// What was read before, with what was read then.
+pub(crate) fn both<A: Drop, B: Drop>(a: A, b: Result<B, Stop>) -> Result<(A, B), Stop>
+    ensures read { IfOk result (λ p. (p.0 ≡ a) × (b ≡ Ok p.1)) }
+    ensures stopped { IfErr result (λ e. b ≡ Err e) }
+{
+    let b = b?;
+    Ok((a, b))
 }
 
 impl From<AllocError> for Stop {

@@ -1,12 +1,17 @@
-use Rattle.std.proofs.Common.{rules, arith, ◌≡◌, ◌-◌, ◌+◌, ◌∷◌, ◌∙◌, sym, ap}
+use Rattle.std.proofs.Common.{rules, arith, ℕ, List, Err, subst, ◌≡◌, ◌-◌, ◌+◌, ◌∷◌, ◌∙◌, sym, ap}
 use Rattle.std.proofs.lemmas.Result.{err_from_is_err_and}
 use Rattle.kf_parse.specs.Views.{cut_of, cuts_of}
 use Rattle.kf_parse.specs.OperatorTokens.{infix_op}
 use Rattle.kf_parse.specs.Reading as r
-use Rattle.kf_parse.specs.Outcomes.{got}
+use Rattle.kf_parse.specs.Reads.{Reads}
+use Rattle.kf_parse.specs.Outcomes.{got, ◌>>=◌, pure, expect}
 use Rattle.kf_parse.specs.Trimmed.{trimmed}
-use Rattle.kf_parse.proofs.Failing.{got_value}
-use Rattle.kf_parse.proofs.ExprTurns.{other_turn, other_halts, other_stops, climb_turn, climb_halts, climb_stops, climb_ends, argument_turn, no_comma, no_argument, no_more, call_closes, no_close, expr_goes, level_lowest, level_goes}
+use Rattle.kf_parse.specs.Tokens.{is}
+use Rattle.kf_lex.specs.declared.token.Tok.TheVariants as tok
+use Rattle.kf_lex.specs.declared.token.Sign.TheVariants as sign
+use Rattle.kf_parse.proofs.Failing.{fails, got_value}
+use Rattle.kf_parse.proofs.Followed.{read_as, stopped_as, read_on, read_same, followed, read_followed}
+use Rattle.kf_parse.proofs.ExprTurns.{other_turn, other_halts, other_stops, climb_turn, climb_halts, climb_stops, climb_ends, argument_turn, no_comma, no_argument, no_more, call_closes, no_close, expr_goes, level_lowest, level_goes, parens_close, parens_go_on, two_of}
 use Rattle.kf_parse.proofs.cursor.Cursor.+exprs.Goals as goal
 
 pub others-returns-in_err-x-clause-reads : goal.others-returns-in_err-x-clause-reads
@@ -103,3 +108,62 @@ arguments-loop-argument-preserved t c =
 
 pub arguments-returns-clause-reads : goal.arguments-returns-clause-reads
 arguments-returns-clause-reads t c = c.loop-argument.invariant.same ∙ no_more c.args.self.now.src.now c.args.depth (c.args.count - c.loop-argument._argument) (cuts_of c.loop-argument.list) c.loop-argument.self.rest.now (omega arith)
+
+pub in_parens-returns-then-not-at-clause-reads : goal.in_parens-returns-then-not-at-clause-reads
+unfolding r.in_parens
+in_parens-returns-then-not-at-clause-reads t c =
+    let src = c.args.self.now.src.now in
+    let h = followed cut_of (is (tok.Sign sign.ParenClose)) c.moved.result (trimmed.moved c.args.opener.start (cut_of c.in_ok-x.x)) c.expr.new.self.rest.now c.followed_by.result c.followed_by.new.self.rest.now c.moved.ensures c.followed_by.ensures.reads in
+    read_on cut_of (r.expr trimmed src c.args.depth c.args.self.now.rest.now) _ (cut_of c.in_ok-x.x) c.expr.new.self.rest.now c.followed_by.result c.followed_by.new.self.rest.now c.in_ok-x.ensures.reads
+    (read_same cut_of _ _ c.followed_by.result c.followed_by.new.self.rest.now (parens_close src (r.expr trimmed src c.args.depth) c.args.opener (cut_of c.in_ok-x.x) c.expr.new.self.rest.now (sym c.at.ensures ∙ c.if-not-at.true)) h)
+
+pub in_parens-returns-clause-reads : goal.in_parens-returns-clause-reads
+unfolding r.in_parens
+in_parens-returns-clause-reads t c =
+    let src = c.args.self.now.src.now in
+    read_on cut_of (r.expr trimmed src c.args.depth c.args.self.now.rest.now) _ (cut_of c.in_ok-x.x) c.expr.new.self.rest.now c.tuple.result c.tuple.new.self.rest.now c.in_ok-x.ensures.reads
+    (read_same cut_of _ _ c.tuple.result c.tuple.new.self.rest.now (parens_go_on src (r.expr trimmed src c.args.depth) c.args.opener (cut_of c.in_ok-x.x) c.expr.new.self.rest.now c.skip.new.self.rest.now c.skip.ensures.rest (sym c.at.ensures ∙ c.if-not-at.false))
+    (rw (c.skip.ensures.source, c.expr.ensures.source) at c.tuple.ensures.reads))
+
+pub tuple-returns-in_err-list-clause-reads : goal.tuple-returns-in_err-list-clause-reads
+unfolding r.tuple
+tuple-returns-in_err-list-clause-reads t c =
+    let first = r.expr trimmed c.args.self.now.src.now c.args.depth c.args.self.now.rest.now in
+    let h = stopped_as cut_of first c.expr.result c.expr.new.self.rest.now c.expr.ensures.reads c.in_err-list.field-0.0 c.in_err-list.ensures.stopped in
+    let p = err_from_is_err_and c.from_residual-in_err-list.result c.from_residual-in_err-list.ensures.1 in
+    rw (p.1, p.2) (fails cut_of cut_of first _ c.in_err-list.field-0.0 c.expr.new.self.rest.now h)
+
+pub tuple-returns-in_err-all-clause-reads : goal.tuple-returns-in_err-all-clause-reads
+unfolding r.tuple
+tuple-returns-in_err-all-clause-reads t c =
+    let src = c.args.self.now.src.now in
+    let e = r.expr trimmed src c.args.depth in
+    let second = read_as cut_of (e c.args.self.now.rest.now) c.expr.result c.expr.new.self.rest.now c.expr.ensures.reads c.in_ok-list.second c.in_ok-list.ensures.read.1 in
+    let two = two_of (cut_of c.args.first) (cut_of c.in_ok-list.second) (cuts_of c.in_ok-begun.begun) (cuts_of c.in_ok-list.list) (cuts_of c.in_ok-two.two) (got_value c.in_ok-begun.ensures) (ap cuts_of (sym c.in_ok-list.ensures.read.0)) (got_value c.in_ok-two.ensures) in
+    let p = err_from_is_err_and c.from_residual-in_err-all.result c.from_residual-in_err-all.ensures.1 in
+    let P : List ℕ → Type 0 = λ text. Reads cuts_of (r.others trimmed text (r.expr trimmed text c.args.depth) (cuts_of c.in_ok-two.two) c.expr.new.self.rest.now) (Err c.in_err-all.field-0.0) c.others.new.self.rest.now in
+    let ended = λ (xs : trimmed.Exs). expect (is (tok.Sign sign.ParenClose)) (λ q. pure (trimmed.tuple c.args.opener.start xs)) in
+    let goes = λ (y : trimmed.Ex). r.others trimmed src e (trimmed.push (trimmed.one (cut_of c.args.first)) y) >>= ended in
+    rw (p.1, p.2) (read_on cut_of (e c.args.self.now.rest.now) goes (cut_of c.in_ok-list.second) c.expr.new.self.rest.now (Err c.in_err-all.field-0.0) c.others.new.self.rest.now second
+    (fails cuts_of cut_of (r.others trimmed src e (trimmed.push (trimmed.one (cut_of c.args.first)) (cut_of c.in_ok-list.second)) c.expr.new.self.rest.now) ended c.in_err-all.field-0.0 c.others.new.self.rest.now
+    (read_same cuts_of _ _ (Err c.in_err-all.field-0.0) c.others.new.self.rest.now (ap (λ (xs : trimmed.Exs). r.others trimmed src e xs c.expr.new.self.rest.now) two) (subst P c.expr.ensures.source c.in_err-all.ensures.reads))))
+
+pub tuple-returns-clause-reads : goal.tuple-returns-clause-reads
+unfolding r.tuple
+tuple-returns-clause-reads t c =
+    let src = c.args.self.now.src.now in
+    let e = r.expr trimmed src c.args.depth in
+    let second = read_as cut_of (e c.args.self.now.rest.now) c.expr.result c.expr.new.self.rest.now c.expr.ensures.reads c.in_ok-list.second c.in_ok-list.ensures.read.1 in
+    let two = two_of (cut_of c.args.first) (cut_of c.in_ok-list.second) (cuts_of c.in_ok-begun.begun) (cuts_of c.in_ok-list.list) (cuts_of c.in_ok-two.two) (got_value c.in_ok-begun.ensures) (ap cuts_of (sym c.in_ok-list.ensures.read.0)) (got_value c.in_ok-two.ensures) in
+    let all = ap (λ (xs : trimmed.Exs). r.others trimmed src e xs c.expr.new.self.rest.now) two ∙ (rw c.expr.ensures.source at c.in_ok-all.ensures.reads) in
+    read_on cut_of (e c.args.self.now.rest.now) _ (cut_of c.in_ok-list.second) c.expr.new.self.rest.now c.followed_by.result c.followed_by.new.self.rest.now second
+    (read_followed cut_of _ (is (tok.Sign sign.ParenClose)) (trimmed.tuple c.args.opener.start) (cuts_of c.in_ok-all.all) c.others.new.self.rest.now c.tuple.result c.followed_by.result c.followed_by.new.self.rest.now all c.tuple.ensures c.followed_by.ensures.reads)
+
+pub in_braces-returns-clause-reads : goal.in_braces-returns-clause-reads
+unfolding r.in_braces
+in_braces-returns-clause-reads t c =
+    let src = c.args.self.now.src.now in
+    let e = r.expr trimmed src c.args.depth in
+    let all = ap (λ (xs : trimmed.Exs). r.others trimmed src e xs c.expr.new.self.rest.now) (got_value c.in_ok-begun.ensures) ∙ (rw c.expr.ensures.source at c.in_ok-all.ensures.reads) in
+    read_on cut_of (e c.args.self.now.rest.now) _ (cut_of c.in_ok-first.first) c.expr.new.self.rest.now c.followed_by.result c.followed_by.new.self.rest.now c.in_ok-first.ensures.reads
+    (read_followed cut_of _ (is (tok.Sign sign.BraceClose)) (trimmed.set_of c.args.opener.start) (cuts_of c.in_ok-all.all) c.others.new.self.rest.now c.set_of.result c.followed_by.result c.followed_by.new.self.rest.now all c.set_of.ensures c.followed_by.ensures.reads)

@@ -12,11 +12,8 @@ decreases-block l = 10 * l.depth + 1
 abbrev pub decreases-if_else : goal.decreases-if_else
 decreases-if_else l = 10 * l.depth + 3
 
-abbrev pub decreases-branches : goal.decreases-branches
-decreases-branches l = 10 * l.depth + 2
-
 abbrev pub decreases-while_loop : goal.decreases-while_loop
-decreases-while_loop l = 10 * l.depth + 2
+decreases-while_loop l = 10 * l.depth + 3
 
 abbrev pub decreases-statement : goal.decreases-statement
 decreases-statement l = 10 * l.depth + 4

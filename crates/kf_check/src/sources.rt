@@ -2,8 +2,6 @@ ghost use Rattle.std.specs.Prelude.{◌≡◌, ◌≢◌, ◌≤◌, ◌++◌, L
 ghost use Rattle.kf_value.specs.Types.{TypeTree};
 ghost use Rattle.kf_value.specs.Shapes.{shape_types};
 ghost use Rattle.kf_ast.specs.Views.{decl_tree, decl_items, item_tree, target_items, source_tree};
-ghost use Rattle.kf_ast.specs.Built.{AreDeclsBuilt};
-ghost use Rattle.kf_ops.specs.Fitting.{Takes};
 ghost use Rattle.kf_core.specs.Views.{program_tree};
 ghost use Rattle.kf_core.specs.Checked.{IsChecked};
 ghost use Rattle.kf_check.specs.Laws.{IsWellBuilt};
@@ -59,7 +57,7 @@ pub fn check(alloc: Global, src: &Source) -> Result<Program, TypeError>
 
 /// All of a source but its statements, or the first broken rule there.
 fn check_head(alloc: Global, src: &Source) -> Result<Head, TypeError>
-    requires { AreDeclsBuilt Takes (map decl_tree (decl_items src.now.decls)) }
+    requires { IsWellBuilt (source_tree src.now) }
     ensures some { IfOk result (λ h. 1 ≤ length (map decl_tree (decl_items src.now.decls))) }
     ensures declared { IfOk result (λ h. AnswersDecls (map decl_tree (decl_items src.now.decls)) (Ok h.declared)) }
     ensures known { IfOk result (λ h. known_in h.declared.names ≡ known_of (variables_in h.declared)) }

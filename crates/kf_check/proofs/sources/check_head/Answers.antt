@@ -36,17 +36,17 @@ shape_of-requires-clause-some c =
 
 pub shape_of-requires-clause-within : goal.shape_of-requires-clause-within
 shape_of-requires-clause-within c =
-    let fits = turn.fits_variables c.in_ok-declared.declared.variables.items (map decl_tree (decl_items c.args.src.now.decls)) c.requires (rw c.as_slice-decls.ensures at c.in_ok-declared.ensures.answer).0 c.in_ok-targeted.ensures in
+    let fits = turn.fits_variables c.in_ok-declared.declared.variables.items (map decl_tree (decl_items c.args.src.now.decls)) c.requires.0 (rw c.as_slice-decls.ensures at c.in_ok-declared.ensures.answer).0 c.in_ok-targeted.ensures in
     rw (c.deref.ensures.value, c.as_slice-2.ensures) fits.within
 
 pub shape_of-requires-clause-few : goal.shape_of-requires-clause-few
 shape_of-requires-clause-few c =
-    let fits = turn.fits_variables c.in_ok-declared.declared.variables.items (map decl_tree (decl_items c.args.src.now.decls)) c.requires (rw c.as_slice-decls.ensures at c.in_ok-declared.ensures.answer).0 c.in_ok-targeted.ensures in
+    let fits = turn.fits_variables c.in_ok-declared.declared.variables.items (map decl_tree (decl_items c.args.src.now.decls)) c.requires.0 (rw c.as_slice-decls.ensures at c.in_ok-declared.ensures.answer).0 c.in_ok-targeted.ensures in
     rw (c.deref.ensures.value, c.as_slice-2.ensures) fits.few
 
 pub shape_of-requires-clause-narrow : goal.shape_of-requires-clause-narrow
 shape_of-requires-clause-narrow c =
-    let fits = turn.fits_variables c.in_ok-declared.declared.variables.items (map decl_tree (decl_items c.args.src.now.decls)) c.requires (rw c.as_slice-decls.ensures at c.in_ok-declared.ensures.answer).0 c.in_ok-targeted.ensures in
+    let fits = turn.fits_variables c.in_ok-declared.declared.variables.items (map decl_tree (decl_items c.args.src.now.decls)) c.requires.0 (rw c.as_slice-decls.ensures at c.in_ok-declared.ensures.answer).0 c.in_ok-targeted.ensures in
     rw (c.deref.ensures.value, c.as_slice-2.ensures) fits.narrow
 
 pub returns-clause-some : goal.returns-clause-some

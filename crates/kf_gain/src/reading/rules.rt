@@ -34,7 +34,7 @@ fn has_actions(value: &Value) -> bool
     ensures { result ≡ rule.form_4 (view value.now) }
 {
     let found = value.get("actions");
-    is_list(found) && members(found).iter().all(|action| is_action(action))
+    is_list(found) && members(found).iter().all(is_action)
 }
 
 /// Whether the action has a name.
@@ -48,9 +48,7 @@ fn is_named(action: &Value) -> bool
 fn has_names(value: &Value) -> bool
     ensures { result ≡ rule.form_5 (view value.now) }
 {
-    members(value.get("actions"))
-        .iter()
-        .all(|action| is_named(action))
+    members(value.get("actions")).iter().all(is_named)
 }
 
 /// Whether the value is a list of a text and a whole number.
@@ -68,16 +66,14 @@ fn is_gaining(action: &Value) -> bool
     ensures { result ≡ rule.are_gains (rule.gains_at (view action.now)) }
 {
     let found = action.get("gains");
-    is_list(found) && members(found).iter().all(|gain| is_gain(gain))
+    is_list(found) && members(found).iter().all(is_gain)
 }
 
 /// Whether all actions have gains.
 fn has_gains(value: &Value) -> bool
     ensures { result ≡ rule.form_6 (view value.now) }
 {
-    members(value.get("actions"))
-        .iter()
-        .all(|action| is_gaining(action))
+    members(value.get("actions")).iter().all(is_gaining)
 }
 
 /// Whether the number that was found is narrow; true where there is none.
@@ -101,9 +97,7 @@ fn has_narrow_actions(value: &Value) -> bool
     ensures { result ≡ list_all (λ a. list_all (λ g. rule.is_narrow (whole_of (at_place 1 g))) (member_list (rule.gains_at a)))
         (member_list (rule.actions_at (view value.now))) }
 {
-    members(value.get("actions"))
-        .iter()
-        .all(|action| has_narrow_gains(action))
+    members(value.get("actions")).iter().all(has_narrow_gains)
 }
 
 /// Whether all numbers of the table are narrow.

@@ -1,5 +1,5 @@
 -- The lines of a report's own fractions are those of the numbers that it has.
-use Rattle.std.proofs.Common.{◌≡◌, ℕ, List, Bool, true, false, ℤ, pos, ◌-ℤ◌, ◌<ℤ◌, ◌≤ℤ◌, unsigned_abs, suc, zero, None, Some, refl, sym, ◌∙◌, ap, codes, arith, if◌then◌else◌}
+use Rattle.std.proofs.Common.{◌≡◌, Bool, true, false, ℤ, pos, ◌-ℤ◌, ◌<ℤ◌, ◌≤ℤ◌, unsigned_abs, suc, zero, None, Some, refl, sym, ◌∙◌, ap, codes, arith, if◌then◌else◌}
 use Rattle.std.proofs.Math.IntN.{negsuc}
 use Rattle.std.proofs.lemmas.Bool.{lt-ltb}
 use Rattle.std.proofs.lemmas.Int.{ints}
@@ -8,12 +8,11 @@ use Rattle.std.specs.declared.option.Option.{Option}
 use Rattle.kf_frac.specs.declared.frac.Frac.{Frac}
 use Rattle.kf_frac.specs.Fractions.{fraction_text}
 use Rattle.kf_gain.specs.Gains.{GainOf}
-use Rattle.kf_frac.specs.Parts.{IsFraction}
 use Rattle.kf_report.specs.Reports.{Leakage}
 use Rattle.kf_report.specs.Views.{IsQuotient, IsReport}
 use Rattle.kf_report.specs.declared.report.Report.{Report}
 use Rattle.kf_text.specs.ReportTexts.{gain_text, quotient_text, report_lines, report_text}
-use Rattle.kf_text.specs.Views.{own_text, own_quotient_text, own_lines}
+use Rattle.kf_text.specs.Views.{own_quotient_text, own_lines}
 use Rattle.kf_text.proofs.Printing.{same_text}
 
 up : (y : ℤ) → pos 0 <ℤ y → is_positive y ≡ true

@@ -9,13 +9,13 @@ ghost use Rattle.kf_text.specs.AttackTexts.{attack_text as text_of_attack, reach
 ghost use Rattle.kf_text.specs.AttackViews.{own_attack_lines, own_best_lines, own_score_line, own_value_line, own_worth_line, IsPrintable};
 ghost use Rattle.kf_text.specs.Texts.{line};
 
-use crate::items::print_fraction;
+use crate::items::{print_bytes, print_fraction, print_line, print_text};
 use crate::report::print_gain;
 use kf_attack::{Attack, AttackList, Best, Reach, Score, WeighedValue};
 use kf_frac::Frac;
 use kf_gain::{Action, Gain};
 use kf_hyper::Hyper;
-use kf_value::{Mem, Target, print_target};
+use kf_value::{Mem, Target};
 use std::alloc::Global;
 
 // Appends the line of a value and its probability.
@@ -29,11 +29,8 @@ fn print_value(
     ensures { OnOk result (out.new.items ≡ out.old.items ++ own_value_line (items_of target.now) weighed.now) }
 {
     let chance = weighed.chance;
-    out.extend_from_slice(b"  ")?;
-    print_target(alloc, target, weighed.value, out)?;
-    let text = format!(in alloc; " {chance}\n")?;
-    out.extend_from_slice(text.as_bytes())?;
-    Ok(())
+    let end = format!(in alloc; " {chance}\n")?;
+    print_line(alloc, target, weighed.value, &end, out)
 }
 
 // Appends the lines of values.
@@ -63,11 +60,9 @@ fn print_score(
     ensures { OnOk result (out.new.items ≡ out.old.items ++ own_score_line actions.now score.now) }
 {
     let gain = score.score;
-    out.extend_from_slice(b"  ")?;
-    out.extend_from_slice(actions[score.action].name.as_str().as_bytes())?;
-    let text = format!(in alloc; " {gain}\n")?;
-    out.extend_from_slice(text.as_bytes())?;
-    Ok(())
+    print_bytes(b"  ", out)?;
+    print_bytes(actions[score.action].name.as_str().as_bytes(), out)?;
+    print_text(format!(in alloc; " {gain}\n")?, out)
 }
 
 // Appends the lines of actions.
@@ -125,10 +120,8 @@ fn print_worth(
     ensures { OnOk result (out.new.items ≡ out.old.items ++ own_worth_line (scale_of hyper.now) i (inner_at hyper.now i) worth) }
 {
     let outer = hyper.outer(i);
-    let text = format!(in alloc; "inner {i} outer {outer}")?;
-    out.extend_from_slice(text.as_bytes())?;
-    print_fraction(alloc, b" value ", worth, out)?;
-    Ok(())
+    print_text(format!(in alloc; "inner {i} outer {outer}")?, out)?;
+    print_fraction(alloc, b" value ", worth, out)
 }
 
 // Appends the lines of the attack at the inner `i`.
@@ -146,8 +139,7 @@ fn print_attack(
         ++ own_attack_lines (target_of hyper.now) (scale_of hyper.now) (actions_of (gain_tree gain.now)) (inner_at hyper.now) (i, attack.now)) }
 {
     print_worth(alloc, hyper, i, attack.worth, out)?;
-    print_best(alloc, hyper.target(), gain, &attack.best, out)?;
-    Ok(())
+    print_best(alloc, hyper.target(), gain, &attack.best, out)
 }
 
 /// The printed attack on a hyper under a gain: for each inner its outer, what the best is worth, and which values to guess or what each
@@ -172,8 +164,7 @@ pub fn reach_text(alloc: Global, r: &Reach) -> Result<Vec<u8>, Mem>
 {
     let mut out = Vec::new(alloc);
     let tries = r.tries;
-    let text = format!(in alloc; "tries {tries}\n")?;
-    out.extend_from_slice(text.as_bytes())?;
+    print_text(format!(in alloc; "tries {tries}\n")?, &mut out)?;
     print_fraction(alloc, b"posterior ", r.posterior, &mut out)?;
     print_fraction(alloc, b"before ", r.before, &mut out)?;
     Ok(out)

@@ -5,7 +5,7 @@ ghost use Rattle.kf_quiet.specs.Views.{ShowBlames};
 ghost use Rattle.kf_text.specs.BlameTexts.{blame_text as text_of_blame};
 ghost use Rattle.kf_text.specs.BlameViews.{own_blame_line, own_without_line};
 
-use crate::items::print_fraction;
+use crate::items::{print_bytes, print_fraction, print_text};
 use kf_quiet::{Blame, BlameList};
 use kf_value::Mem;
 use std::alloc::Global;
@@ -15,11 +15,9 @@ fn print_blame(alloc: Global, name: &[u8], blame: Blame, out: &mut Vec<u8>) -> R
     ensures { OnOk result (out.new.items ≡ out.old.items ++ own_blame_line name.now blame) }
 {
     let inners = blame.inners;
-    out.extend_from_slice(name)?;
-    let text = format!(in alloc; " inners {inners}")?;
-    out.extend_from_slice(text.as_bytes())?;
-    print_fraction(alloc, b" bayes ", blame.bayes, out)?;
-    Ok(())
+    print_bytes(name, out)?;
+    print_text(format!(in alloc; " inners {inners}")?, out)?;
+    print_fraction(alloc, b" bayes ", blame.bayes, out)
 }
 
 // Appends the line where the outermost statement of this number is quiet.
@@ -27,8 +25,7 @@ fn print_without(alloc: Global, i: usize, blame: Blame, out: &mut Vec<u8>) -> Re
     ensures { OnOk result (out.new.items ≡ out.old.items ++ own_without_line (i, blame)) }
 {
     let name = format!(in alloc; "without {i}")?;
-    print_blame(alloc, name.as_bytes(), blame, out)?;
-    Ok(())
+    print_blame(alloc, name.as_bytes(), blame, out)
 }
 
 // Appends the lines of the outermost statements, numbered from 0.

@@ -6,7 +6,7 @@ ghost use Rattle.kf_text.specs.CapacityTexts.{capacity_text as text_of_capacity,
 ghost use Rattle.kf_text.specs.CapacityViews.{own_algebra_lines, own_capacity_line};
 ghost use Rattle.kf_text.specs.Texts.{line};
 
-use crate::items::print_fraction;
+use crate::items::{print_fraction, print_text};
 use kf_capacity::Grid;
 use kf_frac::Frac;
 use kf_value::Mem;
@@ -29,9 +29,7 @@ fn print_size(alloc: Global, g: &Grid, out: &mut Vec<u8>) -> Result<(), Mem>
 {
     let rows = g.rows();
     let columns = g.columns();
-    let text = format!(in alloc; "rows {rows}\ncolumns {columns}\n")?;
-    out.extend_from_slice(text.as_bytes())?;
-    Ok(())
+    print_text(format!(in alloc; "rows {rows}\ncolumns {columns}\n")?, out)
 }
 
 /// The printed size of two channels put together, and three capacities: that of the first, of the second, and of both.

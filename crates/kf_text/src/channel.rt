@@ -2,7 +2,7 @@ ghost use Rattle.std.specs.Prelude.{◌≡◌, ◌<◌, ◌++◌, IfOk, OnOk, fl
 ghost use Rattle.kf_channel.specs.Views.{target_of, secrets_of, rows_of, row_at};
 ghost use Rattle.kf_text.specs.Texts.{column_line, columns_lines, cell_line, secret_lines, rows_lines, channel_text as text_of_channel};
 
-use crate::items::{print_about, print_trace};
+use crate::items::{print_about, print_bytes, print_text, print_trace};
 use kf_channel::Channel;
 use kf_value::{Mem, print_target};
 use std::alloc::Global;
@@ -12,11 +12,9 @@ fn print_column(alloc: Global, channel: &Channel, j: usize, out: &mut Vec<u8>) -
     requires { j < length (rows_of channel.now) }
     ensures { OnOk result (out.new.items ≡ out.old.items ++ column_line (j, row_at channel.now j)) }
 {
-    let text = format!(in alloc; "column {j} ")?;
-    out.extend_from_slice(text.as_bytes())?;
+    print_text(format!(in alloc; "column {j} ")?, out)?;
     print_trace(alloc, channel.trace(j).as_slice(), out)?;
-    out.extend_from_slice(b"\n")?;
-    Ok(())
+    print_bytes(b"\n", out)
 }
 
 // Appends how many columns there are, and the line of each.
@@ -24,8 +22,7 @@ fn print_columns(alloc: Global, channel: &Channel, out: &mut Vec<u8>) -> Result<
     ensures { OnOk result (out.new.items ≡ out.old.items ++ columns_lines (rows_of channel.now)) }
 {
     let count = channel.columns();
-    let text = format!(in alloc; "columns {count}\n")?;
-    out.extend_from_slice(text.as_bytes())?;
+    print_text(format!(in alloc; "columns {count}\n")?, out)?;
     for j in 0..count {
         print_column(alloc, channel, j, out)?;
     }
@@ -45,9 +42,7 @@ fn print_cell(
     ensures { OnOk result (out.new.items ≡ out.old.items ++ cell_line (rows_of channel.now) (slice_index (secrets_of channel.now) i) (row_at channel.now j)) }
 {
     let cell = channel.cell(i, j);
-    let text = format!(in alloc; "  {cell}\n")?;
-    out.extend_from_slice(text.as_bytes())?;
-    Ok(())
+    print_text(format!(in alloc; "  {cell}\n")?, out)
 }
 
 // Appends the lines of all cells of the secret `i`.
@@ -66,9 +61,9 @@ fn print_secret(alloc: Global, channel: &Channel, i: usize, out: &mut Vec<u8>) -
     requires { i < length (secrets_of channel.now) }
     ensures { OnOk result (out.new.items ≡ out.old.items ++ secret_lines (target_of channel.now) (rows_of channel.now) (slice_index (secrets_of channel.now) i)) }
 {
-    out.extend_from_slice(b"row ")?;
+    print_bytes(b"row ", out)?;
     print_target(alloc, channel.target(), channel.secret(i), out)?;
-    out.extend_from_slice(b"\n")?;
+    print_bytes(b"\n", out)?;
     print_cells(alloc, channel, i, out)
 }
 
@@ -77,8 +72,7 @@ fn print_secrets(alloc: Global, channel: &Channel, out: &mut Vec<u8>) -> Result<
     ensures { OnOk result (out.new.items ≡ out.old.items ++ rows_lines (target_of channel.now) (rows_of channel.now) (secrets_of channel.now)) }
 {
     let count = channel.rows();
-    let text = format!(in alloc; "rows {count}\n")?;
-    out.extend_from_slice(text.as_bytes())?;
+    print_text(format!(in alloc; "rows {count}\n")?, out)?;
     for i in 0..count {
         print_secret(alloc, channel, i, out)?;
     }

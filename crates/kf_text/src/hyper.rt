@@ -1,15 +1,12 @@
-ghost use Rattle.std.specs.Prelude.{◌≡◌, ◌<◌, ◌++◌, IfOk, OnOk, codes, flat_map, length, string_bytes};
-ghost use Rattle.kf_value.specs.Numbers.{target_size};
-ghost use Rattle.kf_value.specs.Targets.{target_value_text};
-ghost use Rattle.kf_value.specs.Views.{items_of};
+ghost use Rattle.std.specs.Prelude.{◌≡◌, ◌<◌, ◌++◌, IfOk, OnOk, flat_map, length, string_bytes};
 ghost use Rattle.kf_hyper.specs.Columns.{total};
 ghost use Rattle.kf_hyper.specs.Views.{entry_at, inner_at, inners_of, scale_of, target_of};
 ghost use Rattle.kf_text.specs.Endings.{line_end};
 ghost use Rattle.kf_text.specs.Texts.{head_lines, size_lines, entry_line, inner_lines, hyper_text as text_of_hyper};
 
-use crate::items::print_about;
+use crate::items::{print_about, print_line, print_text};
 use kf_hyper::Hyper;
-use kf_value::{Mem, Target, write_target};
+use kf_value::Mem;
 use std::alloc::Global;
 
 // Appends the scale, and how many inners there are.
@@ -18,9 +15,7 @@ pub fn print_sizes(alloc: Global, hyper: &Hyper, out: &mut Vec<u8>) -> Result<()
 {
     let scale = hyper.scale();
     let count = hyper.count();
-    let text = format!(in alloc; "scale {scale}\ninners {count}\n")?;
-    out.extend_from_slice(text.as_bytes())?;
-    Ok(())
+    print_text(format!(in alloc; "scale {scale}\ninners {count}\n")?, out)
 }
 
 // Appends the lines before the inners.
@@ -28,8 +23,7 @@ fn print_head(alloc: Global, hyper: &Hyper, out: &mut Vec<u8>) -> Result<(), Mem
     ensures { OnOk result (out.new.items ≡ out.old.items ++ head_lines (target_of hyper.now) (scale_of hyper.now) (length (inners_of hyper.now))) }
 {
     print_about(hyper.target(), out)?;
-    print_sizes(alloc, hyper, out)?;
-    Ok(())
+    print_sizes(alloc, hyper, out)
 }
 
 // The end of the line of the `k`-th value of the inner `i`: its chance.
@@ -40,23 +34,6 @@ fn chance_text(alloc: Global, hyper: &Hyper, i: usize, k: usize) -> Result<Strin
 {
     let chance = hyper.chance(i, k);
     Ok(format!(in alloc; " {chance}\n")?)
-}
-
-// Appends the line of a value, with its end.
-fn print_entry(
-    alloc: Global,
-    target: &Target,
-    value: u64,
-    end: &str,
-    out: &mut Vec<u8>,
-) -> Result<(), Mem>
-    requires { value < target_size (items_of target.now) }
-    ensures { OnOk result (out.new.items ≡ out.old.items ++ (codes "  " ++ (target_value_text (items_of target.now) value ++ end.now))) }
-{
-    out.extend_from_slice(b"  ")?;
-    write_target(alloc, target, value, out)?;
-    out.extend_from_slice(end.as_bytes())?;
-    Ok(())
 }
 
 // Appends the lines of all values of the inner `i`. For values of one weight in a row the text of their chance is worked out once.
@@ -73,7 +50,7 @@ fn print_entries(alloc: Global, hyper: &Hyper, i: usize, out: &mut Vec<u8>) -> R
             weight = Some(entry.weight);
             end = chance_text(alloc, hyper, i, k)?;
         }
-        print_entry(alloc, hyper.target(), entry.value, &end, out)?;
+        print_line(alloc, hyper.target(), entry.value, &end, out)?;
     }
     Ok(())
 }
@@ -84,10 +61,8 @@ fn print_inner(alloc: Global, hyper: &Hyper, i: usize, out: &mut Vec<u8>) -> Res
     ensures { OnOk result (out.new.items ≡ out.old.items ++ inner_lines (target_of hyper.now) (scale_of hyper.now) (i, inner_at hyper.now i)) }
 {
     let outer = hyper.outer(i);
-    let text = format!(in alloc; "inner {i} outer {outer}\n")?;
-    out.extend_from_slice(text.as_bytes())?;
-    print_entries(alloc, hyper, i, out)?;
-    Ok(())
+    print_text(format!(in alloc; "inner {i} outer {outer}\n")?, out)?;
+    print_entries(alloc, hyper, i, out)
 }
 
 /// The printed hyper: its target, its scale, and each inner with its outer and its probabilities.

@@ -1,6 +1,7 @@
 // What the texts share: lines about targets, traces, and fractions with their names.
-ghost use Rattle.std.specs.Prelude.{◌≡◌, ◌++◌, ◌∷◌, [], OnOk, map};
-ghost use Rattle.kf_value.specs.Targets.{target_text};
+ghost use Rattle.std.specs.Prelude.{◌≡◌, ◌<◌, ◌++◌, ◌∷◌, [], OnOk, codes, map, string_bytes};
+ghost use Rattle.kf_value.specs.Numbers.{target_size};
+ghost use Rattle.kf_value.specs.Targets.{target_text, target_value_text};
 ghost use Rattle.kf_value.specs.TypeViews.{item_of};
 ghost use Rattle.kf_value.specs.Texts.{text, separated};
 ghost use Rattle.kf_value.specs.Views.{items_of, value_tree};
@@ -8,7 +9,7 @@ ghost use Rattle.kf_text.specs.Texts.{line, target_line, bracketed};
 ghost use Rattle.kf_text.specs.Views.{own_text};
 
 use kf_frac::Frac;
-use kf_value::{Mem, Target, TargetItem, Value, print_value};
+use kf_value::{Mem, Target, TargetItem, Value, print_value, write_target};
 use std::alloc::Global;
 
 // Appends the text of one item of a target.
@@ -16,10 +17,9 @@ fn print_item(item: &TargetItem, out: &mut Vec<u8>) -> Result<(), Mem>
     ensures { OnOk result (out.new.items ≡ out.old.items ++ target_text (item_of item.now ∷ [])) }
 {
     if item.initial {
-        out.extend_from_slice(b"old ")?;
+        print_bytes(b"old ", out)?;
     }
-    out.extend_from_slice(item.name.as_str().as_bytes())?;
-    Ok(())
+    print_bytes(item.name.as_str().as_bytes(), out)
 }
 
 // Appends the text of a target's items, a comma and a space between them.
@@ -31,7 +31,7 @@ fn print_items(items: &[TargetItem], out: &mut Vec<u8>) -> Result<(), Mem>
     };
     print_item(first, out)?;
     for item in others {
-        out.extend_from_slice(b", ")?;
+        print_bytes(b", ", out)?;
         print_item(item, out)?;
     }
     Ok(())
@@ -41,10 +41,9 @@ fn print_items(items: &[TargetItem], out: &mut Vec<u8>) -> Result<(), Mem>
 pub fn print_about(target: &Target, out: &mut Vec<u8>) -> Result<(), Mem>
     ensures { OnOk result (out.new.items ≡ out.old.items ++ target_line (items_of target.now)) }
 {
-    out.extend_from_slice(b"target ")?;
+    print_bytes(b"target ", out)?;
     print_items(target.items.as_slice(), out)?;
-    out.extend_from_slice(b"\n")?;
-    Ok(())
+    print_bytes(b"\n", out)
 }
 
 // Appends the texts of values, a comma and a space between them.
@@ -56,7 +55,7 @@ fn print_values(alloc: Global, values: &[Value], out: &mut Vec<u8>) -> Result<()
     };
     print_value(alloc, first, out)?;
     for value in others {
-        out.extend_from_slice(b", ")?;
+        print_bytes(b", ", out)?;
         print_value(alloc, value, out)?;
     }
     Ok(())
@@ -66,10 +65,40 @@ fn print_values(alloc: Global, values: &[Value], out: &mut Vec<u8>) -> Result<()
 pub fn print_trace(alloc: Global, trace: &[Value], out: &mut Vec<u8>) -> Result<(), Mem>
     ensures { OnOk result (out.new.items ≡ out.old.items ++ bracketed (map value_tree trace.now)) }
 {
-    out.extend_from_slice(b"[")?;
+    print_bytes(b"[", out)?;
     print_values(alloc, trace, out)?;
-    out.extend_from_slice(b"]")?;
+    print_bytes(b"]", out)
+}
+
+// Appends bytes.
+pub fn print_bytes(bytes: &[u8], out: &mut Vec<u8>) -> Result<(), Mem>
+    ensures { OnOk result (out.new.items ≡ out.old.items ++ bytes.now) }
+{
+    out.extend_from_slice(bytes)?;
     Ok(())
+}
+
+// Appends a text, which is dropped here: a caller holds it over none of its ways out.
+pub fn print_text(text: String, out: &mut Vec<u8>) -> Result<(), Mem>
+    ensures { OnOk result (out.new.items ≡ out.old.items ++ string_bytes text) }
+{
+    print_bytes(text.as_bytes(), out)
+}
+
+// Appends the line of a value of the target, with its end.
+pub fn print_line(
+    alloc: Global,
+    target: &Target,
+    value: u64,
+    end: &str,
+    out: &mut Vec<u8>,
+) -> Result<(), Mem>
+    requires { value < target_size (items_of target.now) }
+    ensures { OnOk result (out.new.items ≡ out.old.items ++ (codes "  " ++ (target_value_text (items_of target.now) value ++ end.now))) }
+{
+    print_bytes(b"  ", out)?;
+    write_target(alloc, target, value, out)?;
+    print_bytes(end.as_bytes(), out)
 }
 
 // Appends the line of a fraction behind its name and a space.
@@ -81,8 +110,6 @@ pub fn print_fraction(
 ) -> Result<(), Mem>
     ensures { OnOk result (out.new.items ≡ out.old.items ++ line (name.now ++ own_text fraction)) }
 {
-    out.extend_from_slice(name)?;
-    let text = format!(in alloc; "{fraction}\n")?;
-    out.extend_from_slice(text.as_bytes())?;
-    Ok(())
+    print_bytes(name, out)?;
+    print_text(format!(in alloc; "{fraction}\n")?, out)
 }

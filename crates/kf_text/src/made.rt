@@ -5,6 +5,7 @@ ghost use Rattle.kf_hyper.specs.Views.{inners_of, scale_of};
 ghost use Rattle.kf_text.specs.Texts.{last_line, last_total, make_text as text_of_make};
 
 use crate::hyper::print_sizes;
+use crate::items::print_text;
 use kf_frac::Frac;
 use kf_hyper::Hyper;
 use kf_value::Mem;
@@ -24,9 +25,7 @@ fn print_last(alloc: Global, hyper: &Hyper, out: &mut Vec<u8>) -> Result<(), Mem
     ensures { OnOk result (out.new.items ≡ out.old.items ++ last_line (scale_of hyper.now) (inners_of hyper.now)) }
 {
     let last = last_outer(hyper);
-    let text = format!(in alloc; "last {last}\n")?;
-    out.extend_from_slice(text.as_bytes())?;
-    Ok(())
+    print_text(format!(in alloc; "last {last}\n")?, out)
 }
 
 /// The summary of a made program's hyper: how many observations there were, the scale, how many inners there are, and the
@@ -35,8 +34,7 @@ pub fn make_text(alloc: Global, n: u32, h: &Hyper) -> Result<Vec<u8>, Mem>
     ensures { IfOk result (λ text. text.items ≡ text_of_make n (scale_of h.now) (inners_of h.now)) }
 {
     let mut out = Vec::new(alloc);
-    let text = format!(in alloc; "observations {n}\n")?;
-    out.extend_from_slice(text.as_bytes())?;
+    print_text(format!(in alloc; "observations {n}\n")?, &mut out)?;
     print_sizes(alloc, h, &mut out)?;
     print_last(alloc, h, &mut out)?;
     Ok(out)

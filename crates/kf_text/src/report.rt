@@ -6,7 +6,7 @@ ghost use Rattle.kf_text.specs.ReportTexts.{gain_text, report_text as text_of_re
 ghost use Rattle.kf_text.specs.Texts.{line};
 ghost use Rattle.kf_text.specs.Views.{own_quotient_text, own_lines};
 
-use crate::items::print_fraction;
+use crate::items::{print_bytes, print_fraction, print_text};
 use kf_frac::Frac;
 use kf_gain::Gain;
 use kf_report::Report;
@@ -18,15 +18,11 @@ pub fn print_gain(alloc: Global, gain: &Gain, out: &mut Vec<u8>) -> Result<(), M
     ensures { OnOk result (out.new.items ≡ out.old.items ++ line (codes "gain " ++ gain_text (gain_tree gain.now))) }
 {
     match gain {
-        Gain::Bayes => out.extend_from_slice(b"gain bayes\n")?,
-        Gain::Tries(count) => {
-            let text = format!(in alloc; "gain tries {count}\n")?;
-            out.extend_from_slice(text.as_bytes())?;
-        }
-        Gain::Guessing => out.extend_from_slice(b"gain guessing\n")?,
-        Gain::Table(_) => out.extend_from_slice(b"gain table\n")?,
+        Gain::Bayes => print_bytes(b"gain bayes\n", out),
+        Gain::Tries(count) => print_text(format!(in alloc; "gain tries {count}\n")?, out),
+        Gain::Guessing => print_bytes(b"gain guessing\n", out),
+        Gain::Table(_) => print_bytes(b"gain table\n", out),
     }
-    Ok(())
 }
 
 // Appends the line of the quotient.
@@ -34,8 +30,7 @@ fn print_quotient(alloc: Global, quotient: Option<Frac>, out: &mut Vec<u8>) -> R
     ensures { OnOk result (out.new.items ≡ out.old.items ++ line (codes "quotient " ++ own_quotient_text quotient)) }
 {
     let Some(fraction) = quotient else {
-        out.extend_from_slice(b"quotient undefined\n")?;
-        return Ok(());
+        return print_bytes(b"quotient undefined\n", out);
     };
     print_fraction(alloc, b"quotient ", fraction, out)
 }

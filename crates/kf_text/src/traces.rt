@@ -8,10 +8,10 @@ ghost use Rattle.kf_hyper.specs.Tables.{table_row};
 ghost use Rattle.kf_hyper.specs.Views.{rows_of};
 ghost use Rattle.kf_text.specs.Texts.{entry_line, row_lines, table_lines, trace_text as text_of_table};
 
-use crate::items::{print_about, print_trace};
+use crate::items::{print_about, print_bytes, print_line, print_text, print_trace};
 use kf_frac::share;
 use kf_hyper::{Entry, TraceRow, TraceTable};
-use kf_value::{Mem, Target, print_target};
+use kf_value::{Mem, Target};
 use std::alloc::Global;
 
 // Appends the lines before the traces.
@@ -21,9 +21,7 @@ fn print_head(alloc: Global, table: &TraceTable, out: &mut Vec<u8>) -> Result<()
     print_about(&table.target, out)?;
     let scale = table.scale;
     let count = table.rows.as_slice().len();
-    let text = format!(in alloc; "scale {scale}\ntraces {count}\n")?;
-    out.extend_from_slice(text.as_bytes())?;
-    Ok(())
+    print_text(format!(in alloc; "scale {scale}\ntraces {count}\n")?, out)
 }
 
 // Appends the line of a value and its weight over the scale.
@@ -41,11 +39,8 @@ fn print_entry(
     ensures { OnOk result (out.new.items ≡ out.old.items ++ entry_line (items_of target.now) scale entry) }
 {
     let chance = share(entry.weight, scale);
-    out.extend_from_slice(b"  ")?;
-    print_target(alloc, target, entry.value, out)?;
-    let text = format!(in alloc; " {chance}\n")?;
-    out.extend_from_slice(text.as_bytes())?;
-    Ok(())
+    let end = format!(in alloc; " {chance}\n")?;
+    print_line(alloc, target, entry.value, &end, out)
 }
 
 // Appends the lines of all values of a trace.
@@ -84,10 +79,9 @@ fn print_row(
 {
     let entries = row.column.entries().as_slice();
     let weight = share(row.column.total(), scale);
-    out.extend_from_slice(b"trace ")?;
+    print_bytes(b"trace ", out)?;
     print_trace(alloc, row.trace.as_slice(), out)?;
-    let text = format!(in alloc; " weight {weight}\n")?;
-    out.extend_from_slice(text.as_bytes())?;
+    print_text(format!(in alloc; " weight {weight}\n")?, out)?;
     print_entries(alloc, target, scale, entries, out)
 }
 

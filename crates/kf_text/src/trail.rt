@@ -1,6 +1,7 @@
 ghost use Rattle.std.specs.Prelude.{◌≡◌, ◌++◌, IfOk, OnOk};
 ghost use Rattle.kf_text.specs.Texts.{count_line, trail_text as text_of_trail};
 
+use crate::items::print_text;
 use kf_hyper::CountList;
 use kf_value::Mem;
 use std::alloc::Global;
@@ -9,9 +10,7 @@ use std::alloc::Global;
 fn print_count(alloc: Global, place: usize, count: u64, out: &mut Vec<u8>) -> Result<(), Mem>
     ensures { OnOk result (out.new.items ≡ out.old.items ++ count_line (place, count)) }
 {
-    let text = format!(in alloc; "after {place} inners {count}\n")?;
-    out.extend_from_slice(text.as_bytes())?;
-    Ok(())
+    print_text(format!(in alloc; "after {place} inners {count}\n")?, out)
 }
 
 /// The printed trail: each place with how many beliefs stand there, a line for each, numbered from 0.

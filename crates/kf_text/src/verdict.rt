@@ -10,20 +10,19 @@ ghost use Rattle.kf_text.specs.Texts.{line};
 ghost use Rattle.kf_text.specs.Views.{own_text};
 ghost use Rattle.kf_text.specs.VerdictTexts.{action_lines, actions_lines, fractions_line, gain_line, no_text, shape_line, spaced, width as columns_of, yes_text, verdict_text as text_of_verdict};
 
+use crate::items::{print_bytes, print_line, print_text};
 use kf_frac::Frac;
 use kf_gain::{Action, GainEntry, GainTable};
 use kf_refine::{Matrix, Verdict};
 use kf_simplex::FracList;
-use kf_value::{Mem, Target, print_target};
+use kf_value::{Mem, Target};
 use std::alloc::Global;
 
 // Appends a fraction.
 fn print_fraction(alloc: Global, fraction: &Frac, out: &mut Vec<u8>) -> Result<(), Mem>
     ensures { OnOk result (out.new.items ≡ out.old.items ++ own_text fraction.now) }
 {
-    let text = fraction.to_string(alloc)?;
-    out.extend_from_slice(text.as_bytes())?;
-    Ok(())
+    print_text(fraction.to_string(alloc)?, out)
 }
 
 // Appends fractions, a space between them.
@@ -35,7 +34,7 @@ fn print_fractions(alloc: Global, row: &[Frac], out: &mut Vec<u8>) -> Result<(),
     };
     print_fraction(alloc, first, out)?;
     for fraction in others {
-        out.extend_from_slice(b" ")?;
+        print_bytes(b" ", out)?;
         print_fraction(alloc, fraction, out)?;
     }
     Ok(())
@@ -46,8 +45,7 @@ fn print_row(alloc: Global, row: &FracList, out: &mut Vec<u8>) -> Result<(), Mem
     ensures { OnOk result (out.new.items ≡ out.old.items ++ fractions_line (map fraction_of row.now)) }
 {
     print_fractions(alloc, row.as_slice(), out)?;
-    out.extend_from_slice(b"\n")?;
-    Ok(())
+    print_bytes(b"\n", out)
 }
 
 // How many columns the matrix has.
@@ -64,9 +62,7 @@ fn width(rows: &[FracList]) -> usize
 fn print_shape(alloc: Global, rows: usize, columns: usize, out: &mut Vec<u8>) -> Result<(), Mem>
     ensures { OnOk result (out.new.items ≡ out.old.items ++ shape_line rows columns) }
 {
-    let text = format!(in alloc; "matrix {rows} {columns}\n")?;
-    out.extend_from_slice(text.as_bytes())?;
-    Ok(())
+    print_text(format!(in alloc; "matrix {rows} {columns}\n")?, out)
 }
 
 // Appends the lines of rows.
@@ -84,7 +80,7 @@ fn print_matrix(alloc: Global, matrix: &Matrix, out: &mut Vec<u8>) -> Result<(),
     ensures { OnOk result (out.new.items ≡ out.old.items ++ yes_text (matrix_tree matrix.now)) }
 {
     let rows = matrix.rows.as_slice();
-    out.extend_from_slice(b"refines yes\n")?;
+    print_bytes(b"refines yes\n", out)?;
     print_shape(alloc, rows.len(), width(rows), out)?;
     print_rows(alloc, rows, out)
 }
@@ -100,11 +96,8 @@ fn print_gain(
     ensures { OnOk result (out.new.items ≡ out.old.items ++ gain_line (items_of target.now) entry.now) }
 {
     let gain = entry.gain;
-    out.extend_from_slice(b"  ")?;
-    print_target(alloc, target, entry.value, out)?;
-    let text = format!(in alloc; " {gain}\n")?;
-    out.extend_from_slice(text.as_bytes())?;
-    Ok(())
+    let end = format!(in alloc; " {gain}\n")?;
+    print_line(alloc, target, entry.value, &end, out)
 }
 
 // Appends the lines of an action.
@@ -117,9 +110,9 @@ fn print_action(
     requires { All (λ e. e.value < target_size (items_of target.now)) action.now.gains }
     ensures { OnOk result (out.new.items ≡ out.old.items ++ action_lines (items_of target.now) action.now) }
 {
-    out.extend_from_slice(b"action ")?;
-    out.extend_from_slice(action.name.as_str().as_bytes())?;
-    out.extend_from_slice(b"\n")?;
+    print_bytes(b"action ", out)?;
+    print_bytes(action.name.as_str().as_bytes(), out)?;
+    print_bytes(b"\n", out)?;
     for entry in action.gains.as_slice() {
         print_gain(alloc, target, entry, out)?;
     }
@@ -130,18 +123,14 @@ fn print_action(
 fn print_over(alloc: Global, over: u128, out: &mut Vec<u8>) -> Result<(), Mem>
     ensures { OnOk result (out.new.items ≡ out.old.items ++ line (codes "over " ++ decimal over)) }
 {
-    let text = format!(in alloc; "over {over}\n")?;
-    out.extend_from_slice(text.as_bytes())?;
-    Ok(())
+    print_text(format!(in alloc; "over {over}\n")?, out)
 }
 
 // Appends the line of the gain at values that aren't named.
 fn print_rest(alloc: Global, rest: i128, out: &mut Vec<u8>) -> Result<(), Mem>
     ensures { OnOk result (out.new.items ≡ out.old.items ++ line (codes "rest " ++ signed_decimal rest)) }
 {
-    let text = format!(in alloc; "rest {rest}\n")?;
-    out.extend_from_slice(text.as_bytes())?;
-    Ok(())
+    print_text(format!(in alloc; "rest {rest}\n")?, out)
 }
 
 // Appends how many actions there are, and the lines of each.
@@ -155,8 +144,7 @@ fn print_actions(
     ensures { OnOk result (out.new.items ≡ out.old.items ++ actions_lines (items_of target.now) actions.now) }
 {
     let count = actions.len();
-    let text = format!(in alloc; "actions {count}\n")?;
-    out.extend_from_slice(text.as_bytes())?;
+    print_text(format!(in alloc; "actions {count}\n")?, out)?;
     for action in actions {
         print_action(alloc, target, action, out)?;
     }
@@ -173,7 +161,7 @@ fn print_table(
     requires { IsWritable (items_of target.now) (No (table_tree table.now)) }
     ensures { OnOk result (out.new.items ≡ out.old.items ++ no_text (items_of target.now) (table_tree table.now)) }
 {
-    out.extend_from_slice(b"refines no\n")?;
+    print_bytes(b"refines no\n", out)?;
     print_over(alloc, table.over, out)?;
     print_rest(alloc, table.rest, out)?;
     print_actions(alloc, target, table.actions.as_slice(), out)

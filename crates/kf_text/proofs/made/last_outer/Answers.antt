@@ -1,4 +1,4 @@
-use Rattle.std.proofs.Common.{◌-◌, pos, ap, ◌∙◌, [], length}
+use Rattle.std.proofs.Common.{◌-◌, pos, ap, ◌∙◌, []}
 use Rattle.kf_frac.specs.Fractions.{reduced_num, reduced_den}
 use Rattle.kf_hyper.specs.Hypers.{Inner}
 use Rattle.kf_hyper.specs.Views.{inner_at, inners_of, scale_of}

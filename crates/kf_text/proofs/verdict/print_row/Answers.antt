@@ -1,4 +1,4 @@
-use Rattle.std.proofs.Common.{◌≡◌, ◌∙◌, ◌++◌, ap, append_assoc, rules}
+use Rattle.std.proofs.Common.{append_assoc, rules}
 use Rattle.kf_text.proofs.Verdicts.{own_texts}
 use Rattle.kf_text.proofs.verdict.print_row.Goals as goal
 

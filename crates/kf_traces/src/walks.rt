@@ -128,11 +128,12 @@ fn walk(
             let states = leak(alloc, shape, None, test, from)?;
             let mut next = Vec::new(alloc);
             for state in states {
-                let mut walked = if ends_true(&state) {
-                    walk_all(alloc, shape, turns, yes.as_slice(), state)?
+                let block = if ends_true(&state) {
+                    yes.as_slice()
                 } else {
-                    walk_all(alloc, shape, turns, no.as_slice(), state)?
+                    no.as_slice()
                 };
+                let mut walked = walk_all(alloc, shape, turns, block, state)?;
                 next.append(&mut walked)?;
             }
             Ok(next)

@@ -1,4 +1,4 @@
-use Rattle.std.proofs.Common.{rules, ◌≡◌, ◌+◌, ◌-◌, [], ◌∷◌, ap, ◌∙◌, sym, map, drop, reverse, arith, false, All, refl}
+use Rattle.std.proofs.Common.{rules, ◌≡◌, ◌+◌, ◌-◌, [], ◌∷◌, ap, ◌∙◌, sym, map, drop, reverse, arith, false, refl}
 use Rattle.std.proofs.lemmas.List.Elements.{All-cons, All-map, All-nil, All-same}
 use Rattle.std.specs.Prelude.{flat_map}
 use Rattle.std.specs.Vec.Iter.{into_iter_items}
@@ -17,7 +17,7 @@ use Rattle.kf_traces.proofs.Walking as walking
 use Rattle.kf_traces.proofs.WalkingLoops as loops
 use Rattle.kf_traces.proofs.WalkingStatements as form
 use Rattle.kf_traces.proofs.walks.+walk.Goals as goal
-use Rattle.kf_traces.proofs.walks.+walk.Goals.{walk-then-ends_true+in_ok-walked-in-If, walk-else-ends_true+in_ok-walked-in-If-2}
+use Rattle.kf_traces.proofs.walks.+walk.Goals.{walk-then-ends_true, walk-else-ends_true}
 
 pub ask_again-returns-clause-fits : goal.ask_again-returns-clause-fits
 ask_again-returns-clause-fits t c =
@@ -74,9 +74,25 @@ walk-walk_while-requires t c =
       search (rules, the_lemmas),
       (
         pass.while_guard ks c.args.statement.now c.requires.sound c.in-While.test c.in-While.body c.in-While.is,
-        (pass.body_sound ks c.args.statement.now c.requires.sound c.in-While.test c.in-While.body c.in-While.is c.as_slice-in-While.result.now c.as_slice-in-While.ensures, c.requires.fits),
+        (pass.body_sound ks c.args.statement.now c.requires.sound c.in-While.test c.in-While.body c.in-While.is c.as_slice.result.now c.as_slice.ensures, c.requires.fits),
       ),
     )
+
+pub walk-walk_all-requires : goal.walk-walk_all-requires
+walk-walk_all-requires t c =
+    let size = shape_size c.args.shape.now in
+    let ts = shape_types c.args.shape.now in
+    let ks = shape_kinds c.args.shape.now in
+    let next = form.branch_of ts c.args.turns c.in-If.yes c.in-If.no in
+    let s = traced_of c.in-Some.state in
+    let step : map traced_of (into_iter_items c.loop-state.state-iterator) ≡ s ∷ map traced_of (into_iter_items c.next.new.self) = ap (map traced_of) c.in-Some.ensures.steps.0 in
+    let fits = walking.goes_next next (walking.InSize size) (walking.InSize size) (flat_map next (map traced_of (into_iter_items c.into_iter-state-iterator.result))) (map traced_of c.loop-state.next.items) (map traced_of (into_iter_items c.loop-state.state-iterator)) s (map traced_of (into_iter_items c.next.new.self)) step c.loop-state.invariant in
+    elim c.if-ends_true.branch [
+      | walk-then-ends_true w ↦
+          rw w.block-is (search (rules, the_lemmas), (pass.yes_sound ks c.args.statement.now c.requires.sound c.in-If.test c.in-If.yes c.in-If.no c.in-If.is w.as_slice-block.result.now w.as_slice-block.ensures, fits))
+      | walk-else-ends_true w ↦
+          rw w.block-is (search (rules, the_lemmas), (pass.no_sound ks c.args.statement.now c.requires.sound c.in-If.test c.in-If.yes c.in-If.no c.in-If.is w.as_slice-block-else-ends_true.result.now w.as_slice-block-else-ends_true.ensures, fits))
+    ]
 
 pub walk-loop-state-preserved : goal.walk-loop-state-preserved
 walk-loop-state-preserved t c =
@@ -84,43 +100,18 @@ walk-loop-state-preserved t c =
     let ts = shape_types c.args.shape.now in
     let next = form.branch_of ts c.args.turns c.in-If.yes c.in-If.no in
     let s = traced_of c.in-Some.state in
+    let walked = map traced_of c.in_ok-walked-in-If.walked.items in
     let step : map traced_of (into_iter_items c.loop-state.state-iterator) ≡ s ∷ map traced_of (into_iter_items c.next.new.self) = ap (map traced_of) c.in-Some.ensures.steps.0 in
-    let went : (map traced_of c.if-ends_true.walked.items ≡ next s) × All (walking.InSize size) (map traced_of c.if-ends_true.walked.items) =
+    let went : walked ≡ next s =
     elim c.if-ends_true.branch [
-      | walk-then-ends_true+in_ok-walked-in-If w ↦
-          let same : map traced_of c.if-ends_true.walked.items ≡ map traced_of w.in_ok-walked-in-If.walked.items = λ i. map traced_of ((w.walked-is i).items) in (
-            same ∙ form.took_first ts c.args.turns c.in-If.yes c.in-If.no s w.as_slice.result.now (map traced_of w.in_ok-walked-in-If.walked.items) w.in_ok-walked-in-If.ensures.walked (sym w.if-ends_true.true ∙ c.ends_true.ensures) w.as_slice.ensures,
-            All-same (walking.InSize size) _ _ same w.in_ok-walked-in-If.ensures.fits,
-          )
-      | walk-else-ends_true+in_ok-walked-in-If-2 w ↦
-          let same : map traced_of c.if-ends_true.walked.items ≡ map traced_of w.in_ok-walked-in-If-2.walked.items = λ i. map traced_of ((w.walked-is i).items) in (
-            same ∙ form.took_second ts c.args.turns c.in-If.yes c.in-If.no s w.as_slice-else-ends_true.result.now (map traced_of w.in_ok-walked-in-If-2.walked.items) w.in_ok-walked-in-If-2.ensures.walked (sym w.if-ends_true.false ∙ c.ends_true.ensures) w.as_slice-else-ends_true.ensures,
-            All-same (walking.InSize size) _ _ same w.in_ok-walked-in-If-2.ensures.fits,
-          )
+      | walk-then-ends_true w ↦
+          form.took_first ts c.args.turns c.in-If.yes c.in-If.no s c.if-ends_true.block.now walked c.in_ok-walked-in-If.ensures.walked (sym w.if-ends_true.true ∙ c.ends_true.ensures) ((λ i. (w.block-is i).now) ∙ w.as_slice-block.ensures)
+      | walk-else-ends_true w ↦
+          form.took_second ts c.args.turns c.in-If.yes c.in-If.no s c.if-ends_true.block.now walked c.in_ok-walked-in-If.ensures.walked (sym w.if-ends_true.false ∙ c.ends_true.ensures) ((λ i. (w.block-is i).now) ∙ w.as_slice-block-else-ends_true.ensures)
     ] in
     walking.goes_step next (walking.InSize size) (walking.InSize size) (flat_map next (map traced_of (into_iter_items c.into_iter-state-iterator.result))) (map traced_of c.loop-state.next.items) (map traced_of (into_iter_items c.loop-state.state-iterator)) s (map traced_of (into_iter_items c.next.new.self)) step c.loop-state.invariant
-    (map traced_of c.if-ends_true.walked.items) (map traced_of c.append.new.self.items) went.0
-    (walking.mapped_joined traced_of c.append.new.self.items c.loop-state.next.items c.if-ends_true.walked.items c.in_ok-append-in-If.ensures.items) went.1
-
-pub walk-walk_all-requires : goal.walk-walk_all-requires
-walk-walk_all-requires t c =
-    let size = shape_size c.args.shape.now in
-    let ts = shape_types c.args.shape.now in
-    let next = form.branch_of ts c.args.turns c.in-If.yes c.in-If.no in
-    let s = traced_of c.in-Some.state in
-    let step : map traced_of (into_iter_items c.loop-state.state-iterator) ≡ s ∷ map traced_of (into_iter_items c.next.new.self) = ap (map traced_of) c.in-Some.ensures.steps.0 in
-    let fits = walking.goes_next next (walking.InSize size) (walking.InSize size) (flat_map next (map traced_of (into_iter_items c.into_iter-state-iterator.result))) (map traced_of c.loop-state.next.items) (map traced_of (into_iter_items c.loop-state.state-iterator)) s (map traced_of (into_iter_items c.next.new.self)) step c.loop-state.invariant in
-    (search (rules, the_lemmas), (pass.yes_sound (shape_kinds c.args.shape.now) c.args.statement.now c.requires.sound c.in-If.test c.in-If.yes c.in-If.no c.in-If.is c.as_slice.result.now c.as_slice.ensures, fits))
-
-pub walk-walk_all-requires-else-ends_true : goal.walk-walk_all-requires-else-ends_true
-walk-walk_all-requires-else-ends_true t c =
-    let size = shape_size c.args.shape.now in
-    let ts = shape_types c.args.shape.now in
-    let next = form.branch_of ts c.args.turns c.in-If.yes c.in-If.no in
-    let s = traced_of c.in-Some.state in
-    let step : map traced_of (into_iter_items c.loop-state.state-iterator) ≡ s ∷ map traced_of (into_iter_items c.next.new.self) = ap (map traced_of) c.in-Some.ensures.steps.0 in
-    let fits = walking.goes_next next (walking.InSize size) (walking.InSize size) (flat_map next (map traced_of (into_iter_items c.into_iter-state-iterator.result))) (map traced_of c.loop-state.next.items) (map traced_of (into_iter_items c.loop-state.state-iterator)) s (map traced_of (into_iter_items c.next.new.self)) step c.loop-state.invariant in
-    (search (rules, the_lemmas), (pass.no_sound (shape_kinds c.args.shape.now) c.args.statement.now c.requires.sound c.in-If.test c.in-If.yes c.in-If.no c.in-If.is c.as_slice-else-ends_true.result.now c.as_slice-else-ends_true.ensures, fits))
+    walked (map traced_of c.append.new.self.items) went
+    (walking.mapped_joined traced_of c.append.new.self.items c.loop-state.next.items c.in_ok-walked-in-If.walked.items c.in_ok-append-in-If.ensures.items) c.in_ok-walked-in-If.ensures.fits
 
 pub walk_all-walk_each-requires : goal.walk_all-walk_each-requires
 walk_all-walk_each-requires t c =

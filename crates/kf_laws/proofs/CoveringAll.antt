@@ -1,5 +1,5 @@
 -- What `covers` answers holds at every prior, and what `quiet` shows is worth no more than what `hyper` shows.
-use Rattle.std.proofs.Common.{◌≡◌, ℕ, ◌≤◌, ℤ, pos, ◌*ℤ◌, ◌≤ℤ◌, ◌<ℤ◌, true, false, if◌then◌else◌, List, [], ◌∷◌, length, replicate, Result, Ok, refl, sym, ap, subst, ◌∙◌, arith}
+use Rattle.std.proofs.Common.{◌≡◌, ℕ, ◌≤◌, ℤ, pos, ◌*ℤ◌, ◌≤ℤ◌, ◌<ℤ◌, false, if◌then◌else◌, List, [], ◌∷◌, length, replicate, Result, Ok, refl, sym, ap, subst, ◌∙◌, arith}
 use Rattle.kf_core.specs.Joint.{Cell, joint_of}
 use Rattle.kf_value.specs.Targets.{Item}
 use Rattle.kf_core.specs.Programs.{ProgramTree}
@@ -21,7 +21,7 @@ use Rattle.kf_text.specs.Texts.{hyper_text}
 use Rattle.kf_text.specs.VerdictTexts.{verdict_text}
 use Rattle.kf_load.specs.Steps.{Each, Gives}
 use Rattle.kf_load.specs.Texts.{File, LongCleared, Text, cleared}
-use Rattle.kf_top.specs.Answer.{AreHypers, CommandOutcome, HyperOf, Shown, is_yes, most_pivots, prints}
+use Rattle.kf_top.specs.Answer.{AreHypers, CommandOutcome, HyperOf, Shown, is_yes, most_pivots}
 use Rattle.kf_top.specs.Ends.{Answer, showing}
 use Rattle.kf_top.specs.Outcome.{ClearedOf, FullOf, few_stores}
 use Rattle.kf_laws.specs.Held.{held}
@@ -30,7 +30,7 @@ use Rattle.kf_laws.specs.Refusals.{RefusalsAreReasoned}
 use Rattle.kf_words.specs.Task.{Command, Covers, Hyper, Quiet, on_file}
 use Rattle.kf_laws.proofs.ClearedPrograms.{IsTyped, every_done, few_typed, long_same, same_program, texts_typed}
 use Rattle.kf_laws.proofs.OneAnswer.{HasOne}
-use Rattle.kf_laws.proofs.ShownAnswers.{command_shown, task_shown, verdict_of}
+use Rattle.kf_laws.proofs.ShownAnswers.{command_shown, printed, task_shown, verdict_of}
 use Rattle.kf_laws.proofs.WrittenCertificates.{one_target}
 
 -- ---- the programs are full
@@ -158,10 +158,7 @@ each_gives turns most (t ∷ ts) ps is = (is.0, long_gives turns most t is.0 is.
 -- what the bytes of a hyper that is shown are
 hyper_told : (answer : Answer) (shown : Shown) (target : List Item) (scale : ℕ) (joint : List Cell) → answer ≡ showing shown → HyperOf target scale joint (Ok shown)
     → (inners : List Inner) × IsHyperOf joint inners × (answer.out ≡ hyper_text target scale inners)
-hyper_told answer shown target scale joint shows is =
-    let given : Ok shown ≡ prints (hyper_text target scale is.0) = is.2 in
-    let same : shown ≡ record { yes = true; bytes = hyper_text target scale is.0 } = cc in
-    (is.0, is.1, ap (λ (x : Answer). x.out) shows ∙ ap (λ (s : Shown). s.bytes) same)
+hyper_told answer shown target scale joint shows is = (is.0, is.1, printed answer shown (hyper_text target scale is.0) shows is.2)
 
 module _ (no_more : QuietLeaksNoMore) (from to turns : ℕ) (hyper quiet : Answer) (order : from ≤ to) (tables others : List File) where
   by_programs : (ps : List ProgramTree) (st su : Shown) → hyper ≡ showing st → quiet ≡ showing su → CommandOutcome Hyper turns tables ps (Ok st)

@@ -2,6 +2,7 @@ mod Accepted
 mod ClearedPrograms
 mod CoveringAll
 pub mod HeldFiles
+mod LeakBounds
 mod OneAnswer
 mod OneComposed
 mod ProperHypers

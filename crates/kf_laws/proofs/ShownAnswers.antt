@@ -1,5 +1,5 @@
 -- An answer with a status of at most 1 shows what its task comes to.
-use Rattle.std.proofs.Common.{◌≡◌, ℕ, ◌≤◌, Bool, List, [], ◌∷◌, Some, Result, Ok, Err, if◌then◌else◌, refl, ◌∙◌, ap, arith}
+use Rattle.std.proofs.Common.{◌≡◌, ℕ, ◌≤◌, Bool, true, List, [], ◌∷◌, Some, Result, Ok, Err, if◌then◌else◌, refl, ◌∙◌, ap, arith}
 use Rattle.kf_core.specs.Programs.{ProgramTree}
 use Rattle.kf_refine.specs.Refinements.{HyperTree}
 use Rattle.kf_refine.specs.Verdicts.{VerdictTree, Proves}
@@ -8,7 +8,7 @@ use Rattle.kf_cert.specs.CertTexts.{cert_text}
 use Rattle.kf_text.specs.VerdictTexts.{verdict_text}
 use Rattle.kf_load.specs.Steps.{Refused}
 use Rattle.kf_load.specs.Texts.{File}
-use Rattle.kf_top.specs.Answer.{CommandOutcome, Shown, VerdictShown, is_yes, verdict_refusal}
+use Rattle.kf_top.specs.Answer.{CommandOutcome, Shown, VerdictShown, is_yes, prints, verdict_refusal}
 use Rattle.kf_top.specs.Ends.{Answer, names_of, settled, showing}
 use Rattle.kf_top.specs.Outcome.{ClearedOf, TaskOutcome}
 use Rattle.kf_words.specs.Task.{Command, Task, tables_of, task_of}
@@ -76,6 +76,12 @@ module _ (reasoned : RefusalsAreReasoned) (contents : List ℕ → List ℕ) whe
         next_of (ClearedOf task.command task.turns (held contents task.files)) (CommandOutcome task.command task.turns (held contents (tables_of task.command)))
             (one_cleared task.command task.turns (held contents task.files)) ps are (Ok w.0) w.2,
       )
+
+-- what is printed is what the answer has for out
+pub printed : (answer : Answer) (shown : Shown) (bytes : List ℕ) → answer ≡ showing shown → Ok shown ≡ prints bytes → answer.out ≡ bytes
+printed answer shown bytes shows is =
+    let same : shown ≡ record { yes = true; bytes = bytes } = cc in
+    ap (λ (x : Answer). x.out) shows ∙ ap (λ (s : Shown). s.bytes) same
 
 -- ---- verdicts
 

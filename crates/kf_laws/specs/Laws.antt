@@ -1,24 +1,30 @@
 -- For bodies: laws of the definitions.
-use Rattle.std.specs.Prelude.{◌≡◌, ◌⊎◌, ℕ, ◌≤◌, ℤ, pos, ◌*ℤ◌, ◌≤ℤ◌, ◌<ℤ◌, true, List, [], ◌∷◌, ◌++◌, length, replicate, codes, Some, Ok}
+use Rattle.std.specs.Prelude.{◌≡◌, ◌⊎◌, ℕ, ◌≤◌, ℤ, pos, ◌*ℤ◌, ◌≤ℤ◌, ◌<ℤ◌, true, List, [], ◌∷◌, ◌++◌, All, length, replicate, codes, Some, Ok}
 use Rattle.kf_core.specs.Joint.{joint_of}
 use Rattle.kf_core.specs.Programs.{ProgramTree}
 use Rattle.kf_core.specs.Rows.{IsHyperOf}
 use Rattle.kf_core.specs.Scale.{scale_of}
 use Rattle.kf_hyper.specs.Hypers.{Inner}
-use Rattle.kf_gain.specs.Gains.{GainOf, Table, TableTree}
+use Rattle.kf_hyper.specs.Traces.{value_weight}
+use Rattle.kf_capacity.specs.Grids.{ChannelTree, GridTree, channel_grid, capacity_of}
+use Rattle.kf_gain.specs.Gains.{GainOf, Bayes, Table, TableTree}
 use Rattle.kf_gain.specs.Vulnerabilities.{IsPosterior}
 use Rattle.kf_gain.specs.Worth.{NoBetter}
+use Rattle.kf_order.specs.Channels.{IsNotNegative}
 use Rattle.kf_prior.specs.Priors.{IsPosteriorAt, initial_count}
 use Rattle.kf_quiet.specs.Quiet.{quiet_joint}
 use Rattle.kf_refine.specs.Verdicts.{No}
+use Rattle.kf_report.specs.Reports.{Leakage, IsLeakage}
+use Rattle.kf_text.specs.CapacityTexts.{capacity_text}
+use Rattle.kf_text.specs.ReportTexts.{report_text}
 use Rattle.kf_text.specs.Texts.{hyper_text}
 use Rattle.kf_text.specs.VerdictTexts.{verdict_text}
 use Rattle.kf_load.specs.Texts.{File}
-use Rattle.kf_top.specs.Answer.{wide_cert}
+use Rattle.kf_top.specs.Answer.{GainIn, IsChannelTree, wide_cert}
 use Rattle.kf_top.specs.Ends.{Answer, IsAnswer, showing, refusing}
 use Rattle.kf_top.specs.Outcome.{ClearedOf}
 use Rattle.kf_laws.specs.Held.{IsAnswerOver, held}
-use Rattle.kf_words.specs.Task.{Task, Hyper, Refine, Check, Covers, Quiet, on_file, on_files, task_of}
+use Rattle.kf_words.specs.Task.{Task, Hyper, Capacity, Leak, Refine, Check, Covers, Quiet, on_file, on_files, tables_of, task_of}
 
 -- words over files, whatever their names and their readings, have exactly one defined answer
 abbrev pub ExactlyOneAnswer : Type 0
@@ -85,3 +91,39 @@ QuietIsNoBetter = (words others : List (List ℕ)) (contents : List ℕ → List
     → task_of others ≡ Some (on_file (Quiet from to) name turns) → IsAnswerOver others contents quiet → quiet.status ≡ 0 → from ≤ to
     → (p : ProgramTree) × (all hushed : List Inner) × AreQuietAnswers from to turns hyper quiet p all hushed
     × ((g : GainOf TableTree) (y z : ℤ) → IsPosterior g hushed y → IsPosterior g all z → NoBetter g y z)
+
+-- what `capacity` and `leak` state of the text in one file: its program's channel, and prior and posterior under the gain that the words name
+pub record AreLeakAnswers (contents : List ℕ → List ℕ) (name : List ℕ) (gain : GainOf (List ℕ)) (turns : ℕ) (capacity leak : Answer) : Type 0 where
+  pub program : ProgramTree
+  pub is_cleared : ClearedOf Capacity turns (held contents (name ∷ [])) (Ok (program ∷ []))
+  pub channel : ChannelTree
+  pub is_channel : IsChannelTree turns program channel
+  -- the gain, with the table that its file holds
+  pub g : GainOf TableTree
+  pub is_gain : GainIn program.target gain (held contents (tables_of (Leak gain))) (Ok g)
+  pub inners : List Inner
+  pub is_hyper : IsHyperOf (joint_of turns program) inners
+  pub report : Leakage
+  pub is_report : IsLeakage g (scale_of turns program) inners report
+  pub capacity_told : capacity.out ≡ capacity_text (channel_grid channel)
+  pub leak_told : leak.out ≡ report_text g report
+
+-- the posterior is at most the prior times a grid's capacity
+abbrev pub IsWithin : Leakage → GridTree → Type 0
+IsWithin l grid = (l.posterior *ℤ pos grid.over) ≤ℤ (l.prior *ℤ pos (capacity_of grid))
+
+-- it is exactly that
+abbrev pub Meets : Leakage → GridTree → Type 0
+Meets l grid = l.posterior *ℤ pos grid.over ≡ l.prior *ℤ pos (capacity_of grid)
+
+-- where no gain is below 0, the posterior that `leak` states is at most its prior times what `capacity` states of the same text; for one guess,
+-- where all secrets weigh the same, it is exactly that
+abbrev pub CapacityBoundsLeaks : Type 0
+CapacityBoundsLeaks = (words others : List (List ℕ)) (contents : List ℕ → List ℕ) (name : List ℕ) (gain : GainOf (List ℕ)) (turns : ℕ)
+    (capacity leak : Answer)
+    → task_of words ≡ Some (on_file Capacity name turns) → IsAnswerOver words contents capacity → capacity.status ≡ 0
+    → task_of others ≡ Some (on_file (Leak gain) name turns) → IsAnswerOver others contents leak → leak.status ≡ 0
+    → (are : AreLeakAnswers contents name gain turns capacity leak)
+    × (IsNotNegative are.g → IsWithin are.report (channel_grid are.channel))
+    × (gain ≡ Bayes → (weight : ℕ) → All (λ x. value_weight are.channel.rows x ≡ weight) are.channel.secrets
+    → Meets are.report (channel_grid are.channel))

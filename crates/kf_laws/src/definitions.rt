@@ -1,5 +1,5 @@
 ghost use Rattle.kf_laws.specs.EndsOver.{CausesEndOver};
-ghost use Rattle.kf_laws.specs.Laws.{CertificatesAccepted, CoversAllPriors, ExactlyOneAnswer, NoIsSeparated, QuietIsNoBetter};
+ghost use Rattle.kf_laws.specs.Laws.{CapacityBoundsLeaks, CertificatesAccepted, CoversAllPriors, ExactlyOneAnswer, NoIsSeparated, QuietIsNoBetter};
 ghost use Rattle.kf_laws.specs.Refusals.{RefusalsAreReasoned, RunsAreRefusedAs};
 
 use kf_attack::{attack_laws, reach_laws};
@@ -10,6 +10,7 @@ use kf_core::{joint_laws, run_laws};
 use kf_gain::{average_laws, gain_laws, table_laws};
 use kf_lex::one_reading;
 use kf_make::made_laws;
+use kf_order::leakage_laws;
 use kf_parse::{grammar, refusals};
 use kf_prior::{full_laws, prior_laws};
 use kf_quiet::{blame_laws, quiet_laws};
@@ -108,4 +109,18 @@ pub fn quiet_leaks_no_more()
     refusals();
     type_laws();
     quiet_laws();
+}
+
+/// A law of the definitions: where no gain is below 0, the posterior vulnerability that `leak` prints is at most its prior one times what
+/// `capacity` prints of the same text; for one guess, where all secrets weigh the same, it is exactly that (Alvim et al. 2020, miracle). It
+/// does nothing when it runs.
+pub fn capacity_bounds_leaks()
+    ensures { CapacityBoundsLeaks }
+{
+    reasoned_refusals();
+    one_reading();
+    grammar();
+    refusals();
+    type_laws();
+    leakage_laws();
 }

@@ -11,6 +11,7 @@ mod ShownAnswers
 mod SilentRefines
 mod SizedTargets
 mod SomeAnswer
+mod StructuralVerdicts
 mod TaskFiles
 mod TaskRefusals
 mod WrittenCertificates

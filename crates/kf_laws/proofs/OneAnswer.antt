@@ -182,7 +182,7 @@ module _ (rows_are_one : RowsAreOne) where
   one_traces target scale joint r s p q =
       p.2 ∙ ap (λ (rows : List Row). prints (trace_text target scale rows)) (rows_are_one joint p.0 q.0 p.1 q.1) ∙ sym q.2
 
-  one_channel_shown : (target : List Item) (joint : List Cell) → HasOne (ChannelOf target joint)
+  pub one_channel_shown : (target : List Item) (joint : List Cell) → HasOne (ChannelOf target joint)
   one_channel_shown target joint r s p q =
       let rows : p.0 ≡ q.0 = rows_are_one joint p.0 q.0 p.1 q.1 in
       let secrets : p.2.0 ≡ q.2.0 = one_secrets q.0 p.2.0 q.2.0 (subst (λ (rs : List Row). AreSecrets rs p.2.0) rows p.2.1) q.2.1 in

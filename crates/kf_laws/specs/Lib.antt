@@ -6,4 +6,5 @@ pub mod Laws
 pub mod Refusals
 pub mod Rooms
 pub mod Silence
+pub mod Structure
 pub mod Written

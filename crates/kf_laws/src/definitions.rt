@@ -1,6 +1,7 @@
 ghost use Rattle.kf_laws.specs.EndsOver.{CausesEndOver};
 ghost use Rattle.kf_laws.specs.Laws.{CapacityBoundsLeaks, CertificatesAccepted, CoversAllPriors, ExactlyOneAnswer, NoIsSeparated, QuietIsNoBetter};
 ghost use Rattle.kf_laws.specs.Refusals.{RefusalsAreReasoned, RunsAreRefusedAs};
+ghost use Rattle.kf_laws.specs.Structure.{ChannelIsPrinted, VerdictsAreStructural};
 
 use kf_attack::{attack_laws, reach_laws};
 use kf_cert::{cert_laws, mark_laws};
@@ -10,7 +11,7 @@ use kf_core::{joint_laws, run_laws};
 use kf_gain::{average_laws, gain_laws, table_laws};
 use kf_lex::one_reading;
 use kf_make::made_laws;
-use kf_order::leakage_laws;
+use kf_order::{leakage_laws, structural_laws};
 use kf_parse::{grammar, refusals};
 use kf_prior::{full_laws, prior_laws};
 use kf_quiet::{blame_laws, quiet_laws};
@@ -123,4 +124,22 @@ pub fn capacity_bounds_leaks()
     refusals();
     type_laws();
     leakage_laws();
+}
+
+/// Laws of the definitions: what `channel` prints of a text is its program's channel; and where two pairs of texts, each with one prior, have
+/// the same channel matrices, `refine` gives both pairs the same verdict, whatever these priors are (Alvim et al. 2020, refinement of
+/// channels). They do nothing when they run.
+pub fn structural_verdicts()
+    ensures printed { ChannelIsPrinted }
+    ensures structural { VerdictsAreStructural }
+{
+    reasoned_refusals();
+    one_reading();
+    grammar();
+    refusals();
+    type_laws();
+    joint_laws();
+    run_laws();
+    full_laws();
+    structural_laws();
 }

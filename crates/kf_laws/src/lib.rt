@@ -10,7 +10,7 @@ mod silence;
 
 pub use definitions::{
     capacity_bounds_leaks, certificates_accepted, covers_all_priors, exactly_one_answer,
-    quiet_leaks_no_more, reasoned_refusals, told_answers,
+    quiet_leaks_no_more, reasoned_refusals, structural_verdicts, told_answers,
 };
 pub use runs::{check_what_was_written, run_in_memory, run_over_sure_files};
 pub use silence::silent_refines;

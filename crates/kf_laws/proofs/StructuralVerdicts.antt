@@ -9,11 +9,12 @@ use Rattle.kf_channel.specs.Channels.{all_initial}
 use Rattle.kf_capacity.specs.Grids.{ChannelTree, channel_grid}
 use Rattle.kf_refine.specs.Refinements.{HyperTree}
 use Rattle.kf_refine.specs.Verdicts.{VerdictTree, Yes, No, Proves}
+use Rattle.kf_refine.specs.declared.verdict.RefineError.{RefineError}
 use Rattle.kf_order.specs.Structure.{AreShown, HaveOneMatrix, HaveOnePrior, IsStructural}
 use Rattle.kf_text.specs.Texts.{channel_text}
 use Rattle.kf_load.specs.Steps.{After, Each, Gives, Refused, Step, refusal}
 use Rattle.kf_load.specs.Texts.{File, Text, TextOf, cleared}
-use Rattle.kf_top.specs.Answer.{ChannelOf, IsChannelTree, IsHyperTree, Shown, initial, is_yes, prints}
+use Rattle.kf_top.specs.Answer.{ChannelOf, IsChannelTree, IsHyperTree, Shown, VerdictShown, initial, is_yes, prints}
 use Rattle.kf_top.specs.Ends.{Answer, showing}
 use Rattle.kf_top.specs.Outcome.{ClearedOf}
 use Rattle.kf_words.specs.Task.{Channel, Command, Refine, on_file, on_files}
@@ -66,6 +67,13 @@ module _ (turns : ℕ) where
       (one.0 ∷ other.0 ∷ [], two TextOf f g one.0 other.0 one.1 other.1, two (λ t. Gives (cleared turns t)) one.0 other.0 p q one.2 other.2)
 
 -- ---- verdicts
+
+-- what is shown of a verdict proves it, and gives the status
+by_verdict : (json : Bool) (a b : HyperTree) (r : Result VerdictTree RefineError) (answer : Answer) (shown : Shown) → answer ≡ showing shown → VerdictShown json a b r (Ok shown)
+    → (v : VerdictTree) × Proves a b v × (answer.status ≡ (if is_yes v then 0 else 1))
+by_verdict json a b r answer shown shows is =
+    let v = verdict_of json a b r shown is in
+    (v.0, v.2, ap (λ (x : Answer). x.status) shows ∙ ap (λ (s : Shown). if s.yes then 0 else 1) v.3)
 
 -- a status by a verdict on the hypers of two channels with one prior
 record IsCompared (c d : ChannelTree) (status : ℕ) : Type 0 where
@@ -127,7 +135,7 @@ module _ (one_cleared : (command : Command) (turns : ℕ) (programs : List File)
         let a = refined.0 in
         let b = refined.1 in
         let hypers = refined.2 in
-        let v = verdict_of is.json a b refined.3.0 w.0 refined.3.2 in
+        let v = by_verdict is.json a b refined.3.0 answer w.0 w.1 refined.3.2 in
         record {
           a = a;
           b = b;
@@ -139,8 +147,8 @@ module _ (one_cleared : (command : Command) (turns : ℕ) (programs : List File)
           one_prior =
               subst (λ (m : ℕ). HaveOnePrior m c b.scale d) (sym hypers.first.scale)
               (subst (λ (n : ℕ). HaveOnePrior (scale_of turns is.p) c n d) (sym hypers.second.scale) is.one_prior);
-          proves = v.2;
-          status_is = ap (λ (x : Answer). x.status) w.1 ∙ ap (λ (s : Shown). if s.yes then 0 else 1) v.3;
+          proves = v.1;
+          status_is = v.2;
         }
 
     pub verdicts_are_structural : IsStructural → VerdictsAreStructural

@@ -3,7 +3,6 @@ pub mod Onward
 pub mod Blocks
 pub mod Turns
 pub mod Silencing
-pub mod SilentForms
 pub mod SilentPrograms
 pub mod Forms
 pub mod Parts

@@ -1,5 +1,5 @@
 -- A part of a program's statements: what can be pushed through what is left can be pushed through a part of it, and then through the rest.
-use Rattle.std.proofs.Common.{◌≡◌, ℕ, ◌+◌, ◌-◌, ◌≤◌, ◌<◌, List, [], ◌∷◌, ◌++◌, All, length, map, take, drop, get_or, refl, sym, ap, ◌∙◌, subst, arith}
+use Rattle.std.proofs.Common.{◌≡◌, ℕ, ◌+◌, ◌-◌, ◌≤◌, ◌<◌, List, [], ◌∷◌, ◌++◌, All, None, length, map, take, drop, get_or, refl, sym, ap, ◌∙◌, subst, arith}
 use Rattle.std.proofs.lemmas.List.{drop-drop, drop-map, length-map, take-append-drop, take-map, take_more}
 use Rattle.std.proofs.lemmas.List.Elements.{All-append, All-cons, All-nil}
 use Rattle.kf_value.proofs.ListLemmas.{left_step}
@@ -22,8 +22,10 @@ use Rattle.kf_eval.specs.Kinds.{shape_kinds}
 use Rattle.kf_value.specs.Kinds.{KindTree}
 use Rattle.kf_quiet.specs.Following.{Goes}
 use Rattle.kf_run.specs.Going.{CanGo, HasGone}
+use Rattle.kf_run.specs.Silence.{silent_at}
 use Rattle.kf_hyper.proofs.Beliefs.{merged_below, merged_columns, merged_mass}
-use Rattle.kf_run.proofs.Blocks.{alone_gone, alone_on, block, block_full, next_can}
+use Rattle.kf_run.proofs.Blocks.{block, block_full, single_can, single_gone}
+use Rattle.kf_run.proofs.Silencing as silencing
 use Rattle.kf_quiet.proofs.Carrying.{Matrix, Runner, goes_behind, goes_merged, pushed_merged}
 use Rattle.kf_quiet.proofs.Statements.{goes_first, goes_ready, ready_goes}
 
@@ -150,14 +152,26 @@ module _ (program own : Program) (turns given from to : ℕ) (us : List St) (is 
       → AreSound (shape_kinds own.shape) (map st_tree (part from to us))
   own_sound sound = subst (λ (h : Had). AreSound (shape_kinds h.0.shape) (map st_tree (part from to h.1.1))) had sound
 
-  pub own_can : (now : Joint) → CanGo (block program.shape turns (map st_tree (part from to (st_items program.body)))) (shape_size program.shape) now
+  had_can : (now : Joint) → CanGo (block program.shape turns (map st_tree (part from to (st_items program.body)))) (shape_size program.shape) now
       → CanGo (block own.shape given (map st_tree (part from to us))) (shape_size own.shape) now
-  own_can now can = subst (λ (h : Had). CanGo (block h.0.shape h.1.0 (map st_tree (part from to h.1.1))) (shape_size h.0.shape) now) had can
+  had_can now can = subst (λ (h : Had). CanGo (block h.0.shape h.1.0 (map st_tree (part from to h.1.1))) (shape_size h.0.shape) now) had can
 
-  pub own_gone : (now after : Joint) → HasGone (block own.shape given (map st_tree (part from to us))) (shape_size own.shape) now after
+  had_gone : (now after : Joint) → HasGone (block own.shape given (map st_tree (part from to us))) (shape_size own.shape) now after
       → HasGone (block program.shape turns (map st_tree (part from to (st_items program.body)))) (shape_size program.shape) now after
-  own_gone now after gone = subst (λ (h : Had). HasGone (block h.0.shape h.1.0 (map st_tree (part from to h.1.1))) (shape_size h.0.shape) now after)
+  had_gone now after gone = subst (λ (h : Had). HasGone (block h.0.shape h.1.0 (map st_tree (part from to h.1.1))) (shape_size h.0.shape) now after)
       (sym had) gone
+
+  -- they are pushed through where nothing is silent
+  pub own_can : (now : Joint) → CanGo (block program.shape turns (map st_tree (part from to (st_items program.body)))) (shape_size program.shape) now
+      → CanGo (silencing.all own.shape given (silent_at None) 0 (map st_tree (part from to us))) (shape_size own.shape) now
+  own_can now can =
+      subst (λ (f : Runner). CanGo f (shape_size own.shape) now) (silencing.none_all own.shape given (map st_tree (part from to us))) (had_can now can)
+
+  pub own_gone : (now after : Joint) → HasGone (silencing.all own.shape given (silent_at None) 0 (map st_tree (part from to us))) (shape_size own.shape) now after
+      → HasGone (block program.shape turns (map st_tree (part from to (st_items program.body)))) (shape_size program.shape) now after
+  own_gone now after gone =
+      had_gone now after
+      (subst (λ (f : Runner). HasGone f (shape_size own.shape) now after) (sym (silencing.none_all own.shape given (map st_tree (part from to us)))) gone)
 
 -- the part of one statement is this statement
 part_one : {X Y : Type 0} (f : X → Y) (at : ℕ) (xs : List X) (x : X) → map f (drop at xs) ≡ f x ∷ map f (drop (at + 1) xs)
@@ -187,13 +201,13 @@ module _ (own : Program) (given at : ℕ) (us : List St) (s : St) (one : map st_
     alone_can = subst (λ xs. CanGo (block own.shape given xs) (shape_size own.shape) now) one can
 
     one_can : CanGo (runs (shape_types own.shape) given (st_tree s)) (shape_size own.shape) now
-    one_can = next_can own.shape given (block own.shape given (st_tree s ∷ [])) now (st_tree s) [] now (alone_on own.shape given (st_tree s) now alone_sound alone_can)
+    one_can = single_can own.shape given (st_tree s) now alone_sound alone_can
 
     one_gone : (after : Joint) → HasGone (runs (shape_types own.shape) given (st_tree s)) (shape_size own.shape) now after
         → HasGone (block own.shape given (map st_tree (part at (at + 1) us))) (shape_size own.shape) now after
     one_gone after gone =
         subst (λ xs. HasGone (block own.shape given xs) (shape_size own.shape) now after) (sym one)
-        (alone_gone own.shape given (st_tree s) now after alone_sound alone_can gone)
+        (single_gone own.shape given (st_tree s) now alone_sound alone_can after gone)
 
 -- one statement of a program, both had by calls: it can be pushed through, and what comes of it is what comes of the part
 module _ (program own : Program) (turns given at : ℕ) (us : List St) (s : St) (is : own ≡ program) (same : given ≡ turns) (read : us ≡ st_items own.body)
@@ -214,16 +228,16 @@ module _ (program own : Program) (turns given at : ℕ) (us : List St) (s : St) 
       (below : All (IsBelow (shape_size program.shape)) columns.columns)
       (ready : IsReady (shape_types program.shape) turns (drop at (map st_tree (st_items program.body))) columns.columns) where
     all_can : CanGo (block own.shape given (map st_tree (part at (at + 1) us))) (shape_size own.shape) columns
-    all_can = own_can program own turns given at (at + 1) us is same read columns
+    all_can = had_can program own turns given at (at + 1) us is same read columns
         (part_can program turns at (at + 1) next checked agrees chains columns are ready fits below)
 
-    pub step_can : CanGo (runs (shape_types own.shape) given (st_tree s)) (shape_size own.shape) columns
-    step_can = one_can own given at us s alone all_sound columns all_can
+    pub step_can : CanGo (silencing.one own.shape given (silent_at None) (st_tree s)) (shape_size own.shape) columns
+    step_can = silencing.none_can own.shape given (st_tree s) columns (one_can own given at us s alone all_sound columns all_can)
 
-    module _ (after : Joint) (gone : HasGone (runs (shape_types own.shape) given (st_tree s)) (shape_size own.shape) columns after) where
+    module _ (after : Joint) (gone : HasGone (silencing.one own.shape given (silent_at None) (st_tree s)) (shape_size own.shape) columns after) where
       all_gone : HasGone (block program.shape turns (map st_tree (part at (at + 1) (st_items program.body)))) (shape_size program.shape) columns after
-      all_gone = own_gone program own turns given at (at + 1) us is same read columns after
-          (one_gone own given at us s alone all_sound columns all_can after gone)
+      all_gone = had_gone program own turns given at (at + 1) us is same read columns after
+          (one_gone own given at us s alone all_sound columns all_can after (silencing.none_gone own.shape given (st_tree s) columns after gone))
 
       pub step_pushed : IsPushed (block program.shape turns (part at (at + 1) (map st_tree (st_items program.body)))) columns.columns after.columns
       step_pushed = part_pushed program turns at (at + 1) next checked agrees chains columns are ready after.columns all_gone.pushed

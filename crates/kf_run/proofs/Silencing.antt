@@ -1,7 +1,6 @@
--- What holds of columns pushed through statements of which one is silent.
-use Rattle.std.proofs.Common.{◌≡◌, ℕ, suc, ◌+◌, ◌<◌, ◌≤◌, ◌==◌, Bool, true, false, ◌&&◌, List, [], ◌∷◌, ◌++◌, All, drop, get_or, length, take, Option, None, Some, refl, sym, ap, ◌∙◌, subst, arith}
-use Rattle.std.specs.Borrow.{Bor}
-use Rattle.std.proofs.lemmas.Bool.{eq-eqb, false_from_ne_true}
+-- What holds of columns pushed through statements of which one may be silent.
+use Rattle.std.proofs.Common.{◌≡◌, ℕ, suc, ◌+◌, ◌<◌, ◌≤◌, ◌==◌, Bool, true, false, ◌&&◌, List, [], ◌∷◌, ◌++◌, All, get_or, length, take, None, refl, sym, ap, ◌∙◌, subst, arith}
+use Rattle.std.proofs.lemmas.Bool.{eq-eqb, false_from_ne_true, ne_eqb}
 use Rattle.std.specs.Prelude.{sum_by}
 use Rattle.std.proofs.lemmas.List.{take_all, take_more}
 use Rattle.std.proofs.lemmas.List.Elements.{All-append, All-cons, All-head, All-nil}
@@ -19,7 +18,7 @@ use Rattle.kf_hyper.proofs.Beliefs.{merged_below}
 use Rattle.kf_hyper.proofs.Scaling.{total_positive}
 use Rattle.kf_core.specs.Checked.{AreSound, IsSound}
 use Rattle.kf_core.specs.Pushing.{AreBehind}
-use Rattle.kf_core.specs.Runs.{Run, all_runs, runs}
+use Rattle.kf_core.specs.Runs.{Run, all_runs, runs, stay}
 use Rattle.kf_core.specs.Sts.{StTree, sts}
 use Rattle.kf_core.proofs.Measures.{RunsWithin, Trace, run_value, runs_value}
 use Rattle.kf_core.proofs.SoundParts.{sound_first}
@@ -29,13 +28,13 @@ use Rattle.kf_quiet.specs.Erased.{IsErased}
 use Rattle.kf_quiet.specs.Following.{Takes}
 use Rattle.kf_quiet.specs.Merging.{SplitsOnce}
 use Rattle.kf_quiet.specs.Quiet.{hushed}
-use Rattle.kf_quiet.proofs.Carrying.{Runner, Matrix, behind_columns, none_behind}
+use Rattle.kf_quiet.proofs.Carrying.{Runner, Matrix, behind_columns, none_behind, pushed_stay}
 use Rattle.kf_quiet.proofs.QuietBlock.{behind_more}
 use Rattle.kf_quiet.proofs.QuietRuns.{goes_alike, sum_behind}
 use Rattle.kf_quiet.proofs.Splitting.{splits_once}
 use Rattle.kf_silent.specs.Silent.{Path, all_silent_runs, only, silent_runs, within}
 use Rattle.kf_silent.proofs.Hushing.{SameHushed, block_hushed, statement_hushed}
-use Rattle.kf_silent.proofs.Ranges.{silent_hushed, statement_seen}
+use Rattle.kf_silent.proofs.Ranges.{block_seen, silent_hushed, statement_seen}
 use Rattle.kf_silent.proofs.SilentGoes.{same_full}
 use Rattle.kf_silent.proofs.SilentSplits as traces
 use Rattle.kf_run.specs.Going.{CanGo, HasGone}
@@ -58,38 +57,10 @@ only_beside n m path rest other is apart =
     first_is : (a b : ℕ) (s t : Path) → a ∷ s ≡ b ∷ t → a ≡ b
     first_is a b s t e = cc
 
-pub only_empty : (n : ℕ) (path other : Path) → path ≡ [] → false ≡ only path (n ∷ other)
-only_empty n path other is = ap (λ (p : Path). only p (n ∷ other)) (sym is)
-
--- a path with a first number is this number and its rest
-pub path_parts : (path : Path) (n m : ℕ) → 0 < length path → n ≡ get_or path 0 m → path ≡ n ∷ drop 1 path
-path_parts [] n m some is = absurd (omega (arith, some))
-path_parts (k ∷ path) n m some is = ap (λ (j : ℕ). j ∷ path) (sym is)
-
-pub empty_path : (path : Path) → length path ≡ 0 → path ≡ []
-empty_path [] none = refl
-empty_path (n ∷ path) none = absurd (omega (arith, none))
-
-pub none_at : (silent : Option (Bor (List ℕ))) → ((at : Bor (List ℕ)) → silent ≡ Some at → ⊥) → (path : Path) → silent_at silent path ≡ false
-none_at None none path = refl
-none_at (Some at) none path = absurd (none at refl)
-
-pub itself_at : (silent : Option (Bor (List ℕ))) (at : Bor (List ℕ)) → silent ≡ Some at → length at.now ≡ 0 → silent_at silent [] ≡ true
-itself_at silent at is none =
-    ap (λ (s : Option (Bor (List ℕ))). silent_at s []) is ∙ ap (λ (p : Path). only p []) (empty_path at.now none)
-
-pub outside_at : (silent : Option (Bor (List ℕ))) (at : Bor (List ℕ)) → silent ≡ Some at → (b : Bool) → b ≡ (length at.now == 0) → b ≡ false
-    → silent_at silent [] ≡ false
-outside_at silent at is b empty some = ap (λ (s : Option (Bor (List ℕ))). silent_at s []) is ∙ not_empty at.now b empty some
-  where
-    not_empty : (path : Path) (b : Bool) → b ≡ (length path == 0) → b ≡ false → only path [] ≡ false
-    not_empty [] b empty some = absurd (cc)
-    not_empty (n ∷ path) b empty some = refl
-
--- the path goes on within the statement as its rest after a number
-pub inner_at : (silent : Option (Bor (List ℕ))) (at : Bor (List ℕ)) (n : ℕ) (inner : Option (Bor (List ℕ))) → silent ≡ Some at
-    → ((other : Path) → silent_at inner other ≡ only at.now (n ∷ other)) → (other : Path) → silent_at inner other ≡ silent_at silent (n ∷ other)
-inner_at silent at n inner is goes other = goes other ∙ ap (λ (s : Option (Bor (List ℕ))). silent_at s (n ∷ other)) (sym is)
+-- a path names the statement itself where it is empty
+pub itself_at : (path : Path) → (length path == 0) ≡ only path []
+itself_at [] = refl
+itself_at (n ∷ path) = ne_eqb (length (n ∷ path)) 0 (λ none. omega (arith, none))
 
 -- ---- runs that differ in their traces alone
 
@@ -271,8 +242,19 @@ module _ (shape : Shape) (turns : ℕ) where
   seen_can silent x now can = can_alike (one silent x) (runs ts turns x) size now (statement_hushed ts turns silent x) can
 
   -- where nothing is silent, they are the same
-  pub seen_is : (silent : Path → Bool) (x : StTree) → ((path : Path) → silent path ≡ false) → runs (shape_types shape) turns x ≡ one silent x
-  seen_is silent x none = λ i n. sym (statement_seen ts turns silent x none n) i
+  none_silent : (x : StTree) → runs (shape_types shape) turns x ≡ one (silent_at None) x
+  none_silent x = λ i n. sym (statement_seen ts turns (silent_at None) x (λ path. refl) n) i
+
+  pub none_all : (xs : List StTree) → all_runs (shape_types shape) turns (sts xs) ≡ all (silent_at None) 0 xs
+  none_all xs = λ i n. sym (block_seen ts turns (silent_at None) 0 (sts xs) (λ j path later. refl) n) i
+
+  pub none_can : (x : StTree) (now : Joint) → CanGo (runs (shape_types shape) turns x) (shape_size shape) now
+      → CanGo (one (silent_at None) x) (shape_size shape) now
+  none_can x now = subst (λ (from : Runner). CanGo from size now) (none_silent x)
+
+  pub none_gone : (x : StTree) (now after : Joint) → HasGone (one (silent_at None) x) (shape_size shape) now after
+      → HasGone (runs (shape_types shape) turns x) (shape_size shape) now after
+  none_gone x now after = subst (λ (from : Runner). HasGone from size now after) (sym (none_silent x))
 
   -- where the statement itself is silent, nothing is seen of its runs
   pub itself_is : (silent : Path → Bool) (x : StTree) → silent [] ≡ true → (λ n. hushed (runs (shape_types shape) turns x n)) ≡ one silent x
@@ -322,6 +304,15 @@ module _ (shape : Shape) (turns : ℕ) where
                 (all_carries silent (suc i) left others_sound).full on.on (one_carries (within silent i) x next_sound) next
                 (subst (λ (from : Runner). HasGone from size now next) (same_one here (within silent i) x is) gone);
           })
+
+  -- a skip leaves merged columns as they are
+  pub silent_skip : (whole : Runner) (silent : Path → Bool) (before : Joint) (i : ℕ) (x : StTree) (left : List StTree) (now : Joint)
+      → stay ≡ one (within silent i) x → SilentOn whole silent before i (x ∷ left) now → SilentOn whole silent before (i + 1) left now
+  silent_skip whole silent before i x left now skips on =
+      let can = next_can whole silent before i x left now on (within silent i) (λ path. refl) in
+      silent_step whole silent before i x left now on (within silent i) (λ path. refl) now
+      (subst (λ (from : Runner). HasGone from size now now) skips
+      (record { pushed = pushed_stay now.columns now.columns can.are on.merged; scale = refl; below = can.below })) on.merged
 
   pub silent_end : (whole : Runner) (silent : Path → Bool) (before : Joint) (i : ℕ) (left : List StTree) (now : Joint) → left ≡ []
       → SilentOn whole silent before i left now → HasGone whole (shape_size shape) before now

@@ -1,5 +1,5 @@
 -- What holds of columns pushed through a whole program in which one statement is silent.
-use Rattle.std.proofs.Common.{◌≡◌, ℕ, suc, ◌+◌, ◌-◌, ◌<◌, Bool, false, List, [], ◌∷◌, ◌++◌, All, drop, get_or, length, map, take, refl, sym, ap, ◌∙◌, subst, arith}
+use Rattle.std.proofs.Common.{◌≡◌, ℕ, suc, ◌+◌, ◌-◌, ◌<◌, Bool, false, List, [], ◌∷◌, ◌++◌, All, None, drop, get_or, length, map, take, refl, sym, ap, ◌∙◌, subst, arith}
 use Rattle.std.proofs.lemmas.List.{drop-map, length-drop, length-map, length-take-le, take-append-drop, take_all}
 use Rattle.std.proofs.lemmas.List.Elements.{All-cons, All-nil}
 use Rattle.kf_value.proofs.ListLemmas.{left_step}
@@ -32,10 +32,10 @@ use Rattle.kf_silent.proofs.SilentGoes.{block_goes, blocks_chain, silent_hyper, 
 use Rattle.kf_run.specs.Before.{meant}
 use Rattle.kf_run.specs.Behind.{Behind, front}
 use Rattle.kf_run.specs.Going.{CanGo, HasGone}
-use Rattle.kf_run.proofs.Blocks.{block}
+use Rattle.kf_run.specs.Silence.{silent_at}
 use Rattle.kf_run.proofs.Onward.{carried_mass}
 use Rattle.kf_run.proofs.Parts.{sound_behind}
-use Rattle.kf_run.proofs.Silencing.{SilentOn, all, all_carries, next_can, next_sound, one, only_after, only_beside, silent_start, silent_step}
+use Rattle.kf_run.proofs.Silencing.{SilentOn, all, all_carries, next_can, next_sound, none_all, one, only_after, only_beside, silent_start, silent_step}
 
 -- where no statement of a block is silent up to some place, and it is no longer
 front_seen : (ts : List TypeTree) (turns : ℕ) (silent : Path → Bool) (i : ℕ) (xs : List StTree)
@@ -83,8 +83,10 @@ module _ (program : Program) (turns at : ℕ) (path : Path) (now : Joint) (is : 
   beside : (j : ℕ) (other : Path) → (at ≡ j → ⊥) → silent (j ∷ other) ≡ false
   beside j other apart = sym (only_beside j at (at ∷ path) path other refl apart)
 
-  rest_seen : all program.shape turns silent (at + 1) rest ≡ block program.shape turns rest
-  rest_seen = λ i n. block_seen ts turns silent (at + 1) (sts rest) (λ j other later. beside j other (λ same. omega (arith, later, same))) n i
+  rest_seen : all program.shape turns silent (at + 1) rest ≡ all program.shape turns (silent_at None) 0 rest
+  rest_seen =
+      (λ i n. block_seen ts turns silent (at + 1) (sts rest) (λ j other later. beside j other (λ same. omega (arith, later, same))) n i)
+      ∙ none_all program.shape turns rest
 
   -- ---- the statements before, this one and those after it
 
@@ -153,10 +155,10 @@ module _ (program : Program) (turns at : ℕ) (path : Path) (now : Joint) (is : 
     pub rest_sound : AreSound (shape_kinds program.shape) (map st_tree (take (length us - (at + 1)) (drop (at + 1) us)))
     rest_sound = past.sound
 
-    pub rest_can : CanGo (block program.shape turns (map st_tree (take (length us - (at + 1)) (drop (at + 1) us)))) (shape_size program.shape) silenced
+    pub rest_can : CanGo (all program.shape turns (silent_at None) 0 (map st_tree (take (length us - (at + 1)) (drop (at + 1) us)))) (shape_size program.shape) silenced
     rest_can = subst (λ (from : Runner). CanGo from size silenced) rest_seen past.on.can
 
-    module _ (after : Joint) (done : HasGone (block program.shape turns (map st_tree (take (length us - (at + 1)) (drop (at + 1) us)))) (shape_size program.shape) silenced after) where
+    module _ (after : Joint) (done : HasGone (all program.shape turns (silent_at None) 0 (map st_tree (take (length us - (at + 1)) (drop (at + 1) us)))) (shape_size program.shape) silenced after) where
       onward_pushed : IsPushed onward now.columns after.columns
       onward_pushed = past.on.leads after.columns (subst (λ (from : Runner). IsPushed from silenced.columns after.columns) (sym rest_seen) done.pushed)
 

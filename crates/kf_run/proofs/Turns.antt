@@ -33,7 +33,7 @@ module _ (size : ℕ) (guard : ℕ → Tried) (filled : (n : ℕ) → Filled (gu
     pub fits : mass asking.columns + mass left.columns ≤ before.scale
     pub leads : (after : Matrix) → comes rest asking.columns left.columns after → comes turns before.columns [] after
 
-  pub loop_start : (before none : Joint) → none ≡ record { scale = before.scale; columns = [] } → CanGo (loop_of turns) size before
+  loop_start : (before none : Joint) → none ≡ record { scale = before.scale; columns = [] } → CanGo (loop_of turns) size before
       → LoopOn before turns before none
   loop_start before none is can =
       subst (LoopOn before turns before) (sym is) (record {
@@ -58,7 +58,7 @@ module _ (size : ℕ) (guard : ℕ → Tried) (filled : (n : ℕ) → Filled (gu
   }
 
   -- where no column asks, the loop ends
-  pub loop_none : (before : Joint) (rest : ℕ) (asking left : Joint) → LoopOn before rest asking left → asking.columns ≡ []
+  loop_none : (before : Joint) (rest : ℕ) (asking left : Joint) → LoopOn before rest asking left → asking.columns ≡ []
       → HasGone (loop_of turns) size before left
   loop_none before rest asking left on none =
       all_gone before left
@@ -67,7 +67,7 @@ module _ (size : ℕ) (guard : ℕ → Tried) (filled : (n : ℕ) → Filled (gu
       on.left_scale on.left_below
 
   -- the guard can be asked
-  pub asks : (rest : ℕ) (columns : Matrix) → Goes (loop_of rest) columns → Goes (observed guard) columns
+  asks : (rest : ℕ) (columns : Matrix) → Goes (loop_of rest) columns → Goes (observed guard) columns
   asks zero columns goes = goes_guard guard filled (λ n. stopped LoopBound at) stay (λ n. tt) (λ n. tt) columns goes
   asks (suc rest) columns goes =
       goes_guard guard filled (λ n. chain (body n) (loop_of rest)) stay
@@ -92,7 +92,7 @@ module _ (size : ℕ) (guard : ℕ → Tried) (filled : (n : ℕ) → Filled (gu
 
     -- those on the true side go through the body
     module _ (rest : ℕ) (on : LoopOn before (suc rest) asking left) where
-      pub turn_can : CanGo body size taken
+      turn_can : CanGo body size taken
       turn_can = record {
         are = pushed_columns (side true guard) asking.columns taken.columns sides.to_taken;
         below = sides.below_taken;
@@ -101,7 +101,7 @@ module _ (size : ℕ) (guard : ℕ → Tried) (filled : (n : ℕ) → Filled (gu
             sides.to_taken;
       }
 
-      pub loop_step : (more next : Joint) → AreMerged (left.columns ++ gone.columns) more.columns → more.scale ≡ left.scale → HasGone body size taken next
+      loop_step : (more next : Joint) → AreMerged (left.columns ++ gone.columns) more.columns → more.scale ≡ left.scale → HasGone body size taken next
           → LoopOn before rest next more
       loop_step more next merged scale went =
           let kept = carried_mass body taken.columns next.columns carries turn_can.goes went.pushed in
@@ -127,7 +127,7 @@ module _ (size : ℕ) (guard : ℕ → Tried) (filled : (n : ℕ) → Filled (gu
           }
 
     -- behind the last turn those on the false side leave
-    pub loop_end : LoopOn before zero asking left → (after : Joint) → AreMerged (left.columns ++ gone.columns) after.columns → after.scale ≡ left.scale
+    loop_end : LoopOn before zero asking left → (after : Joint) → AreMerged (left.columns ++ gone.columns) after.columns → after.scale ≡ left.scale
         → HasGone (loop_of turns) size before after
     loop_end on after merged scale =
         all_gone before after
@@ -142,6 +142,51 @@ pub record Looping (size : ℕ) (guard : ℕ → Tried) (at turns : ℕ) (body :
   pub on : LoopOn size guard filled at turns body carries before rest asking left
 
 -- a list without length is empty
-pub none_there : (columns : Matrix) → length columns ≡ 0 → columns ≡ []
+none_there : (columns : Matrix) → length columns ≡ 0 → columns ≡ []
 none_there [] empty = refl
 none_there (c ∷ cs) empty = absurd (omega arith)
+
+module _ (size : ℕ) (guard : ℕ → Tried) (at turns : ℕ) (body : Runner) (before : Joint) where
+  -- before the first turn all ask, and none has left
+  pub turns_begin : ((n : ℕ) → Filled (guard n)) → Carries body → CanGo (looped turns guard at body) size before → (rest : ℕ) (asking none : Joint)
+      → turns ≡ rest → asking ≡ before → none ≡ record { scale = before.scale; columns = [] } → Looping size guard at turns body before rest asking none
+  turns_begin filled carries can rest asking none all same is = record {
+    filled = filled;
+    carries = carries;
+    on =
+        subst (λ (h : ℕ × Joint). LoopOn size guard filled at turns body carries before h.0 h.1 none) (λ i. (all i, sym same i))
+        (loop_start size guard filled at turns body carries before none is can);
+  }
+
+  module _ (rest : ℕ) (asking left : Joint) (here : Looping size guard at turns body before rest asking left) where
+    -- the guard can be asked
+    pub asks_again : Goes (observed guard) asking.columns
+    asks_again = asks size guard here.filled at turns body here.carries rest asking.columns here.on.can.goes
+
+    -- where no column asks, the loop ends
+    pub none_asks : length asking.columns ≡ 0 → HasGone (looped turns guard at body) size before left
+    none_asks empty = loop_none size guard here.filled at turns body here.carries before rest asking left here.on (none_there asking.columns empty)
+
+    module _ (taken gone : Joint) (sides : AreSides size guard asking taken gone) where
+      -- with a turn to come, those on the true side go through the body
+      module _ (later : ℕ) (turn : rest ≡ suc later) where
+        to_come : LoopOn size guard here.filled at turns body here.carries before (suc later) asking left
+        to_come = subst (λ (k : ℕ). LoopOn size guard here.filled at turns body here.carries before k asking left) turn here.on
+
+        pub takes_turn : CanGo body size taken
+        takes_turn = turn_can size guard here.filled at turns body here.carries before asking left taken gone sides later to_come
+
+        pub turns_on : (more next : Joint) → AreMerged (left.columns ++ gone.columns) more.columns → more.scale ≡ left.scale → HasGone body size taken next
+            → Looping size guard at turns body before later next more
+        turns_on more next merged scale went = record {
+          filled = here.filled;
+          carries = here.carries;
+          on = loop_step size guard here.filled at turns body here.carries before asking left taken gone sides later to_come more next merged scale went;
+        }
+
+      -- with none to come, those on the false side leave
+      pub turns_end : rest ≡ zero → (after : Joint) → AreMerged (left.columns ++ gone.columns) after.columns → after.scale ≡ left.scale
+          → HasGone (looped turns guard at body) size before after
+      turns_end last after merged scale =
+          loop_end size guard here.filled at turns body here.carries before asking left taken gone sides
+          (subst (λ (k : ℕ). LoopOn size guard here.filled at turns body here.carries before k asking left) last here.on) after merged scale

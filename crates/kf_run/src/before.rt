@@ -11,8 +11,7 @@ ghost use Rattle.kf_quiet.specs.Meanings.{IsMeaning};
 ghost use Rattle.kf_run.specs.Before.{IsBefore, cleared_before, meant, place_before};
 ghost use Rattle.kf_run.specs.Behind.{Behind};
 
-use crate::pushes::push_all;
-use crate::silence::silent_one;
+use crate::pushes::{push_all, push_one};
 use crate::stages::Stages;
 use kf_core::{Program, choice_laws, run_laws};
 use kf_hyper::{Columns, Hyper};
@@ -41,12 +40,13 @@ fn hyper_where(
     run_laws();
     let statements = program.body.as_slice();
     let statement = &statements[at];
-    let silenced = silent_one(alloc, &program.shape, turns, statement, Some(path), columns)?;
+    let silenced = push_one(alloc, &program.shape, turns, statement, Some(path), columns)?;
     let after = push_all(
         alloc,
         &program.shape,
         turns,
         &statements[at + 1..],
+        None,
         silenced,
     )?;
     let hyper = about_target(alloc, program, &after)?;

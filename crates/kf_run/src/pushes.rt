@@ -1,38 +1,43 @@
-//! Columns of stores pushed through statements.
+//! Columns of stores pushed through statements of which one may be silent: what is leaked within it is left out, and all else is as ever.
 
-ghost use Rattle.std.specs.Prelude.{◌≡◌, ◌≤◌, ◌<◌, ◌+◌, ◌-◌, ◌++◌, [], List, All, length, map, take, drop, IfOk};
+ghost use Rattle.std.specs.Prelude.{◌≡◌, ◌≤◌, ◌<◌, ◌+◌, ◌-◌, ◌++◌, false, [], ◌∷◌, List, All, length, map, take, drop, IfOk};
 ghost use Rattle.kf_value.specs.Kinds.{TruthKind};
 ghost use Rattle.kf_value.specs.Shapes.{shape_size, shape_types};
-ghost use Rattle.kf_hyper.specs.Columns.{IsColumn};
-ghost use Rattle.kf_hyper.specs.Joint.{mass};
+ghost use Rattle.kf_hyper.specs.Columns.{total};
+ghost use Rattle.kf_hyper.specs.Joint.{IsJoint, mass};
 ghost use Rattle.kf_hyper.specs.Merged.{AreMerged};
 ghost use Rattle.kf_hyper.specs.Shapes.{IsBelow};
 ghost use Rattle.kf_core.specs.Checked.{AreSound, DistKinded, IsSound};
+ghost use Rattle.kf_core.specs.Pushing.{AreBehind};
 ghost use Rattle.kf_core.specs.Ready.{IsPushed, IsReady};
 ghost use Rattle.kf_core.specs.Runs.{all_runs, looped, place, runs, tried};
 ghost use Rattle.kf_core.specs.Sts.{sts};
 ghost use Rattle.kf_core.specs.Views.{dx_tree, program_tree, st_tree};
 ghost use Rattle.kf_eval.specs.Kinds.{shape_kinds};
 ghost use Rattle.kf_support.specs.Cleared.{program_of, turns_of, whole_scale};
+ghost use Rattle.kf_quiet.specs.Quiet.{hushed};
+ghost use Rattle.kf_silent.specs.Silent.{all_silent_runs, silent_runs};
 ghost use Rattle.kf_run.specs.Going.{CanGo, HasGone};
+ghost use Rattle.kf_run.specs.Silence.{silent_at};
 
+use crate::silence::{is_itself, within};
 use crate::steps::{assignment, guard, show};
 use kf_core::{Dx, St, run_laws};
-use kf_hyper::{ColumnList, Columns, join, merge, merge_owned};
-use kf_quiet::are_columns;
+use kf_hyper::{Column, ColumnList, Columns, join, merge, merge_owned};
+use kf_quiet::{are_columns, erase};
 use kf_support::Cleared;
 use kf_value::{Mem, Shape};
 use std::alloc::Global;
 
 /// No columns, over the scale of these.
-pub(crate) fn none_of(alloc: Global, columns: &Columns) -> Columns
+fn none_of(alloc: Global, columns: &Columns) -> Columns
     ensures { result ≡ record { scale = columns.now.scale; columns = [] } }
 {
     Columns::new(columns.scale(), ColumnList::new(Vec::new(alloc)))
 }
 
 /// Both lists as one, with those of one posterior added up.
-pub(crate) fn merge_both(alloc: Global, one: Columns, other: Columns) -> Result<Columns, Mem>
+fn merge_both(alloc: Global, one: Columns, other: Columns) -> Result<Columns, Mem>
     requires one_scale { one.scale ≡ other.scale }
     requires fits { mass one.columns + mass other.columns ≤ one.scale }
     ensures merged { IfOk result (λ after. AreMerged (one.columns ++ other.columns) after.columns) }
@@ -43,9 +48,66 @@ pub(crate) fn merge_both(alloc: Global, one: Columns, other: Columns) -> Result<
     Ok(merged)
 }
 
-/// What columns become in a statement, with those of one posterior added up. They needn't be merged before.
+/// The one column alone.
+fn alone(alloc: Global, scale: u128, column: &Column) -> Result<Columns, Mem>
+    requires joint { IsJoint (record { scale = scale; columns = column.now ∷ [] }) }
+    ensures { IfOk result (λ one. one ≡ record { scale = scale; columns = column.now ∷ [] }) }
+{
+    let mut list = Vec::new(alloc);
+    list.push(column.copy(alloc)?)?;
+    Ok(Columns::new(scale, ColumnList::new(list)))
+}
+
+/// What columns become in a statement where the one at this path within it is silent, if there is a path, with those of one posterior added
+/// up. They needn't be merged before.
 #[cycle(push)]
 pub(crate) fn push_one(
+    alloc: Global,
+    shape: &Shape,
+    turns: u32,
+    statement: &St,
+    silent: Option<&[usize]>,
+    columns: &Columns,
+) -> Result<Columns, Mem>
+    requires sound { IsSound (shape_kinds shape.now) (st_tree statement.now) }
+    requires can { CanGo (silent_runs (silent_at silent) (shape_types shape.now) turns (st_tree statement.now)) (shape_size shape.now) columns.now }
+    ensures { IfOk result (λ after. HasGone (silent_runs (silent_at silent.entry) (shape_types shape.now) turns (st_tree statement.now)) (shape_size shape.now) columns.now after) }
+{
+    if is_itself(silent) {
+        hush(alloc, shape, turns, statement, columns)
+    } else {
+        push_seen(alloc, shape, turns, statement, silent, columns)
+    }
+}
+
+/// What one column becomes in a silent statement: the sum of all that comes of it.
+#[cycle(push)]
+fn hush_one(
+    alloc: Global,
+    shape: &Shape,
+    turns: u32,
+    statement: &St,
+    scale: u128,
+    column: &Column,
+) -> Result<Column, Mem>
+    requires sound { IsSound (shape_kinds shape.now) (st_tree statement.now) }
+    requires can { CanGo (runs (shape_types shape.now) turns (st_tree statement.now)) (shape_size shape.now) (record { scale = scale; columns = column.now ∷ [] }) }
+    requires joint { IsJoint (record { scale = scale; columns = column.now ∷ [] }) }
+    ensures behind { IfOk result (λ after. AreBehind (λ n. hushed (runs (shape_types shape.now) turns (st_tree statement.now) n)) (column.now ∷ []) (after ∷ [])) }
+    ensures below { IfOk result (λ after. IsBelow (shape_size shape.now) after) }
+    ensures total { IfOk result (λ after. total after ≡ total column.now) }
+{
+    let one = alone(alloc, scale, column)?;
+    let after = push_seen(alloc, shape, turns, statement, None, &one)?;
+    let erased = erase(alloc, &after)?;
+    are_columns(&erased);
+    let sum = erased.columns().as_slice()[0].copy(alloc)?;
+    Ok(sum)
+}
+
+/// What columns become in a silent statement: each goes through it alone, and what comes of it is added up.
+#[cycle(push)]
+fn hush(
     alloc: Global,
     shape: &Shape,
     turns: u32,
@@ -54,7 +116,33 @@ pub(crate) fn push_one(
 ) -> Result<Columns, Mem>
     requires sound { IsSound (shape_kinds shape.now) (st_tree statement.now) }
     requires can { CanGo (runs (shape_types shape.now) turns (st_tree statement.now)) (shape_size shape.now) columns.now }
-    ensures { IfOk result (λ after. HasGone (runs (shape_types shape.now) turns (st_tree statement.now)) (shape_size shape.now) columns.now after) }
+    ensures { IfOk result (λ after. HasGone (λ n. hushed (runs (shape_types shape.now) turns (st_tree statement.now) n)) (shape_size shape.now) columns.now after) }
+{
+    are_columns(columns);
+    let mut list = Vec::new(alloc);
+    for column in columns.columns().as_slice() {
+        let sum = hush_one(alloc, shape, turns, statement, columns.scale(), column)?;
+        list.push(sum)?;
+    }
+    let hushed = Columns::new(columns.scale(), ColumnList::new(list));
+    let after = merge_owned(alloc, hushed)?;
+    Ok(after)
+}
+
+/// What columns become in a statement that isn't silent itself, where this one within it may be.
+#[cycle(push)]
+fn push_seen(
+    alloc: Global,
+    shape: &Shape,
+    turns: u32,
+    statement: &St,
+    silent: Option<&[usize]>,
+    columns: &Columns,
+) -> Result<Columns, Mem>
+    requires seen { silent_at silent [] ≡ false }
+    requires sound { IsSound (shape_kinds shape.now) (st_tree statement.now) }
+    requires can { CanGo (silent_runs (silent_at silent) (shape_types shape.now) turns (st_tree statement.now)) (shape_size shape.now) columns.now }
+    ensures { IfOk result (λ after. HasGone (silent_runs (silent_at silent.entry) (shape_types shape.now) turns (st_tree statement.now)) (shape_size shape.now) columns.now after) }
 {
     match statement {
         St::Skip => {
@@ -75,18 +163,21 @@ pub(crate) fn push_one(
             no,
         } => {
             let sides = guard(alloc, shape, test, columns)?;
-            let one = push_all(alloc, shape, turns, yes.as_slice(), sides.taken)?;
-            let other = push_all(alloc, shape, turns, no.as_slice(), sides.left)?;
+            let taken = within(silent, 0);
+            let one = push_all(alloc, shape, turns, yes.as_slice(), taken, sides.taken)?;
+            let left = within(silent, 1);
+            let other = push_all(alloc, shape, turns, no.as_slice(), left, sides.left)?;
             let after = merge_both(alloc, one, other)?;
             Ok(after)
         }
         St::While { guard: test, body } => {
-            push_loop(alloc, shape, turns, test, body.as_slice(), columns)
+            let turned = within(silent, 0);
+            push_loop(alloc, shape, turns, test, body.as_slice(), turned, columns)
         }
     }
 }
 
-/// What columns become in a loop with at most so many turns.
+/// What columns become in a loop with at most so many turns, where this statement of its body is silent in each turn.
 ///
 /// Behind each turn those that leave join those that left before, and the others ask the guard again.
 #[cycle(push)]
@@ -96,12 +187,13 @@ fn push_loop(
     turns: u32,
     test: &Dx,
     body: &[St],
+    silent: Option<&[usize]>,
     columns: &Columns,
 ) -> Result<Columns, Mem>
     requires kinded { DistKinded (shape_kinds shape.now) (dx_tree test.now) TruthKind }
     requires sound { AreSound (shape_kinds shape.now) (map st_tree body.now) }
-    requires can { CanGo (looped turns (tried (shape_types shape.now) (dx_tree test.now)) (place (dx_tree test.now)) (all_runs (shape_types shape.now) turns (sts (map st_tree body.now)))) (shape_size shape.now) columns.now }
-    ensures { IfOk result (λ after. HasGone (looped turns (tried (shape_types shape.now) (dx_tree test.now)) (place (dx_tree test.now)) (all_runs (shape_types shape.now) turns (sts (map st_tree body.now)))) (shape_size shape.now) columns.now after) }
+    requires can { CanGo (looped turns (tried (shape_types shape.now) (dx_tree test.now)) (place (dx_tree test.now)) (all_silent_runs (silent_at silent) (shape_types shape.now) turns 0 (sts (map st_tree body.now)))) (shape_size shape.now) columns.now }
+    ensures { IfOk result (λ after. HasGone (looped turns (tried (shape_types shape.now) (dx_tree test.now)) (place (dx_tree test.now)) (all_silent_runs (silent_at silent.entry) (shape_types shape.now) turns 0 (sts (map st_tree body.now)))) (shape_size shape.now) columns.now after) }
 {
     let mut left = none_of(alloc, columns);
     let mut asking = columns.copy(alloc)?;
@@ -111,32 +203,36 @@ fn push_loop(
         }
         let sides = guard(alloc, shape, test, &asking)?;
         left = merge_both(alloc, left, sides.left)?;
-        asking = push_all(alloc, shape, turns, body, sides.taken)?;
+        asking = push_all(alloc, shape, turns, body, silent, sides.taken)?;
     }
     let sides = guard(alloc, shape, test, &asking)?;
     let after = merge_both(alloc, left, sides.left)?;
     Ok(after)
 }
 
-/// What merged columns become in statements, one after the other. A `skip` leaves them as they are.
+/// What merged columns become in statements, one after the other, where this one of them is silent. A `skip` leaves them as they are.
 #[cycle(push)]
 pub(crate) fn push_all(
     alloc: Global,
     shape: &Shape,
     turns: u32,
     statements: &[St],
+    silent: Option<&[usize]>,
     columns: Columns,
 ) -> Result<Columns, Mem>
     requires sound { AreSound (shape_kinds shape.now) (map st_tree statements.now) }
     requires merged { AreMerged columns.columns columns.columns }
-    requires can { CanGo (all_runs (shape_types shape.now) turns (sts (map st_tree statements.now))) (shape_size shape.now) columns }
-    ensures { IfOk result (λ after. HasGone (all_runs (shape_types shape.now) turns (sts (map st_tree statements.now))) (shape_size shape.now) columns after) }
+    requires can { CanGo (all_silent_runs (silent_at silent) (shape_types shape.now) turns 0 (sts (map st_tree statements.now))) (shape_size shape.now) columns }
+    ensures { IfOk result (λ after. HasGone (all_silent_runs (silent_at silent.entry) (shape_types shape.now) turns 0 (sts (map st_tree statements.now))) (shape_size shape.now) columns after) }
 {
     let mut now = columns;
-    for statement in statements {
+    for (at, statement) in statements.iter().enumerate() {
         match statement {
             St::Skip => {}
-            _ => now = push_one(alloc, shape, turns, statement, &now)?,
+            _ => {
+                let here = within(silent, at);
+                now = push_one(alloc, shape, turns, statement, here, &now)?;
+            }
         }
     }
     Ok(now)
@@ -159,7 +255,7 @@ pub fn push_at(alloc: Global, c: &Cleared, at: usize, columns: &Columns) -> Resu
     are_columns(columns);
     let program = c.program();
     let statement = &program.body.as_slice()[at];
-    let after = push_one(alloc, &program.shape, c.turns(), statement, columns)?;
+    let after = push_one(alloc, &program.shape, c.turns(), statement, None, columns)?;
     Ok(after)
 }
 
@@ -189,6 +285,6 @@ pub fn push(
     let merged = merge(alloc, columns)?;
     let program = c.program();
     let statements = &program.body.as_slice()[from..to];
-    let after = push_all(alloc, &program.shape, c.turns(), statements, merged)?;
+    let after = push_all(alloc, &program.shape, c.turns(), statements, None, merged)?;
     Ok(after)
 }

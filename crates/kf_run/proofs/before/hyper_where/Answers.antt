@@ -3,15 +3,15 @@ use Rattle.kf_quiet.proofs.Carrying.{pushed_again}
 use Rattle.kf_run.proofs.SilentPrograms as silent
 use Rattle.kf_run.proofs.before.hyper_where.Goals as goal
 
-pub silent_one-requires-clause-sound : goal.silent_one-requires-clause-sound
-silent_one-requires-clause-sound c =
+pub push_one-requires-clause-sound : goal.push_one-requires-clause-sound
+push_one-requires-clause-sound c =
     silent.statement_sound c.args.program.now c.args.turns c.args.at c.args.path.now c.args.columns.now c.requires.meaning c.choice_laws.ensures.shares
     c.run_laws.ensures.program c.run_laws.ensures.sequence c.run_laws.ensures.positive c.run_laws.ensures.least c.run_laws.ensures.block
     c.requires.behind.0 c.requires.behind.1 c.as_slice-statements.result.now c.as_slice-statements.ensures c.index-statements-at.result c.index-statements-at.is
     c.requires.within
 
-pub silent_one-requires-clause-can : goal.silent_one-requires-clause-can
-silent_one-requires-clause-can c =
+pub push_one-requires-clause-can : goal.push_one-requires-clause-can
+push_one-requires-clause-can c =
     silent.statement_can c.args.program.now c.args.turns c.args.at c.args.path.now c.args.columns.now c.requires.meaning c.choice_laws.ensures.shares
     c.run_laws.ensures.program c.run_laws.ensures.sequence c.run_laws.ensures.positive c.run_laws.ensures.least c.run_laws.ensures.block
     c.requires.behind.0 c.requires.behind.1 c.as_slice-statements.result.now c.as_slice-statements.ensures c.index-statements-at.result c.index-statements-at.is

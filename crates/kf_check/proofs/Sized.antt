@@ -44,7 +44,7 @@ mutual
 upright : (lo hi : ℤ) → in_bounds lo hi ≡ true → 0 < counted (hi -ℤ lo)
 upright lo hi h = grind (arith, ints)
 
-product_some : (a b : ℕ) → 0 < a → 0 < b → 0 < a * b
+pub product_some : (a b : ℕ) → 0 < a → 0 < b → 0 < a * b
 product_some a b ha hb = let grown : a * 1 ≤ a * b = mul-le-mul_left a hb in omega arith
 
 no_fault_after : (o : Option TyFault) (limit : ℕ) (t : TypeTree) → crowded_after o limit t ≡ None → o ≡ None
@@ -56,7 +56,7 @@ no_first None p h = (refl, h)
 no_first (Some f) p h = absurd (cc)
 
 mutual
-  valued : (t : TypeTree) (limit : ℕ) → fault_within limit t ≡ None → 0 < count t
+  pub valued : (t : TypeTree) (limit : ℕ) → fault_within limit t ≡ None → 0 < count t
   valued Boolean limit h = omega arith
   valued (Range lo hi) limit h = by (in_bounds lo hi) refl h
     where

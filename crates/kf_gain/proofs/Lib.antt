@@ -8,6 +8,7 @@ pub mod Judging
 pub mod Losing
 pub mod Measures
 pub mod Reports
+pub mod Sought
 pub mod TableOnce
 pub mod TableSome
 pub mod TargetTexts

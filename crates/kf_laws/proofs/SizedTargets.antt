@@ -1,16 +1,11 @@
 -- The items of a typed program's target have types that have a size, and so the target has some value.
-use Rattle.std.specs.Prelude.{if◌then◌else◌}
-use Rattle.std.proofs.Common.{◌≡◌, ℕ, ℤ, ◌-ℤ◌, ◌*◌, ◌<◌, ◌≤◌, Bool, true, false, List, [], ◌∷◌, ◌++◌, Option, None, Some, Result, Ok, Err, refl, sym, ap, subst, arith}
+use Rattle.std.proofs.Common.{◌≡◌, ℕ, ◌<◌, false, List, [], ◌∷◌, ◌++◌, Option, None, Some, Result, Ok, Err, refl, sym, ap, subst, arith}
 use Rattle.std.specs.List.{AllByRecursion as Every}
-use Rattle.std.proofs.Math.Nat.{mul-le-mul_left}
-use Rattle.std.proofs.lemmas.Nat.{pow_pos}
-use Rattle.std.proofs.lemmas.Int.{ints}
 use Rattle.kf_value.specs.declared.ty.TyFault.{TyFault}
-use Rattle.kf_value.specs.declared.ty.TyFault.TheVariants.{BadRange}
 use Rattle.kf_value.specs.Numbers.{target_size}
-use Rattle.kf_value.specs.Sizes.{HasSize, fault_of, fault_within, first_fault, crowded, crowded_after, first_of, size_of}
+use Rattle.kf_value.specs.Sizes.{HasSize, fault_of, size_of}
 use Rattle.kf_value.specs.Targets.{Item}
-use Rattle.kf_value.specs.Types.{TypeTree, TypeTrees, Boolean, Range, TupleOf, SetOf, no_type, more_types, count, counts, product, in_bounds, counted}
+use Rattle.kf_value.specs.Types.{TypeTree, count, product}
 use Rattle.kf_value.proofs.ListLemmas.{each_append, each_at, each_map}
 use Rattle.kf_ast.specs.Names.{name}
 use Rattle.kf_ast.specs.Sources.{DeclTree, declared, ItemTree, SourceTree}
@@ -21,37 +16,7 @@ use Rattle.kf_check.specs.Sources.{Variable, JudgesDecl, JudgesDecls}
 use Rattle.kf_check.specs.Translation.{AreItems, IsTarget, Typed}
 use Rattle.kf_check.specs.Translation as becomes
 use Rattle.kf_check.specs.Types.{greatest_size, JudgesType}
-
--- ---- a type that has a size has some value
-
-upright : (lo hi : ℤ) → in_bounds lo hi ≡ true → 0 < counted (hi -ℤ lo)
-upright lo hi h = grind (arith, ints)
-
-product_some : (a b : ℕ) → 0 < a → 0 < b → 0 < a * b
-product_some a b ha hb = let grown : a * 1 ≤ a * b = mul-le-mul_left a hb in omega arith
-
-no_fault_after : (o : Option TyFault) (limit : ℕ) (t : TypeTree) → crowded_after o limit t ≡ None → o ≡ None
-no_fault_after None limit t h = refl
-no_fault_after (Some f) limit t h = absurd (cc)
-
-no_first : (o p : Option TyFault) → first_of o p ≡ None → (o ≡ None) × (p ≡ None)
-no_first None p h = (refl, h)
-no_first (Some f) p h = absurd (cc)
-
-mutual
-  valued : (t : TypeTree) (limit : ℕ) → fault_within limit t ≡ None → 0 < count t
-  valued Boolean limit h = omega arith
-  valued (Range lo hi) limit h = by (in_bounds lo hi) refl h
-    where
-      by : (b : Bool) → in_bounds lo hi ≡ b → (if b then crowded limit (count (Range lo hi)) else Some BadRange) ≡ None → 0 < count (Range lo hi)
-      by true inside h = upright lo hi inside
-      by false outside h = absurd (cc)
-  valued (TupleOf ts) limit h = all_valued ts (no_fault_after (first_fault ts) limit (TupleOf ts) h)
-  valued (SetOf t) limit h = pow_pos (count t)
-
-  all_valued : (ts : TypeTrees) → first_fault ts ≡ None → 0 < product (counts ts)
-  all_valued no_type h = omega arith
-  all_valued (more_types t ts) h = let none = no_first (fault_within 65536 t) (first_fault ts) h in product_some (count t) (product (counts ts)) (valued t 65536 none.0) (all_valued ts none.1)
+use Rattle.kf_check.proofs.Sized.{product_some, valued}
 
 -- its type has a size
 abbrev pub IsSized : Item → Type 0

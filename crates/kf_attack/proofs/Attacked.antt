@@ -1,8 +1,8 @@
 -- The attacks of inners, one after the other.
 use Rattle.std.proofs.Common.{ℕ, ◌+◌, ◌*◌, ◌<◌, List, [], ◌∷◌, ◌++◌, refl, length, take, get_or}
 use Rattle.std.proofs.lemmas.Slice.Zip.{all_zipped_more}
-use Rattle.kf_hyper.specs.Columns.{total}
-use Rattle.kf_hyper.specs.Hypers.{Inner}
+use Rattle.kf_column.specs.Columns.{total}
+use Rattle.kf_column.specs.Hypers.{Inner}
 use Rattle.kf_gain.specs.Gains.{GainOf, TableTree, over_of}
 use Rattle.kf_attack.specs.declared.attack.Attack.{Attack}
 use Rattle.kf_attack.specs.Attacks.{AttackTree, IsAttack, AreAttacks}

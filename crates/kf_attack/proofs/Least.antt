@@ -4,7 +4,7 @@ use Rattle.std.specs.Prelude.{pos, IsTrue}
 use Rattle.std.proofs.Math.Nat.{mul-le-mul_left, eq-zero-or-pos}
 use Rattle.std.proofs.lemmas.Bool.{cases_lt}
 use Rattle.kf_frac.specs.Parts.{IsFraction}
-use Rattle.kf_hyper.proofs.Scaling.{product_positive}
+use Rattle.kf_column.proofs.Scaling.{product_positive}
 use Rattle.kf_gain.proofs.Falling.{all, front, front_taken, front_less}
 use Rattle.kf_attack.specs.declared.reach.Reach.{Reach}
 use Rattle.kf_attack.specs.Positions.{IsLeast, tree_of}

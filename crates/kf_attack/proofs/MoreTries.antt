@@ -7,14 +7,14 @@ use Rattle.std.proofs.lemmas.Bool.{cases_order}
 use Rattle.std.proofs.lemmas.Int.{ints, by_lt_z}
 use Rattle.std.proofs.lemmas.List.{length-map}
 use Rattle.std.proofs.lemmas.List.Sums.{sum_by-cons}
-use Rattle.kf_hyper.specs.declared.entry.Entry.{Entry}
-use Rattle.kf_hyper.specs.Columns.{weight_at, total, values}
-use Rattle.kf_hyper.specs.Hypers.{Inner}
-use Rattle.kf_hyper.specs.Shapes.{IsShape}
-use Rattle.kf_hyper.specs.Averages.{joint_column}
+use Rattle.kf_column.specs.declared.entry.Entry.{Entry}
+use Rattle.kf_column.specs.Columns.{weight_at, total, values}
+use Rattle.kf_column.specs.Hypers.{Inner}
+use Rattle.kf_column.specs.Shapes.{IsShape}
+use Rattle.kf_column.specs.Averages.{joint_column}
 use Rattle.kf_hyper.proofs.Averaging.{sum-mapped}
-use Rattle.kf_hyper.proofs.Scaling.{product_positive}
-use Rattle.kf_hyper.proofs.Weights.{Above, ascending_above}
+use Rattle.kf_column.proofs.Scaling.{product_positive}
+use Rattle.kf_column.proofs.Weights.{Above, ascending_above}
 use Rattle.kf_gain.specs.Gains.{Tries}
 use Rattle.kf_gain.specs.Worth.{IsVulnerability}
 use Rattle.kf_gain.specs.Vulnerabilities.{IsPosterior}

@@ -14,10 +14,10 @@ use Rattle.std.proofs.lemmas.List.Sorted.{IsPermutation-refl, IsPermutation-cons
 use Rattle.std.proofs.lemmas.List.Sorted.{IsPermutation-append_left, IsPermutation-append_comm, Contains-permutation, All-permutation}
 use Rattle.kf_value.proofs.ListLemmas.{each_weaker}
 use Rattle.kf_value.proofs.Sorting.{sorted-nil, sorted-cons, sorted-head, sorted-tail}
-use Rattle.kf_hyper.specs.declared.entry.Entry.{Entry}
-use Rattle.kf_hyper.specs.Columns.{IsColumn}
-use Rattle.kf_hyper.proofs.AtMostOne.{In, Ordered, same_lists}
-use Rattle.kf_hyper.proofs.Weights.{Above, above_column}
+use Rattle.kf_column.specs.declared.entry.Entry.{Entry}
+use Rattle.kf_column.specs.Columns.{IsColumn}
+use Rattle.kf_column.proofs.AtMostOne.{In, Ordered, same_lists}
+use Rattle.kf_column.proofs.Weights.{Above, above_column}
 use Rattle.kf_gain.proofs.Falling.{Falls}
 use Rattle.kf_attack.specs.Attacks.{AreRanked, rank}
 

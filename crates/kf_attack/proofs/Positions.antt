@@ -3,10 +3,10 @@ use Rattle.std.proofs.Common.{◌≡◌, ℕ, ◌+◌, ◌*◌, ◌<◌, ◌≤�
 use Rattle.std.proofs.Math.Nat.{mul-add, mul-zero, mul-le-mul_left}
 use Rattle.std.proofs.lemmas.Bool.Decides.{nat_tests}
 use Rattle.std.proofs.lemmas.List.Sums.{sum_by-cons}
-use Rattle.kf_hyper.specs.declared.entry.Entry.{Entry}
-use Rattle.kf_hyper.specs.Columns.{total}
+use Rattle.kf_column.specs.declared.entry.Entry.{Entry}
+use Rattle.kf_column.specs.Columns.{total}
 use Rattle.kf_hyper.specs.Views.{entry_at}
-use Rattle.kf_hyper.proofs.Scaling.{total-cons, times_if}
+use Rattle.kf_column.proofs.Scaling.{total-cons, times_if}
 use Rattle.kf_gain.proofs.Falling.{all, front, front-nil}
 
 abbrev pub weights : List Entry → List ℕ

@@ -3,11 +3,11 @@ use Rattle.std.proofs.Common.{◌≡◌, ℕ, ◌/◌, ◌*◌, List, [], ◌∷
 use Rattle.std.specs.Prelude.{ℤ, pos, ◌*ℤ◌, ◌≤ℤ◌, Contains}
 use Rattle.std.proofs.lemmas.Int.{ints}
 use Rattle.std.proofs.lemmas.List.Elements.{All-head, All-tail, All-map, Contains-get_or}
-use Rattle.kf_hyper.specs.declared.entry.Entry.{Entry}
-use Rattle.kf_hyper.specs.Columns.{IsColumn, total}
-use Rattle.kf_hyper.specs.Hypers.{Inner, IsInner}
-use Rattle.kf_hyper.specs.Shapes.{IsShape}
-use Rattle.kf_hyper.specs.Averages.{joint_column}
+use Rattle.kf_column.specs.declared.entry.Entry.{Entry}
+use Rattle.kf_column.specs.Columns.{IsColumn, total}
+use Rattle.kf_column.specs.Hypers.{Inner, IsInner}
+use Rattle.kf_column.specs.Shapes.{IsShape}
+use Rattle.kf_column.specs.Averages.{joint_column}
 use Rattle.kf_gain.specs.declared.table.Action.{Action}
 use Rattle.kf_gain.specs.Gains.{GainOf, Bayes, Tries, Guessing, Table, TableTree, over_of}
 use Rattle.kf_gain.specs.Laws.{HasActions}

@@ -3,11 +3,11 @@ use Rattle.std.proofs.Common.{◌≡◌, ℕ, List, [], ◌∷◌, All, map, ref
 use Rattle.std.specs.Prelude.{pos, IsPermutation}
 use Rattle.std.proofs.lemmas.List.Elements.{All-head, All-tail}
 use Rattle.std.proofs.lemmas.List.Sorted.{IsPermutation-map, All-permutation}
-use Rattle.kf_hyper.specs.declared.entry.Entry.{Entry}
-use Rattle.kf_hyper.specs.Columns.{weight_at, total, values, IsColumn}
-use Rattle.kf_hyper.proofs.Scaling.{total-cons}
+use Rattle.kf_column.specs.declared.entry.Entry.{Entry}
+use Rattle.kf_column.specs.Columns.{weight_at, total, values, IsColumn}
+use Rattle.kf_column.proofs.Scaling.{total-cons}
 use Rattle.kf_hyper.proofs.Searching.{weight_found}
-use Rattle.kf_hyper.proofs.Weights.{above_column}
+use Rattle.kf_column.proofs.Weights.{above_column}
 use Rattle.kf_gain.specs.Gains.{Bayes, Tries, Guessing}
 use Rattle.kf_gain.specs.Worth.{IsVulnerability, cost_from}
 use Rattle.kf_gain.proofs.Falling.{front, costs}

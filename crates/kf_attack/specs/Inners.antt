@@ -1,8 +1,8 @@
 -- For bodies: the best that can be done at one inner, as it is shown.
 use Rattle.std.specs.Prelude.{ℕ, ◌+◌, ◌*◌, ℤ, List, [], ◌∷◌}
 use Rattle.kf_frac.specs.Parts.{IsFraction}
-use Rattle.kf_hyper.specs.declared.entry.Entry.{Entry}
-use Rattle.kf_hyper.specs.Columns.{total}
+use Rattle.kf_column.specs.declared.entry.Entry.{Entry}
+use Rattle.kf_column.specs.Columns.{total}
 use Rattle.kf_gain.specs.Gains.{GainOf, TableTree, over_of}
 use Rattle.kf_gain.specs.Worth.{IsVulnerability}
 use Rattle.kf_attack.specs.Attacks.{BestTree, IsBest}

@@ -1,9 +1,9 @@
 -- For bodies: laws of attacks.
 use Rattle.std.specs.Prelude.{◌≡◌, ℕ, ◌/◌, ◌<◌, ◌≤◌, ℤ, pos, ◌+ℤ◌, ◌*ℤ◌, ◌≤ℤ◌, List, [], ◌∷◌, All, Contains}
-use Rattle.kf_hyper.specs.declared.entry.Entry.{Entry}
-use Rattle.kf_hyper.specs.Columns.{IsColumn, total, values}
-use Rattle.kf_hyper.specs.Hypers.{Inner}
-use Rattle.kf_hyper.specs.Shapes.{IsShape}
+use Rattle.kf_column.specs.declared.entry.Entry.{Entry}
+use Rattle.kf_column.specs.Columns.{IsColumn, total, values}
+use Rattle.kf_column.specs.Hypers.{Inner}
+use Rattle.kf_column.specs.Shapes.{IsShape}
 use Rattle.kf_gain.specs.Gains.{GainOf, Bayes, Tries, Guessing, Table, TableTree}
 use Rattle.kf_gain.specs.Laws.{HasActions}
 use Rattle.kf_gain.specs.Worth.{IsVulnerability, cost_from}

@@ -1,6 +1,6 @@
 -- For bodies: what each further try gains over all inners, and how many of them come to what is wanted.
 use Rattle.std.specs.Prelude.{ℕ, ◌*◌, ◌-◌, ◌<◌, ◌≤◌, pos, List, take, sum}
-use Rattle.kf_hyper.specs.Hypers.{Inner}
+use Rattle.kf_column.specs.Hypers.{Inner}
 use Rattle.kf_gain.specs.Gains.{Tries}
 use Rattle.kf_gain.specs.Vulnerabilities.{IsPosterior}
 use Rattle.kf_attack.specs.Attacks.{ReachTree}

@@ -2,7 +2,7 @@
 use Rattle.std.specs.Prelude.{◌≡◌, ℕ, pos, ◌<◌, List, [], map, length, slice_index_or}
 use Rattle.std.specs.List.{AllZip, range_with_len}
 use Rattle.kf_frac.specs.Parts.{IsFraction}
-use Rattle.kf_hyper.specs.declared.entry.Entry.{Entry}
+use Rattle.kf_column.specs.declared.entry.Entry.{Entry}
 use Rattle.kf_gain.specs.Gains.{GainOf, Table, TableTree}
 use Rattle.kf_gain.specs.declared.table.Action.{Action}
 use Rattle.kf_attack.specs.Attacks.{AttackTree, BestTree, Values, Scores, NamedGain, ReachTree}

@@ -2,7 +2,7 @@
 
 ghost use Rattle.std.specs.Prelude.{◌≡◌, ◌≤◌, ◌<◌, ◌*◌, ℕ, List, IfOk, IsErrOf, length};
 ghost use Rattle.kf_frac.specs.Fractions.{limit};
-ghost use Rattle.kf_hyper.specs.Columns.{IsColumn, total};
+ghost use Rattle.kf_column.specs.Columns.{IsColumn, total};
 ghost use Rattle.kf_hyper.specs.Views.{inners_of, scale_of};
 ghost use Rattle.kf_gain.specs.Vulnerabilities.{IsWidth, width};
 ghost use Rattle.kf_gain.specs.Views.{gain_tree};

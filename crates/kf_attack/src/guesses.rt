@@ -3,7 +3,7 @@
 ghost use Rattle.std.specs.Prelude.{◌≡◌, ◌≤◌, ◌<◌, ◌*◌, IfOk, length};
 ghost use Rattle.std.specs.List.{AllZip};
 ghost use Rattle.kf_frac.specs.Fractions.{limit};
-ghost use Rattle.kf_hyper.specs.Columns.{IsColumn, total};
+ghost use Rattle.kf_column.specs.Columns.{IsColumn, total};
 ghost use Rattle.kf_gain.specs.Gains.{Tries, Guessing};
 ghost use Rattle.kf_attack.specs.Inners.{IsShownBest, cost_of};
 ghost use Rattle.kf_attack.specs.Views.{ShowsValue};

@@ -1,7 +1,7 @@
 //! The order in which values are guessed.
 
 ghost use Rattle.std.specs.Prelude.{IfOk};
-ghost use Rattle.kf_hyper.specs.Columns.{IsColumn};
+ghost use Rattle.kf_column.specs.Columns.{IsColumn};
 ghost use Rattle.kf_attack.specs.Attacks.{AreRanked};
 
 use kf_hyper::Entry;

@@ -2,7 +2,7 @@
 
 ghost use Rattle.std.specs.Prelude.{◌≡◌, ◌≤◌, ◌*◌, IfOk, length};
 ghost use Rattle.kf_frac.specs.Fractions.{limit};
-ghost use Rattle.kf_hyper.specs.Columns.{IsColumn, total};
+ghost use Rattle.kf_column.specs.Columns.{IsColumn, total};
 ghost use Rattle.kf_gain.specs.Gains.{Table};
 ghost use Rattle.kf_gain.specs.Views.{table_tree};
 ghost use Rattle.kf_gain.specs.Vulnerabilities.{width};

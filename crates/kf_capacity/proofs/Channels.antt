@@ -10,9 +10,9 @@ use Rattle.kf_frac.specs.Fractions.{limit, reduced_num, reduced_den, parts_of}
 use Rattle.kf_frac.proofs.CommonDivisors.{gcd_is}
 use Rattle.kf_frac.proofs.LowestTerms.{reduced_num_abs, reduced_den_is}
 use Rattle.kf_frac.proofs.Multiples.{common_positive, common_divided}
-use Rattle.kf_hyper.specs.declared.entry.Entry.{Entry}
-use Rattle.kf_hyper.specs.Columns.{weight_at, values}
-use Rattle.kf_hyper.specs.Traces.{Row, value_weight}
+use Rattle.kf_column.specs.declared.entry.Entry.{Entry}
+use Rattle.kf_column.specs.Columns.{weight_at, values}
+use Rattle.kf_column.specs.Traces.{Row, value_weight}
 use Rattle.kf_hyper.proofs.Searching.{weight_found}
 use Rattle.kf_channel.specs.declared.channel.Channel.{Channel}
 use Rattle.kf_channel.specs.Laws.{RowsSumToOne}

@@ -10,7 +10,7 @@ use Rattle.kf_frac.specs.Laws.{multiple_from}
 use Rattle.kf_frac.proofs.CommonMultiples.{lcm_is}
 use Rattle.kf_frac.proofs.LowestTerms.{reduced_den_positive}
 use Rattle.kf_frac.proofs.Multiples.{ArePositive, growing, positive_from, positive_both, from_both, from_one, lcm_divides, common_positive, common_divided}
-use Rattle.kf_hyper.specs.Traces.{Row, value_weight}
+use Rattle.kf_column.specs.Traces.{Row, value_weight}
 use Rattle.kf_capacity.specs.Dens.{column_dens, dens}
 use Rattle.kf_capacity.specs.Grids.{ChannelTree, cell, cell_den, denominator}
 use Rattle.kf_capacity.specs.Laws.{LeastDenominator}

@@ -16,7 +16,7 @@ use Rattle.kf_value.specs.Targets.{target_values}
 use Rattle.kf_value.specs.Views.{value_trees}
 use Rattle.kf_value.specs.declared.value.ValueList.{ValueList}
 use Rattle.kf_value.proofs.Sorting.{sorted-head, sorted-tail}
-use Rattle.kf_hyper.specs.Traces.{Row, trace_order}
+use Rattle.kf_column.specs.Traces.{Row, trace_order}
 use Rattle.kf_capacity.specs.Compositions.{place_of, secret_values, fits, places}
 use Rattle.kf_capacity.specs.Grids.{ChannelTree}
 use Rattle.kf_capacity.proofs.TraceOrder.{traces_total}

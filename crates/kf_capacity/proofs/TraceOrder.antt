@@ -16,7 +16,7 @@ use Rattle.kf_value.proofs.ListLemmas.{each_map, each_any}
 use Rattle.kf_value.proofs.Orders.{order_total, tuples_order}
 use Rattle.kf_value.proofs.Sorting.{sorted-nil, sorted-cons, sorted-head, sorted-tail}
 use Rattle.kf_value.proofs.Trees.{parts_list-parts}
-use Rattle.kf_hyper.specs.Traces.{trace_order}
+use Rattle.kf_column.specs.Traces.{trace_order}
 use Rattle.kf_hyper.proofs.Rising.{Rises, rises}
 use Rattle.kf_capacity.proofs.Digits.{values_many}
 

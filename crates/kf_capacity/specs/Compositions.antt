@@ -8,7 +8,7 @@ use Rattle.kf_frac.specs.Divisors.{lcm_of}
 use Rattle.kf_frac.specs.Fractions.{limit}
 use Rattle.kf_value.specs.Values.{ValueTree}
 use Rattle.kf_value.specs.Targets.{target_values}
-use Rattle.kf_hyper.specs.Traces.{trace_order}
+use Rattle.kf_column.specs.Traces.{trace_order}
 use Rattle.kf_capacity.specs.Grids.{ChannelTree, GridTree, channel_grid}
 use Rattle.kf_capacity.specs.declared.error.CascadeFault.{CascadeFault}
 use Rattle.kf_capacity.specs.declared.error.CascadeFault.TheVariants as cascade

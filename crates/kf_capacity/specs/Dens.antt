@@ -1,6 +1,6 @@
 -- For bodies: the denominators of a channel's cells, column after column.
 use Rattle.std.specs.Prelude.{ℕ, List, map, flat_map}
-use Rattle.kf_hyper.specs.Traces.{Row}
+use Rattle.kf_column.specs.Traces.{Row}
 use Rattle.kf_capacity.specs.Grids.{ChannelTree, cell_den}
 
 -- those of a column, secret after secret

@@ -3,7 +3,7 @@ use Rattle.std.specs.Prelude.{◌≡◌, ℕ, pos, ◌<◌, ◌≤◌, max, List
 use Rattle.kf_frac.specs.Divisors.{common_multiple}
 use Rattle.kf_frac.specs.Fractions.{limit, reduced_den, parts_of}
 use Rattle.kf_value.specs.Targets.{Item}
-use Rattle.kf_hyper.specs.Traces.{Row, Share, share_at}
+use Rattle.kf_column.specs.Traces.{Row, Share, share_at}
 use Rattle.kf_capacity.specs.declared.error.GridFault.{GridFault}
 use Rattle.kf_capacity.specs.declared.error.GridFault.TheVariants as fault
 

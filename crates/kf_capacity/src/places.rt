@@ -3,7 +3,7 @@
 ghost use Rattle.std.specs.Prelude.{◌≡◌, map, true, false, IfOk, MatchOption};
 ghost use Rattle.std.specs.List.Sorted.{IsStrictlySortedBy};
 ghost use Rattle.kf_value.specs.Views.{value_tree, value_trees};
-ghost use Rattle.kf_hyper.specs.Traces.{trace_order};
+ghost use Rattle.kf_column.specs.Traces.{trace_order};
 ghost use Rattle.kf_capacity.specs.Compositions.{secret_values, place_of, fits, places};
 ghost use Rattle.kf_capacity.specs.Views.{channel_tree};
 

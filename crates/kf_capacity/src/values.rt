@@ -2,7 +2,7 @@
 
 ghost use Rattle.std.specs.Prelude.{◌≡◌, map};
 ghost use Rattle.kf_value.specs.Views.{value_tree};
-ghost use Rattle.kf_hyper.specs.Traces.{trace_order};
+ghost use Rattle.kf_column.specs.Traces.{trace_order};
 
 use kf_value::{Value, compare};
 use std::cmp::Ordering;

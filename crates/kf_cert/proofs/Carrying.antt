@@ -5,12 +5,12 @@ use Rattle.std.proofs.lemmas.List.Sums.{sum_by_more, sum_by_more_le}
 use Rattle.std.specs.Ordering.{nat_cmp}
 use Rattle.std.specs.Map.{keys_of}
 use Rattle.std.specs.List.Sorted.{IsStrictlySortedBy}
-use Rattle.kf_hyper.specs.declared.entry.Entry.{Entry}
-use Rattle.kf_hyper.specs.Averages.{joint_weight}
-use Rattle.kf_hyper.specs.Columns.{IsColumn, weight_at, total}
-use Rattle.kf_hyper.specs.Hypers.{Inner}
+use Rattle.kf_column.specs.declared.entry.Entry.{Entry}
+use Rattle.kf_column.specs.Averages.{joint_weight}
+use Rattle.kf_column.specs.Columns.{IsColumn, weight_at, total}
+use Rattle.kf_column.specs.Hypers.{Inner}
 use Rattle.kf_hyper.specs.Sums.{summed, ArePositive, Gains}
-use Rattle.kf_hyper.proofs.Scaling.{total-cons}
+use Rattle.kf_column.proofs.Scaling.{total-cons}
 use Rattle.kf_hyper.proofs.Summing.{summed_column}
 use Rattle.kf_refine.specs.Refinements.{HyperTree, joint}
 use Rattle.kf_cert.specs.Cells.{AreAscending, share_total, share_weight, total_at}

@@ -13,7 +13,7 @@ use Rattle.kf_frac.specs.Divisors.{common_multiple}
 use Rattle.kf_frac.specs.Fractions.{limit}
 use Rattle.kf_frac.proofs.CommonMultiples.{lcm_is}
 use Rattle.kf_frac.proofs.Multiples.{lcm_divides, common_positive, common_divided}
-use Rattle.kf_hyper.specs.Hypers.{Inner}
+use Rattle.kf_column.specs.Hypers.{Inner}
 use Rattle.kf_simplex.specs.Base.{total}
 use Rattle.kf_simplex.proofs.Sums.{total-ext}
 use Rattle.kf_refine.specs.Refinements.{HyperTree, Fraction, count, joint, CarriesWeights}

@@ -5,12 +5,12 @@ use Rattle.std.proofs.Math.Nat.{div-mul_cancel, eq-zero-or-pos, zero-mul, mul-le
 use Rattle.std.proofs.lemmas.List.Sums.{get_or-le-sum_by}
 use Rattle.std.proofs.lemmas.Nat.Gcd.{le_of_dvd}
 use Rattle.kf_frac.specs.Fractions.{limit}
-use Rattle.kf_hyper.specs.Columns.{total}
-use Rattle.kf_hyper.specs.declared.entry.Entry.{Entry}
-use Rattle.kf_hyper.specs.Hypers.{Inner, IsInner}
-use Rattle.kf_hyper.specs.Shapes.{IsShape}
+use Rattle.kf_column.specs.Columns.{total}
+use Rattle.kf_column.specs.declared.entry.Entry.{Entry}
+use Rattle.kf_column.specs.Hypers.{Inner, IsInner}
+use Rattle.kf_column.specs.Shapes.{IsShape}
 use Rattle.kf_hyper.proofs.Reading.{entry_within}
-use Rattle.kf_hyper.proofs.Scaling.{total_positive}
+use Rattle.kf_column.proofs.Scaling.{total_positive}
 
 module _ (inners : List Inner) (size scale : ℕ) (shape : IsShape size scale inners) (i : ℕ) (none : Inner) (inside : i < length inners) where
   abbrev here : Inner

@@ -3,12 +3,12 @@ use Rattle.std.proofs.Common.{◌≡◌, ℕ, ◌+◌, ◌*◌, ◌/◌, ◌<◌
 use Rattle.std.specs.Prelude.{IsPermutation}
 use Rattle.std.proofs.lemmas.List.Sorted.{sum_by-IsPermutation}
 use Rattle.std.proofs.Math.Nat.{mul_comm}
-use Rattle.kf_hyper.specs.declared.entry.Entry.{Entry}
-use Rattle.kf_hyper.specs.Averages.{scaled, joint_weight}
-use Rattle.kf_hyper.specs.Columns.{IsColumn, weight_at, total}
-use Rattle.kf_hyper.specs.Hypers.{Inner}
-use Rattle.kf_hyper.proofs.Scaling.{product_positive, weight_at-scaled}
-use Rattle.kf_hyper.proofs.Weights.{Above, above_from, above_column, same_column}
+use Rattle.kf_column.specs.declared.entry.Entry.{Entry}
+use Rattle.kf_column.specs.Averages.{scaled, joint_weight}
+use Rattle.kf_column.specs.Columns.{IsColumn, weight_at, total}
+use Rattle.kf_column.specs.Hypers.{Inner}
+use Rattle.kf_column.proofs.Scaling.{product_positive, weight_at-scaled}
+use Rattle.kf_column.proofs.Weights.{Above, above_from, above_column, same_column}
 use Rattle.kf_refine.specs.Refinements.{HyperTree, joint}
 use Rattle.kf_cert.specs.Cells.{AreAscending, AreCarried, IsCarried, column_total, column_weight, share_weight, total_at}
 use Rattle.kf_cert.specs.declared.matrix_rules.shares.Share.{Share}

@@ -21,10 +21,10 @@ use Rattle.kf_frac.specs.declared.frac.Frac.{Frac}
 use Rattle.kf_frac.proofs.LowestTerms.{reduced_num_same, reduced_den_same}
 use Rattle.kf_value.specs.Targets.{Item}
 use Rattle.kf_value.specs.Numbers.{target_size}
-use Rattle.kf_hyper.specs.Columns.{weight_at}
-use Rattle.kf_hyper.specs.Hypers.{Inner}
-use Rattle.kf_hyper.specs.Shapes.{IsBelow}
-use Rattle.kf_hyper.specs.Averages.{joint_weight, average_weight}
+use Rattle.kf_column.specs.Columns.{weight_at}
+use Rattle.kf_column.specs.Hypers.{Inner}
+use Rattle.kf_column.specs.Shapes.{IsBelow}
+use Rattle.kf_column.specs.Averages.{joint_weight, average_weight}
 use Rattle.kf_gain.specs.declared.table.Action.{Action}
 use Rattle.kf_gain.specs.declared.table.GainEntry.{GainEntry}
 use Rattle.kf_gain.specs.Gains.{TableTree}

@@ -4,7 +4,7 @@ use Rattle.std.specs.Prelude.{Ok, Err, Result}
 use Rattle.std.proofs.lemmas.Bool.{cases_lt}
 use Rattle.kf_frac.specs.Fractions.{limit}
 use Rattle.kf_refine.specs.Refinements.{HyperTree, count, Fraction, Carries}
-use Rattle.kf_hyper.specs.Hypers.{Inner}
+use Rattle.kf_column.specs.Hypers.{Inner}
 use Rattle.kf_refine.specs.Verdicts.{VerdictTree, IsVerdict}
 use Rattle.kf_refine.specs.Verdicts as verdict
 use Rattle.kf_refine.specs.Views.{IsProper}

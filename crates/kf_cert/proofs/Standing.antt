@@ -15,7 +15,7 @@ use Rattle.kf_gain.specs.Gains.{TableTree}
 use Rattle.kf_gain.specs.Shapes.{IsTableShape}
 use Rattle.kf_gain.specs.Vulnerabilities.{greatest}
 use Rattle.kf_gain.proofs.Entries.{contains_cases, contains_first, contains_later, contains_none}
-use Rattle.kf_hyper.proofs.AtMostOne.{In, Ordered, same_lists}
+use Rattle.kf_column.proofs.AtMostOne.{In, Ordered, same_lists}
 use Rattle.kf_value.specs.Targets.{Item}
 use Rattle.kf_cert.specs.declared.cert.CertAction.{CertAction}
 use Rattle.kf_cert.specs.Certificates.{NamedTable}

@@ -1,8 +1,8 @@
 -- For bodies: the rule on the cells of a matrix, inner by inner.
 use Rattle.std.specs.Prelude.{◌≡◌, ℕ, ◌*◌, ◌==◌, List, [], map, sum_by, slice_index_or, if◌then◌else◌}
 use Rattle.std.specs.List.Sorted.{IsStrictlyIncreasing}
-use Rattle.kf_hyper.specs.declared.entry.Entry.{Entry}
-use Rattle.kf_hyper.specs.Columns.{weight_at}
+use Rattle.kf_column.specs.declared.entry.Entry.{Entry}
+use Rattle.kf_column.specs.Columns.{weight_at}
 use Rattle.kf_hyper.specs.Sums.{ArePositive}
 use Rattle.kf_refine.specs.Refinements.{HyperTree, joint}
 use Rattle.kf_cert.specs.declared.matrix_rules.shares.Share.{Share}

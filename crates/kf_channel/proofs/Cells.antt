@@ -4,10 +4,10 @@ use Rattle.std.proofs.lemmas.Int.{ints}
 use Rattle.std.proofs.lemmas.List.{get_or-map, length-map}
 use Rattle.std.proofs.lemmas.List.Sums.{get_or-le-sum_by}
 use Rattle.kf_frac.specs.Fractions.{reduced_num}
-use Rattle.kf_hyper.specs.declared.entry.Entry.{Entry}
+use Rattle.kf_column.specs.declared.entry.Entry.{Entry}
 use Rattle.kf_hyper.specs.declared.traces.TraceRow.{TraceRow}
-use Rattle.kf_hyper.specs.Columns.{weight_at, values}
-use Rattle.kf_hyper.specs.Traces.{Row, value_weight}
+use Rattle.kf_column.specs.Columns.{weight_at, values}
+use Rattle.kf_column.specs.Traces.{Row, value_weight}
 use Rattle.kf_hyper.specs.Tables.{table_row}
 use Rattle.kf_hyper.proofs.Searching.{weight_found}
 use Rattle.kf_channel.specs.Shapes.{IsChannel}

@@ -2,10 +2,10 @@
 use Rattle.std.proofs.Common.{◌≡◌, ℕ, zero, suc, ◌+◌, ◌<◌, ◌≤◌, List, [], ◌∷◌, Contains, refl, sym, ◌∙◌, arith, ⊎_elim}
 use Rattle.std.proofs.lemmas.Bool.{cases_eq}
 use Rattle.std.proofs.lemmas.List.Sums.{sum_by-cons}
-use Rattle.kf_hyper.specs.declared.entry.Entry.{Entry}
-use Rattle.kf_hyper.specs.Columns.{weight_at, values}
-use Rattle.kf_hyper.specs.Traces.{Row, value_weight}
-use Rattle.kf_hyper.proofs.Weights.{Above, weight_at_head, weight_at_other, weight_below, ascending_above, column_above}
+use Rattle.kf_column.specs.declared.entry.Entry.{Entry}
+use Rattle.kf_column.specs.Columns.{weight_at, values}
+use Rattle.kf_column.specs.Traces.{Row, value_weight}
+use Rattle.kf_column.proofs.Weights.{Above, weight_at_head, weight_at_other, weight_below, ascending_above, column_above}
 use Rattle.kf_channel.specs.Laws.{SomeSecrets}
 use Rattle.kf_channel.proofs.Secrets.{named, weighs}
 

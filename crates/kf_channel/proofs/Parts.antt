@@ -8,8 +8,8 @@ use Rattle.kf_frac.specs.Divisors.{gcd_of}
 use Rattle.kf_frac.specs.Fractions.{reduced_num, reduced_den, parts_of}
 use Rattle.kf_frac.proofs.CommonDivisors.{gcd_is}
 use Rattle.kf_frac.proofs.LowestTerms.{reduced_num_abs, reduced_den_times}
-use Rattle.kf_hyper.specs.Columns.{weight_at}
-use Rattle.kf_hyper.specs.Traces.{Row, value_weight}
+use Rattle.kf_column.specs.Columns.{weight_at}
+use Rattle.kf_column.specs.Traces.{Row, value_weight}
 use Rattle.kf_channel.specs.Laws.{RowsSumToOne}
 
 cross : (d g a q : ℕ) → (d * g) * (a * q) ≡ (q * d) * (a * g)

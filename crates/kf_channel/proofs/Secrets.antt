@@ -8,13 +8,13 @@ use Rattle.std.specs.List.Sorted.{IsStrictlySortedBy}
 use Rattle.kf_value.specs.declared.target_item.TargetItem.{TargetItem}
 use Rattle.kf_value.specs.Targets.{Item}
 use Rattle.kf_value.specs.TypeViews.{item_of}
-use Rattle.kf_hyper.specs.declared.entry.Entry.{Entry}
-use Rattle.kf_hyper.specs.Columns.{IsColumn, weight_at, total, values}
-use Rattle.kf_hyper.specs.Shapes.{IsBelow}
-use Rattle.kf_hyper.specs.Traces.{Row, trace_order, value_weight}
+use Rattle.kf_column.specs.declared.entry.Entry.{Entry}
+use Rattle.kf_column.specs.Columns.{IsColumn, weight_at, total, values}
+use Rattle.kf_column.specs.Shapes.{IsBelow}
+use Rattle.kf_column.specs.Traces.{Row, trace_order, value_weight}
 use Rattle.kf_hyper.specs.Tables.{IsTable}
 use Rattle.kf_hyper.proofs.Searching.{weight_found}
-use Rattle.kf_hyper.proofs.Weights.{weight_at_other}
+use Rattle.kf_column.proofs.Weights.{weight_at_other}
 use Rattle.kf_channel.specs.Channels.{AreSecrets}
 use Rattle.kf_channel.specs.Shapes.{IsChannel}
 

@@ -3,7 +3,7 @@ use Rattle.std.specs.Prelude.{◌↔◌, ℕ, ◌<◌, List, Bool, Contains}
 use Rattle.std.specs.List.{list_all}
 use Rattle.std.specs.List.Sorted.{IsStrictlyIncreasing}
 use Rattle.kf_value.specs.Targets.{Item}
-use Rattle.kf_hyper.specs.Traces.{Row, value_weight}
+use Rattle.kf_column.specs.Traces.{Row, value_weight}
 
 -- each variable is read before the statements
 abbrev pub all_initial : List Item → Bool

@@ -2,8 +2,8 @@
 use Rattle.std.specs.Prelude.{◌≡◌, ℕ, ◌<◌, List, All, pos, sum_by}
 use Prim.Native.Nat.{◌∣◌}
 use Rattle.kf_frac.specs.Fractions.{reduced_den, parts_of}
-use Rattle.kf_hyper.specs.Columns.{weight_at}
-use Rattle.kf_hyper.specs.Traces.{Row, value_weight, share_at}
+use Rattle.kf_column.specs.Columns.{weight_at}
+use Rattle.kf_column.specs.Traces.{Row, value_weight, share_at}
 use Rattle.kf_channel.specs.Channels.{AreSecrets}
 
 -- the shares of a value in all traces, in lowest terms and over any common denominator, sum to 1

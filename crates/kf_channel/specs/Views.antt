@@ -2,8 +2,8 @@
 use Rattle.std.specs.Prelude.{ℕ, List, [], map, slice_index, slice_index_or}
 use Rattle.kf_value.specs.Targets.{Item}
 use Rattle.kf_value.specs.Views.{items_of}
-use Rattle.kf_hyper.specs.Columns.{values}
-use Rattle.kf_hyper.specs.Traces.{Row, Share, share_at}
+use Rattle.kf_column.specs.Columns.{values}
+use Rattle.kf_column.specs.Traces.{Row, Share, share_at}
 use Rattle.kf_hyper.specs.Tables.{table_row}
 use Rattle.kf_channel.specs.declared.channel.Channel.{Channel}
 

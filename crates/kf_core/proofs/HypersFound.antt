@@ -2,10 +2,10 @@
 use Rattle.std.proofs.Common.{List, All, map, subst}
 use Rattle.std.proofs.lemmas.List.Elements.{All-from_recursion, recursion_from_All}
 use Rattle.kf_value.proofs.ListLemmas.{each_map}
-use Rattle.kf_hyper.specs.Columns.{IsColumn}
-use Rattle.kf_hyper.specs.Hypers.{IsHyper}
-use Rattle.kf_hyper.specs.Laws.{SomeHyper, AtMostOneHyper}
-use Rattle.kf_hyper.specs.Traces.{Row}
+use Rattle.kf_column.specs.Columns.{IsColumn}
+use Rattle.kf_column.specs.Hypers.{IsHyper}
+use Rattle.kf_column.specs.Laws.{SomeHyper, AtMostOneHyper}
+use Rattle.kf_column.specs.Traces.{Row}
 use Rattle.kf_core.specs.JointLaws.{HypersExist, HypersAreOne}
 use Rattle.kf_core.proofs.OneTable.{one_table}
 use Rattle.kf_core.proofs.RowsFound.{rows_exist}

@@ -14,8 +14,8 @@ use Rattle.kf_core.specs.Joint.{target_number, target_values_at}
 use Rattle.kf_core.specs.Programs.{ProgramTree}
 use Rattle.kf_core.specs.Runs.{store_at}
 use Rattle.kf_core.proofs.Stores.{length-store, store_is, store_number_is}
-use Rattle.kf_hyper.specs.Laws.{AreAt, ProjectedNumbers}
-use Rattle.kf_hyper.specs.Projection.{at_places, projected}
+use Rattle.kf_column.specs.Laws.{AreAt, ProjectedNumbers}
+use Rattle.kf_column.specs.Projection.{at_places, projected}
 
 -- ---- values read at places
 

@@ -7,10 +7,10 @@ use Rattle.std.specs.List.Sorted.{IsStrictlySortedBy}
 use Rattle.std.proofs.lemmas.List.Elements.{All-head, All-tail}
 use Rattle.kf_value.specs.Values.{ValueTree, Tuple, parts, parts_list, order}
 use Rattle.kf_value.proofs.Orders.{tuples_order, not_both_less}
-use Rattle.kf_hyper.specs.Columns.{IsColumn, weight_at}
-use Rattle.kf_hyper.specs.Traces.{Row, trace_order}
-use Rattle.kf_hyper.proofs.AtMostOne.{In, Ordered, same_lists}
-use Rattle.kf_hyper.proofs.Weights.{above_column, same_column}
+use Rattle.kf_column.specs.Columns.{IsColumn, weight_at}
+use Rattle.kf_column.specs.Traces.{Row, trace_order}
+use Rattle.kf_column.proofs.AtMostOne.{In, Ordered, same_lists}
+use Rattle.kf_column.proofs.Weights.{above_column, same_column}
 use Rattle.kf_core.specs.Joint.{Cell, weight_of}
 use Rattle.kf_core.specs.JointLaws.{RowsAreOne}
 

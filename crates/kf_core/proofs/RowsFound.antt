@@ -14,11 +14,11 @@ use Rattle.kf_value.specs.Values.{ValueTree, Truth, Whole, Tuple, Set, parts, pa
 use Rattle.kf_value.proofs.ListLemmas.{each_both, each_map, each_weaker}
 use Rattle.kf_value.proofs.Orders.{goes_on, flip, same as same_value}
 use Rattle.kf_value.proofs.Sorting.{sorted-nil, sorted-cons}
-use Rattle.kf_hyper.specs.declared.entry.Entry.{Entry}
-use Rattle.kf_hyper.specs.Columns.{IsColumn, weight_at}
-use Rattle.kf_hyper.specs.Traces.{Row, trace_order}
-use Rattle.kf_hyper.proofs.AtMostOne.{In}
-use Rattle.kf_hyper.proofs.Weights.{Above, column_above}
+use Rattle.kf_column.specs.declared.entry.Entry.{Entry}
+use Rattle.kf_column.specs.Columns.{IsColumn, weight_at}
+use Rattle.kf_column.specs.Traces.{Row, trace_order}
+use Rattle.kf_column.proofs.AtMostOne.{In}
+use Rattle.kf_column.proofs.Weights.{Above, column_above}
 use Rattle.kf_core.specs.Joint.{Cell, is_cell_at, weight_of, trace_weight, HasTrace}
 use Rattle.kf_core.specs.JointLaws.{RowsExist}
 use Rattle.kf_core.specs.Rows.{AreRowsOf}

@@ -1,7 +1,7 @@
 -- For bodies: what holds of joints: how much weight there is, and that each has its rows and its hyper, once.
 use Rattle.std.specs.Prelude.{◌≡◌, ℕ, List, IsOk, sum_by}
-use Rattle.kf_hyper.specs.Hypers.{Inner}
-use Rattle.kf_hyper.specs.Traces.{Row}
+use Rattle.kf_column.specs.Hypers.{Inner}
+use Rattle.kf_column.specs.Traces.{Row}
 use Rattle.kf_core.specs.Checked.{IsChecked}
 use Rattle.kf_core.specs.Joint.{Cell, joint_of}
 use Rattle.kf_core.specs.Programs.{ProgramTree}

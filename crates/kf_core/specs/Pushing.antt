@@ -1,9 +1,9 @@
 -- Believed: columns of stores pushed through runs, and how many beliefs stand behind each statement.
 use Rattle.std.specs.Prelude.{◌≡◌, ℕ, suc, List, Some, map, take, length, flat_map, slice_get}
 use Rattle.std.specs.List.{AllZip}
-use Rattle.kf_hyper.specs.declared.entry.Entry.{Entry}
-use Rattle.kf_hyper.specs.Hypers.{Inner, IsHyper}
-use Rattle.kf_hyper.specs.Traces.{Row}
+use Rattle.kf_column.specs.declared.entry.Entry.{Entry}
+use Rattle.kf_column.specs.Hypers.{Inner, IsHyper}
+use Rattle.kf_column.specs.Traces.{Row}
 use Rattle.kf_core.specs.Sts.{sts}
 use Rattle.kf_core.specs.Programs.{ProgramTree}
 use Rattle.kf_core.specs.Runs.{Run, all_runs, declared, copied}

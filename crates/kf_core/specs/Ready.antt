@@ -3,9 +3,9 @@ use Rattle.std.specs.Prelude.{◌≡◌, ℕ, List, [], All, flat_map, IsOk}
 use Rattle.std.specs.FinSet.{from_list}
 use Rattle.std.specs.Int.{◌∣◌}
 use Rattle.kf_value.specs.Types.{TypeTree}
-use Rattle.kf_hyper.specs.declared.entry.Entry.{Entry}
-use Rattle.kf_hyper.specs.Columns.{IsColumn, values, weight_at}
-use Rattle.kf_hyper.specs.Merged.{AreMerged}
+use Rattle.kf_column.specs.declared.entry.Entry.{Entry}
+use Rattle.kf_column.specs.Columns.{IsColumn, values, weight_at}
+use Rattle.kf_column.specs.Merged.{AreMerged}
 use Rattle.kf_core.specs.Sts.{StTree, sts}
 use Rattle.kf_core.specs.Programs.{ProgramTree}
 use Rattle.kf_core.specs.Runs.{Run, all_runs, declared, copied}

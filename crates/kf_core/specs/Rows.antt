@@ -3,9 +3,9 @@ use Rattle.std.specs.Prelude.{◌≡◌, ◌↔◌, ℕ, List, Contains, map, Al
 use Rattle.std.specs.List.Sorted.{IsStrictlySortedBy}
 use Rattle.kf_value.specs.Values.{ValueTree}
 use Rattle.kf_core.specs.Joint.{Cell, weight_of, HasTrace}
-use Rattle.kf_hyper.specs.Columns.{IsColumn, weight_at}
-use Rattle.kf_hyper.specs.Hypers.{Inner, IsHyper}
-use Rattle.kf_hyper.specs.Traces.{Row, trace_order}
+use Rattle.kf_column.specs.Columns.{IsColumn, weight_at}
+use Rattle.kf_column.specs.Hypers.{Inner, IsHyper}
+use Rattle.kf_column.specs.Traces.{Row, trace_order}
 
 -- each trace of some weight once, in ascending order, and what the joint gives to each value with it
 pub record AreRowsOf (joint : List Cell) (rows : List Row) : Type 0 where

@@ -12,7 +12,7 @@ ghost use Rattle.kf_core.specs.SupportLaws.{
   ScalesArePositive,
 };
 
-use kf_hyper::one_hyper;
+use kf_column::one_hyper;
 use kf_ops::row_laws;
 
 /// What holds of the definitions alone: the values of a store are of the kinds of its types, and where they are, a

@@ -8,18 +8,18 @@ use Rattle.std.proofs.lemmas.Int.{ints}
 use Rattle.std.proofs.lemmas.Bool.{cases_order}
 use Rattle.std.proofs.lemmas.List.Elements.{All-head, All-tail}
 use Rattle.std.proofs.lemmas.List.Sums.{sum_by-cons}
-use Rattle.kf_hyper.specs.declared.entry.Entry.{Entry}
+use Rattle.kf_column.specs.declared.entry.Entry.{Entry}
 use Rattle.kf_frac.proofs.Ring.{add_mul}
-use Rattle.kf_hyper.specs.Columns.{weight_at, total, IsColumn}
-use Rattle.kf_hyper.specs.Hypers.{Inner, IsInner}
-use Rattle.kf_hyper.specs.Shapes.{IsShape}
-use Rattle.kf_hyper.specs.Averages.{scaled, joint_weight, joint_column, average_weight}
-use Rattle.kf_hyper.specs.Classes.{IsWhole}
-use Rattle.kf_hyper.proofs.ClassSums.{is_whole, class_column, class_sum}
-use Rattle.kf_hyper.proofs.Steps.{if_adds}
-use Rattle.kf_hyper.proofs.Weighing.{joint_column_weighs}
-use Rattle.kf_hyper.proofs.Weights.{Above, weight_at-cons, same_column, above_column, above_from, ascending_above, positive_above}
-use Rattle.kf_hyper.proofs.Scaling.{total-cons}
+use Rattle.kf_column.specs.Columns.{weight_at, total, IsColumn}
+use Rattle.kf_column.specs.Hypers.{Inner, IsInner}
+use Rattle.kf_column.specs.Shapes.{IsShape}
+use Rattle.kf_column.specs.Averages.{scaled, joint_weight, joint_column, average_weight}
+use Rattle.kf_column.specs.Classes.{IsWhole}
+use Rattle.kf_column.proofs.ClassSums.{is_whole, class_column, class_sum}
+use Rattle.kf_column.proofs.Steps.{if_adds}
+use Rattle.kf_column.proofs.Weighing.{joint_column_weighs}
+use Rattle.kf_column.proofs.Weights.{Above, weight_at-cons, same_column, above_column, above_from, ascending_above, positive_above}
+use Rattle.kf_column.proofs.Scaling.{total-cons}
 use Rattle.kf_gain.specs.declared.table.GainEntry.{GainEntry}
 use Rattle.kf_gain.specs.Gains.{gain_at}
 use Rattle.kf_gain.specs.Worth.{gained}

@@ -5,10 +5,10 @@ use Rattle.std.proofs.lemmas.Int.{ints}
 use Rattle.std.proofs.lemmas.List.{length-map, drop_all}
 use Rattle.std.proofs.lemmas.List.Sums.{sum_by-cons}
 use Rattle.std.proofs.lemmas.List.Sorted.{IsPermutation-trans, IsPermutation-sym, IsPermutation-map, sum_by-IsPermutation, length_permutation}
-use Rattle.kf_hyper.specs.declared.entry.Entry.{Entry}
-use Rattle.kf_hyper.specs.Columns.{weight_at, total, values}
-use Rattle.kf_hyper.proofs.Weights.{Above, weight_at_other}
-use Rattle.kf_hyper.proofs.Posteriors.{weight_of_head}
+use Rattle.kf_column.specs.declared.entry.Entry.{Entry}
+use Rattle.kf_column.specs.Columns.{weight_at, total, values}
+use Rattle.kf_column.proofs.Weights.{Above, weight_at_other}
+use Rattle.kf_column.proofs.Posteriors.{weight_of_head}
 use Rattle.kf_hyper.proofs.Averaging.{sum-mapped}
 use Rattle.kf_hyper.proofs.Rising.{Rises}
 use Rattle.kf_hyper.proofs.Searching.{values_rise}

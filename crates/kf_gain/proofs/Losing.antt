@@ -7,14 +7,14 @@ use Rattle.std.proofs.lemmas.Bool.{cases_order, cases_eq}
 use Rattle.std.proofs.lemmas.Int.{ints}
 use Rattle.std.proofs.lemmas.List.Sums.{sum_by-cons}
 use Rattle.std.proofs.lemmas.List.Sorted.{sum_by-IsPermutation, IsPermutation-map}
-use Rattle.kf_hyper.specs.declared.entry.Entry.{Entry}
-use Rattle.kf_hyper.specs.Columns.{weight_at, total, values}
-use Rattle.kf_hyper.specs.Hypers.{Inner}
-use Rattle.kf_hyper.specs.Averages.{joint_weight, joint_column, average_weight}
-use Rattle.kf_hyper.proofs.Weights.{Above, weight_at_head, weight_at_other, weight_below}
-use Rattle.kf_hyper.proofs.Scaling.{total-cons}
+use Rattle.kf_column.specs.declared.entry.Entry.{Entry}
+use Rattle.kf_column.specs.Columns.{weight_at, total, values}
+use Rattle.kf_column.specs.Hypers.{Inner}
+use Rattle.kf_column.specs.Averages.{joint_weight, joint_column, average_weight}
+use Rattle.kf_column.proofs.Weights.{Above, weight_at_head, weight_at_other, weight_below}
+use Rattle.kf_column.proofs.Scaling.{total-cons}
 use Rattle.kf_hyper.proofs.Averaging.{sum-mapped}
-use Rattle.kf_hyper.proofs.Weighing.{joint_column_weighs}
+use Rattle.kf_column.proofs.Weighing.{joint_column_weighs}
 use Rattle.kf_hyper.proofs.Searching.{values_rise}
 use Rattle.kf_gain.specs.declared.table.Action.{Action}
 use Rattle.kf_gain.specs.Gains.{GainOf, Bayes, Tries, Guessing, Table, TableTree}

@@ -5,11 +5,11 @@ use Rattle.std.proofs.Math.IntN.{zero-*ℤ}
 use Rattle.std.proofs.lemmas.Int.{ints}
 use Rattle.std.proofs.lemmas.List.Sums.{sum_by-cons}
 use Rattle.kf_frac.proofs.Ring.{add_mul, mul_add, mul_assoc}
-use Rattle.kf_hyper.specs.declared.entry.Entry.{Entry}
-use Rattle.kf_hyper.specs.Columns.{weight_at, total, values, IsColumn}
-use Rattle.kf_hyper.specs.Averages.{scaled}
-use Rattle.kf_hyper.proofs.Weights.{Above, above_column}
-use Rattle.kf_hyper.proofs.Scaling.{weight_at-scaled}
+use Rattle.kf_column.specs.declared.entry.Entry.{Entry}
+use Rattle.kf_column.specs.Columns.{weight_at, total, values, IsColumn}
+use Rattle.kf_column.specs.Averages.{scaled}
+use Rattle.kf_column.proofs.Weights.{Above, above_column}
+use Rattle.kf_column.proofs.Scaling.{weight_at-scaled}
 use Rattle.kf_hyper.proofs.Rising.{rises}
 use Rattle.kf_gain.specs.declared.table.GainEntry.{GainEntry}
 use Rattle.kf_gain.specs.Gains.{GainOf, Bayes, Tries, Guessing, Table, TableTree, gain_at}

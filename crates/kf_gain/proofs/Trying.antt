@@ -5,13 +5,13 @@ use Rattle.std.proofs.lemmas.Bool.{cases_eq, ne_eqb}
 use Rattle.std.proofs.lemmas.Int.{ints}
 use Rattle.std.proofs.lemmas.List.Sums.{sum_by-cons}
 use Rattle.std.proofs.lemmas.List.Sorted.{IsPermutation-refl, IsPermutation-cons, IsPermutation-trans, IsPermutation-sym, IsPermutation-map, sum_by-IsPermutation}
-use Rattle.kf_hyper.specs.declared.entry.Entry.{Entry}
-use Rattle.kf_hyper.specs.Columns.{weight_at, total}
-use Rattle.kf_hyper.proofs.Weights.{Above, weight_at_head, weight_at_other, weight_below}
-use Rattle.kf_hyper.proofs.Posteriors.{weight_of_head}
+use Rattle.kf_column.specs.declared.entry.Entry.{Entry}
+use Rattle.kf_column.specs.Columns.{weight_at, total}
+use Rattle.kf_column.proofs.Weights.{Above, weight_at_head, weight_at_other, weight_below}
+use Rattle.kf_column.proofs.Posteriors.{weight_of_head}
 use Rattle.kf_hyper.proofs.Averaging.{sum-mapped}
 use Rattle.kf_hyper.proofs.Rising.{Rises, rises, increasing, rises_less}
-use Rattle.kf_hyper.proofs.Scaling.{total-cons}
+use Rattle.kf_column.proofs.Scaling.{total-cons}
 use Rattle.kf_gain.specs.Gains.{Bayes, Tries}
 use Rattle.kf_gain.specs.Worth.{IsTried, IsVulnerability}
 use Rattle.kf_gain.proofs.Adding.{at_value, Joined, join}

@@ -1,9 +1,9 @@
 -- For bodies: laws of vulnerabilities.
 use Rattle.std.specs.Prelude.{◌≡◌, ◌≢◌, ℕ, ◌*◌, ◌≤◌, ℤ, pos, ◌*ℤ◌, ◌-ℤ◌, ◌≤ℤ◌, unsigned_abs, List, [], map, length}
-use Rattle.kf_hyper.specs.declared.entry.Entry.{Entry}
-use Rattle.kf_hyper.specs.Hypers.{Inner}
-use Rattle.kf_hyper.specs.Shapes.{IsShape}
-use Rattle.kf_hyper.specs.Averages.{scaled}
+use Rattle.kf_column.specs.declared.entry.Entry.{Entry}
+use Rattle.kf_column.specs.Hypers.{Inner}
+use Rattle.kf_column.specs.Shapes.{IsShape}
+use Rattle.kf_column.specs.Averages.{scaled}
 use Rattle.kf_gain.specs.Gains.{GainOf, Bayes, Table, TableTree, over_of}
 use Rattle.kf_gain.specs.Worth.{IsVulnerability, NoBetter}
 use Rattle.kf_gain.specs.Vulnerabilities.{IsAverage, IsPrior, IsPosterior, IsWidth}

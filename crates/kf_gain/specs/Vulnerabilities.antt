@@ -1,10 +1,10 @@
 -- Believed: prior and posterior vulnerability of a hyper, and how wide their numbers can be (Alvim et al. 2020).
 use Rattle.std.specs.Prelude.{◌≡◌, ℕ, ◌*◌, ◌<◌, All, max, ℤ, pos, ◌+ℤ◌, unsigned_abs, List, [], ◌∷◌, map, flat_map, length}
 use Rattle.std.specs.List.Sorted.{IsStrictlyIncreasing}
-use Rattle.kf_hyper.specs.declared.entry.Entry.{Entry}
-use Rattle.kf_hyper.specs.Columns.{weight_at, values}
-use Rattle.kf_hyper.specs.Hypers.{Inner}
-use Rattle.kf_hyper.specs.Averages.{joint_column, average_weight}
+use Rattle.kf_column.specs.declared.entry.Entry.{Entry}
+use Rattle.kf_column.specs.Columns.{weight_at, values}
+use Rattle.kf_column.specs.Hypers.{Inner}
+use Rattle.kf_column.specs.Averages.{joint_column, average_weight}
 use Rattle.kf_gain.specs.Gains.{GainOf, Guessing, Table, TableTree}
 use Rattle.kf_gain.specs.Worth.{IsVulnerability}
 

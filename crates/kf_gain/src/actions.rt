@@ -1,7 +1,7 @@
 ghost use Rattle.std.specs.Prelude.{◌≡◌, ◌≤◌, ◌<◌, ◌*◌, ◌*ℤ◌, [], ◌∷◌, pos, map, length, slice_index_or, unsigned_abs};
 ghost use Rattle.std.specs.List.Sorted.{IsStrictlyIncreasing};
 ghost use Rattle.kf_frac.specs.Fractions.{limit};
-ghost use Rattle.kf_hyper.specs.Columns.{total};
+ghost use Rattle.kf_column.specs.Columns.{total};
 ghost use Rattle.kf_gain.specs.Gains.{Table, gain_at as gain_of};
 ghost use Rattle.kf_gain.specs.Worth.{IsVulnerability, gained as sum_gained};
 ghost use Rattle.kf_gain.specs.Vulnerabilities.{greatest, gains_of};

@@ -1,5 +1,5 @@
 ghost use Rattle.std.specs.Prelude.{◌≡◌, ◌≤◌, ◌<◌, ◌*◌, ◌^◌, pos, IfOk, length, map, sum_by, IsPermutation};
-ghost use Rattle.kf_hyper.specs.Columns.{IsColumn, total};
+ghost use Rattle.kf_column.specs.Columns.{IsColumn, total};
 ghost use Rattle.kf_gain.specs.Gains.{Tries, Guessing};
 ghost use Rattle.kf_gain.specs.Worth.{IsVulnerability};
 ghost use Rattle.kf_gain.specs.Falling.{IsFalling};

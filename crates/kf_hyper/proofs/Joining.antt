@@ -16,17 +16,18 @@ use Rattle.std.proofs.lemmas.List.MinMax.{ranks_by}
 use Rattle.std.proofs.lemmas.List.Sorted.{sorted_far, IsPermutation-map, All-permutation, sum_by-IsPermutation}
 use Rattle.std.proofs.lemmas.List.Sums.{sum_by-cons, sum_by-append}
 use Rattle.std.proofs.lemmas.List.Elements.{All-head, All-tail, All-cons}
-use Rattle.kf_hyper.specs.declared.entry.Entry.{Entry}
+use Rattle.kf_column.specs.declared.entry.Entry.{Entry}
 use Rattle.kf_hyper.specs.declared.class.Class.{Class}
-use Rattle.kf_hyper.specs.Columns.{total, proportional}
-use Rattle.kf_hyper.specs.Hypers.{IsInner, list_order}
-use Rattle.kf_hyper.specs.Joint.{mass}
-use Rattle.kf_hyper.specs.Shapes.{IsBelow}
-use Rattle.kf_hyper.specs.Classes.{ClassesOf, AreAscending, class_of}
-use Rattle.kf_hyper.proofs.Gathering.{same_list, list_total}
-use Rattle.kf_hyper.proofs.Inserting.{orderings}
-use Rattle.kf_hyper.proofs.Proportions.{bool_cases}
-use Rattle.kf_hyper.proofs.Steps.{if_adds}
+use Rattle.kf_column.specs.Columns.{total, proportional}
+use Rattle.kf_column.specs.Hypers.{IsInner, list_order}
+use Rattle.kf_column.specs.Joint.{mass}
+use Rattle.kf_column.specs.Shapes.{IsBelow}
+use Rattle.kf_column.specs.Classes.{ClassesOf, AreAscending}
+use Rattle.kf_hyper.specs.ClassViews.{class_of}
+use Rattle.kf_column.proofs.Gathering.{same_list, list_total}
+use Rattle.kf_column.proofs.Inserting.{orderings}
+use Rattle.kf_column.proofs.Proportions.{bool_cases}
+use Rattle.kf_column.proofs.Steps.{if_adds}
 
 abbrev Pair : Type 0
 Pair = List Entry × ℕ

@@ -3,14 +3,14 @@ use Rattle.std.proofs.Common.{◌≡◌, ℕ, ◌+◌, ◌*◌, ◌<◌, ◌≤�
 use Rattle.std.proofs.lemmas.List.{take_all}
 use Rattle.std.proofs.lemmas.List.Elements.{All-append, All-map}
 use Rattle.std.proofs.lemmas.List.Sums.{sum_by-append}
-use Rattle.kf_hyper.specs.declared.entry.Entry.{Entry}
-use Rattle.kf_hyper.specs.Averages.{scaled}
-use Rattle.kf_hyper.specs.Columns.{weight_at, total}
-use Rattle.kf_hyper.specs.Projection.{weight_through}
-use Rattle.kf_hyper.specs.Shapes.{IsBelow}
+use Rattle.kf_column.specs.declared.entry.Entry.{Entry}
+use Rattle.kf_column.specs.Averages.{scaled}
+use Rattle.kf_column.specs.Columns.{weight_at, total}
+use Rattle.kf_column.specs.Projection.{weight_through}
+use Rattle.kf_column.specs.Shapes.{IsBelow}
 use Rattle.kf_hyper.specs.Sums.{ArePositive, Gains}
 use Rattle.kf_hyper.proofs.Averaging.{sum-mapped}
-use Rattle.kf_hyper.proofs.Scaling.{product_positive, total-scaled, weight_at-scaled}
+use Rattle.kf_column.proofs.Scaling.{product_positive, total-scaled, weight_at-scaled}
 
 -- all entries, so many times, behind those that were there
 module _ (old new entries : List Entry) (times i : ℕ) (past : length entries ≤ i) (made : new ≡ old ++ map (scaled times) (take i entries)) where

@@ -6,11 +6,11 @@ use Rattle.std.proofs.lemmas.List.{take_more, get_or_default, drop_all}
 use Rattle.std.proofs.lemmas.List.Sums.{sum_by-cons, sum_by-append}
 use Rattle.std.proofs.lemmas.List.Elements.{All-head, All-tail, All-cons}
 use Rattle.std.specs.List.Sorted.{IsNonDecreasingBy, IsPermutation}
-use Rattle.kf_hyper.specs.declared.entry.Entry.{Entry}
-use Rattle.kf_hyper.specs.Columns.{IsColumn, total}
-use Rattle.kf_hyper.specs.Shapes.{IsBelow}
+use Rattle.kf_column.specs.declared.entry.Entry.{Entry}
+use Rattle.kf_column.specs.Columns.{IsColumn, total}
+use Rattle.kf_column.specs.Shapes.{IsBelow}
 use Rattle.kf_hyper.specs.Sums.{ArePositive, asked_weight, Gathers}
-use Rattle.kf_hyper.proofs.Weights.{Above, column_above}
+use Rattle.kf_column.proofs.Weights.{Above, column_above}
 
 abbrev pub nothing : Entry
 nothing = record { value = 0; weight = 0 }

@@ -3,8 +3,8 @@ use Rattle.std.proofs.Common.{◌≡◌, ℕ, ◌+◌, ◌<◌, List, [], ◌∷
 use Rattle.std.proofs.lemmas.List.{map-append, take_more}
 use Rattle.std.proofs.lemmas.List.Sums.{sum_by_push}
 use Rattle.kf_hyper.specs.declared.column.Column.{Column}
-use Rattle.kf_hyper.specs.Columns.{total}
-use Rattle.kf_hyper.specs.Joint.{mass}
+use Rattle.kf_column.specs.Columns.{total}
+use Rattle.kf_column.specs.Joint.{mass}
 
 module _ (columns list : List Column) (i : ℕ) (column made : Column) (inside : i < length columns) (is : column ≡ get_or columns i column) where
   read_more : take (i + 1) columns ≡ take i columns ++ column ∷ []

@@ -8,7 +8,7 @@ use Rattle.std.proofs.lemmas.Bool.Decides.{nat_tests}
 use Rattle.std.proofs.lemmas.List.Elements.{All-head, All-tail, All-take}
 use Rattle.kf_value.specs.Types.{product}
 use Rattle.kf_value.specs.Numbers.{digits, mixed_radix}
-use Rattle.kf_hyper.specs.Projection.{at_places, projected}
+use Rattle.kf_column.specs.Projection.{at_places, projected}
 
 -- ---- one digit more
 

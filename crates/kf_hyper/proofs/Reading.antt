@@ -6,13 +6,14 @@ use Rattle.std.proofs.lemmas.List.Sums.{get_or-le-sum_by, sum_by-le-sum_by}
 use Rattle.std.proofs.lemmas.Nat.Gcd.{le_of_dvd}
 use Rattle.std.specs.Int.{◌∣◌}
 use Rattle.kf_frac.specs.Fractions.{limit}
-use Rattle.kf_hyper.specs.declared.entry.Entry.{Entry}
+use Rattle.kf_column.specs.declared.entry.Entry.{Entry}
 use Rattle.kf_hyper.specs.declared.class.Class.{Class}
-use Rattle.kf_hyper.specs.Columns.{weight_at, total}
-use Rattle.kf_hyper.specs.Shapes.{IsBelow, IsShape, inner_of}
-use Rattle.kf_hyper.specs.Hypers.{Inner, IsInner}
-use Rattle.kf_hyper.specs.Averages.{joint_weight}
-use Rattle.kf_hyper.proofs.Scaling.{total_positive}
+use Rattle.kf_column.specs.Columns.{weight_at, total}
+use Rattle.kf_column.specs.Shapes.{IsBelow, IsShape}
+use Rattle.kf_hyper.specs.ClassViews.{inner_of}
+use Rattle.kf_column.specs.Hypers.{Inner, IsInner}
+use Rattle.kf_column.specs.Averages.{joint_weight}
+use Rattle.kf_column.proofs.Scaling.{total_positive}
 
 -- what a value weighs is at most the sum
 pub weight_within : (entries : List Entry) (x : ℕ) → weight_at entries x ≤ total entries

@@ -3,10 +3,10 @@ use Rattle.std.proofs.Common.{◌≡◌, ℕ, ◌+◌, ◌<◌, ◌≤◌, List,
 use Rattle.std.specs.Ordering.{nat_cmp, ordering_index}
 use Rattle.std.specs.declared.cmp.Ordering.TheVariants.{Less, Greater}
 use Rattle.std.specs.List.Sorted.{IsNonDecreasingBy}
-use Rattle.kf_hyper.specs.declared.entry.Entry.{Entry}
-use Rattle.kf_hyper.specs.Columns.{IsColumn, weight_at, values}
+use Rattle.kf_column.specs.declared.entry.Entry.{Entry}
+use Rattle.kf_column.specs.Columns.{IsColumn, weight_at, values}
 use Rattle.kf_hyper.proofs.Rising.{Rises, from_low, searchable_by, missing_by}
-use Rattle.kf_hyper.proofs.Weights.{Above, above_column, weight_below, weight_at_head, weight_at_other}
+use Rattle.kf_column.proofs.Weights.{Above, above_column, weight_below, weight_at_head, weight_at_other}
 
 pub values_rise : (low : ℕ) (column : List Entry) → Above low column → Rises low (values column)
 values_rise low [] above = tt

@@ -13,14 +13,14 @@ use Rattle.std.proofs.lemmas.Bool.Decides.{nat_tests}
 use Rattle.std.proofs.lemmas.List.Sums.{sum_by-cons, sum_by_more, sum_by_more_le}
 use Rattle.std.proofs.lemmas.List.{take_all}
 use Rattle.std.proofs.lemmas.Map.Steps.{lookup-le-sum}
-use Rattle.kf_hyper.specs.declared.entry.Entry.{Entry}
-use Rattle.kf_hyper.specs.Columns.{IsColumn, weight_at, total}
-use Rattle.kf_hyper.specs.Shapes.{IsBelow}
+use Rattle.kf_column.specs.declared.entry.Entry.{Entry}
+use Rattle.kf_column.specs.Columns.{IsColumn, weight_at, total}
+use Rattle.kf_column.specs.Shapes.{IsBelow}
 use Rattle.kf_hyper.specs.Sums.{summed, ArePositive, Gains, weight_alone}
-use Rattle.kf_hyper.proofs.Gathering.{nat_equal}
-use Rattle.kf_hyper.proofs.Scaling.{times_if, product_positive}
-use Rattle.kf_hyper.proofs.Weights.{Above, column_above}
-use Rattle.kf_hyper.proofs.Inserting.{Inserts, inserted, paired, sum_inserts, all_inserts}
+use Rattle.kf_column.proofs.Gathering.{nat_equal}
+use Rattle.kf_column.proofs.Scaling.{times_if, product_positive}
+use Rattle.kf_column.proofs.Weights.{Above, column_above}
+use Rattle.kf_column.proofs.Inserting.{Inserts, inserted, paired, sum_inserts, all_inserts}
 
 abbrev Sum : Type 0
 Sum = ℕ × ℕ

@@ -1,15 +1,5 @@
--- Believed
-pub mod Averages
-pub mod Columns
-pub mod Hypers
-pub mod Traces
 -- For bodies
-pub mod Classes
-pub mod Joint
-pub mod Laws
-pub mod Merged
-pub mod Projection
-pub mod Shapes
 pub mod Sums
 pub mod Tables
 pub mod Views
+pub mod ClassViews

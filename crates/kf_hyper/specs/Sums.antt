@@ -1,8 +1,8 @@
 -- For bodies: weights of values, added up.
 use Rattle.std.specs.Prelude.{◌≡◌, ℕ, ◌+◌, ◌<◌, ◌==◌, List, Bool, All, map, sum_by, if◌then◌else◌}
-use Rattle.kf_hyper.specs.declared.entry.Entry.{Entry}
-use Rattle.kf_hyper.specs.Columns.{weight_at, total}
-use Rattle.kf_hyper.specs.Shapes.{IsBelow}
+use Rattle.kf_column.specs.declared.entry.Entry.{Entry}
+use Rattle.kf_column.specs.Columns.{weight_at, total}
+use Rattle.kf_column.specs.Shapes.{IsBelow}
 
 -- the entries of a map from values to weights
 abbrev pub summed : List (ℕ × ℕ) → List Entry

@@ -4,9 +4,9 @@ use Rattle.std.specs.List.Sorted.{IsStrictlySortedBy}
 use Rattle.kf_frac.specs.Fractions.{limit}
 use Rattle.kf_value.specs.Views.{value_trees}
 use Rattle.kf_hyper.specs.declared.traces.TraceRow.{TraceRow}
-use Rattle.kf_hyper.specs.Columns.{total}
-use Rattle.kf_hyper.specs.Shapes.{IsBelow}
-use Rattle.kf_hyper.specs.Traces.{Row, trace_order}
+use Rattle.kf_column.specs.Columns.{total}
+use Rattle.kf_column.specs.Shapes.{IsBelow}
+use Rattle.kf_column.specs.Traces.{Row, trace_order}
 
 abbrev pub table_row : TraceRow → Row
 table_row r = record { trace = value_trees r.trace; column = r.column }

@@ -2,12 +2,12 @@
 use Rattle.std.specs.Prelude.{ℕ, List, [], map, slice_index_or}
 use Rattle.kf_value.specs.Targets.{Item}
 use Rattle.kf_value.specs.Views.{items_of}
-use Rattle.kf_hyper.specs.declared.entry.Entry.{Entry}
+use Rattle.kf_column.specs.declared.entry.Entry.{Entry}
 use Rattle.kf_hyper.specs.declared.hyper.Hyper.{Hyper}
 use Rattle.kf_hyper.specs.declared.traces.TraceTable.{TraceTable}
-use Rattle.kf_hyper.specs.Hypers.{Inner}
-use Rattle.kf_hyper.specs.Shapes.{inner_of}
-use Rattle.kf_hyper.specs.Traces.{Row}
+use Rattle.kf_column.specs.Hypers.{Inner}
+use Rattle.kf_hyper.specs.ClassViews.{inner_of}
+use Rattle.kf_column.specs.Traces.{Row}
 use Rattle.kf_hyper.specs.Tables.{table_row}
 
 -- the k-th entry of a column, from 0

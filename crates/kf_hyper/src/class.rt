@@ -1,5 +1,5 @@
 ghost use Rattle.std.specs.Prelude.{◌≡◌};
-ghost use Rattle.kf_hyper.specs.Columns.{total as sum};
+ghost use Rattle.kf_column.specs.Columns.{total as sum};
 
 use crate::Column;
 

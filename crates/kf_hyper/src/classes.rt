@@ -4,10 +4,11 @@ ghost use Rattle.std.specs.Prelude.{◌≡◌, ◌≤◌, List, IfOk, map, sum_b
 ghost use Rattle.std.specs.Ordering.{is_lt};
 ghost use Rattle.std.specs.List.Sorted.{IsSortedBy};
 ghost use Rattle.kf_frac.specs.Fractions.{limit};
-ghost use Rattle.kf_hyper.specs.declared.entry.Entry.{Entry};
-ghost use Rattle.kf_hyper.specs.Joint.{mass};
-ghost use Rattle.kf_hyper.specs.Hypers.{list_order};
-ghost use Rattle.kf_hyper.specs.Classes.{ClassesOf, AreAscending, class_of};
+ghost use Rattle.kf_column.specs.declared.entry.Entry.{Entry};
+ghost use Rattle.kf_column.specs.Joint.{mass};
+ghost use Rattle.kf_column.specs.Hypers.{list_order};
+ghost use Rattle.kf_column.specs.Classes.{ClassesOf, AreAscending};
+ghost use Rattle.kf_hyper.specs.ClassViews.{class_of};
 
 use crate::Column;
 use crate::class::Class;

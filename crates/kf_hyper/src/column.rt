@@ -1,5 +1,5 @@
 ghost use Rattle.std.specs.Prelude.{◌≡◌, ◌<◌, ◌^◌, IfOk};
-ghost use Rattle.kf_hyper.specs.Columns.{IsColumn, weight_at, total};
+ghost use Rattle.kf_column.specs.Columns.{IsColumn, weight_at, total};
 
 use crate::entry::total_of;
 use crate::{Entry, EntryList};
@@ -15,8 +15,8 @@ pub struct Column {
 
 impl Model for Column {
     ghost use Rattle.std.specs.Prelude.{List};
-    ghost use Rattle.kf_hyper.specs.declared.entry.Entry.{Entry};
-    ghost use Rattle.kf_hyper.specs.Columns.{IsColumn};
+    ghost use Rattle.kf_column.specs.declared.entry.Entry.{Entry};
+    ghost use Rattle.kf_column.specs.Columns.{IsColumn};
 
     ghost Value = { List Entry };
 

@@ -1,5 +1,5 @@
 ghost use Rattle.std.specs.Prelude.{◌≡◌, ◌≤◌, ◌<◌, ◌+◌, ◌^◌, ◌++◌, IfOk};
-ghost use Rattle.kf_hyper.specs.Joint.{IsJoint, mass};
+ghost use Rattle.kf_column.specs.Joint.{IsJoint, mass};
 
 use crate::{Column, ColumnList};
 use kf_value::Mem;
@@ -14,7 +14,7 @@ pub struct Columns {
 }
 
 impl Model for Columns {
-    ghost use Rattle.kf_hyper.specs.Joint.{Joint, IsJoint};
+    ghost use Rattle.kf_column.specs.Joint.{Joint, IsJoint};
 
     ghost Value = { Joint };
 

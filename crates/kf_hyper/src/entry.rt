@@ -1,16 +1,8 @@
 ghost use Rattle.std.specs.Prelude.{◌≡◌, ◌<◌, ◌^◌};
-ghost use Rattle.kf_hyper.specs.Columns.{total};
+ghost use Rattle.kf_column.specs.Columns.{total};
 
+use kf_column::Entry;
 use std::marker::Model;
-
-/// The whole weight of one value. The order is that of the values, then that of the weights.
-#[derive(Clone, Copy, Debug, PartialEq, Eq, PartialOrd, Ord)]
-pub struct Entry {
-    /// The number of a value, from 0.
-    pub value: u64,
-    /// Its weight, over the scale of the list of columns.
-    pub weight: u128,
-}
 
 /// The sum of all weights.
 pub(crate) fn total_of(entries: &[Entry]) -> u128
@@ -28,7 +20,7 @@ pub struct EntryList {
 
 impl Model for EntryList {
     ghost use Rattle.std.specs.Prelude.{List};
-    ghost use Rattle.kf_hyper.specs.declared.entry.Entry.{Entry};
+    ghost use Rattle.kf_column.specs.declared.entry.Entry.{Entry};
 
     ghost Value = { List Entry };
 

@@ -2,7 +2,8 @@ ghost use Rattle.std.specs.Prelude.{◌≡◌, ◌≤◌, ◌<◌, ◌^◌, All,
 ghost use Rattle.std.proofs.Props.{props};
 ghost use Rattle.kf_value.specs.Numbers.{target_size};
 ghost use Rattle.kf_value.specs.TypeViews.{item_of};
-ghost use Rattle.kf_hyper.specs.Shapes.{IsShape, inner_of};
+ghost use Rattle.kf_column.specs.Shapes.{IsShape};
+ghost use Rattle.kf_hyper.specs.ClassViews.{inner_of};
 
 use crate::class::Class;
 use kf_value::Target;

@@ -1,4 +1,4 @@
-//! Columns of whole weights, the hyper-distribution of a list of columns, and tables of traces.
+//! Columns of whole weights, the hyper of a list of columns, and tables of traces.
 #![tactic(auto)]
 
 mod adding;
@@ -9,7 +9,6 @@ mod columns;
 mod counts;
 mod entry;
 mod hyper;
-mod law;
 mod merging;
 mod projection;
 mod reducing;
@@ -20,9 +19,9 @@ pub use adding::gathered;
 pub use column::{Column, ColumnList};
 pub use columns::{Columns, join};
 pub use counts::CountList;
-pub use entry::{Entry, EntryList};
+pub use entry::EntryList;
 pub use hyper::{Hyper, abstract_columns};
-pub use law::{hyper_laws, merge_laws, one_hyper, projection_laws, proportional_means};
+pub use kf_column::Entry;
 pub use merging::{merge, merge_owned};
 pub use projection::project;
 pub use sums::column_of;

@@ -1,10 +1,10 @@
 //! Columns of one posterior added up.
 
 ghost use Rattle.std.specs.Prelude.{◌≡◌, true, All, IfOk, map};
-ghost use Rattle.kf_hyper.specs.Averages.{joint_column};
-ghost use Rattle.kf_hyper.specs.Shapes.{inner_of};
-ghost use Rattle.kf_hyper.specs.Classes.{IsWhole, class_of};
-ghost use Rattle.kf_hyper.specs.Merged.{AreMerged};
+ghost use Rattle.kf_column.specs.Averages.{joint_column};
+ghost use Rattle.kf_hyper.specs.ClassViews.{inner_of, class_of};
+ghost use Rattle.kf_column.specs.Classes.{IsWhole};
+ghost use Rattle.kf_column.specs.Merged.{AreMerged};
 
 use crate::class::Class;
 use crate::classes::classes_of;

@@ -2,10 +2,10 @@ ghost use Rattle.std.specs.Prelude.{◌≡◌, ◌<◌, ◌^◌, ◌==◌, All, 
 ghost use Rattle.std.specs.List.{IsDistinct};
 ghost use Rattle.kf_value.specs.Types.{product};
 ghost use Rattle.kf_value.specs.Shapes.{shape_types, shape_sizes, shape_size};
-ghost use Rattle.kf_hyper.specs.Columns.{weight_at, total};
-ghost use Rattle.kf_hyper.specs.Shapes.{IsBelow};
-ghost use Rattle.kf_hyper.specs.Joint.{mass};
-ghost use Rattle.kf_hyper.specs.Projection.{at_places, projected as projected_store, weight_through};
+ghost use Rattle.kf_column.specs.Columns.{weight_at, total};
+ghost use Rattle.kf_column.specs.Shapes.{IsBelow};
+ghost use Rattle.kf_column.specs.Joint.{mass};
+ghost use Rattle.kf_column.specs.Projection.{at_places, projected as projected_store, weight_through};
 
 use crate::adding::gathered;
 use crate::{Column, ColumnList, Columns, Entry};

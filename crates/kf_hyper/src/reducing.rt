@@ -1,10 +1,10 @@
 //! Columns divided by their common factors.
 
 ghost use Rattle.std.specs.Prelude.{◌≡◌, ◌<◌, ◌^◌, map};
-ghost use Rattle.kf_hyper.specs.Averages.{scaled};
-ghost use Rattle.kf_hyper.specs.Columns.{total};
-ghost use Rattle.kf_hyper.specs.Hypers.{IsInner};
-ghost use Rattle.kf_hyper.specs.Classes.{IsCommonFactor, IsReduced};
+ghost use Rattle.kf_column.specs.Averages.{scaled};
+ghost use Rattle.kf_column.specs.Columns.{total};
+ghost use Rattle.kf_column.specs.Hypers.{IsInner};
+ghost use Rattle.kf_column.specs.Classes.{IsCommonFactor, IsReduced};
 
 use crate::class::Class;
 use crate::{Column, Entry, EntryList};

@@ -1,5 +1,5 @@
 ghost use Rattle.std.specs.Prelude.{◌≡◌, ◌<◌, IfOk};
-ghost use Rattle.kf_hyper.specs.Columns.{total};
+ghost use Rattle.kf_column.specs.Columns.{total};
 ghost use Rattle.kf_hyper.specs.Sums.{summed, ArePositive};
 
 use crate::{Column, Entry, EntryList};

@@ -94,10 +94,10 @@ impl TraceRowList {
 
 impl TraceTable {
     ghost use Rattle.std.specs.Prelude.{◌≡◌, ℕ, IfOk};
-    ghost use Rattle.kf_hyper.specs.Columns.{weight_at, total};
+    ghost use Rattle.kf_column.specs.Columns.{weight_at, total};
     ghost use Rattle.kf_value.specs.Views.{items_of};
-    ghost use Rattle.kf_hyper.specs.Shapes.{IsBelow};
-    ghost use Rattle.kf_hyper.specs.Traces.{value_weight};
+    ghost use Rattle.kf_column.specs.Shapes.{IsBelow};
+    ghost use Rattle.kf_column.specs.Traces.{value_weight};
     ghost use Rattle.kf_hyper.specs.Views.{rows_of};
 
     /// The sum of all columns: the weights that the values have before anything is shown, over the scale.

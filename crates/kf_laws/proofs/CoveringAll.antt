@@ -8,7 +8,7 @@ use Rattle.kf_core.specs.Scale.{scale_of}
 use Rattle.kf_gain.specs.Gains.{GainOf, Table, TableTree}
 use Rattle.kf_gain.specs.Vulnerabilities.{IsPosterior}
 use Rattle.kf_gain.specs.Worth.{NoBetter}
-use Rattle.kf_hyper.specs.Hypers.{Inner}
+use Rattle.kf_column.specs.Hypers.{Inner}
 use Rattle.kf_parse.specs.Laws.{OnlyBuilt}
 use Rattle.kf_prior.specs.FullSources.{full_source}
 use Rattle.kf_prior.specs.Laws.{CarriesForAllPriors, HasHyper, IsFull, SeparatesAtUniform}

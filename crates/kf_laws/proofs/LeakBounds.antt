@@ -8,7 +8,7 @@ use Rattle.kf_channel.specs.Channels.{all_initial}
 use Rattle.kf_capacity.specs.Grids.{ChannelTree, channel_grid}
 use Rattle.kf_gain.specs.Gains.{GainOf, Bayes, TableTree}
 use Rattle.kf_gain.specs.Vulnerabilities.{IsPosterior, IsPrior}
-use Rattle.kf_hyper.specs.Traces.{value_weight}
+use Rattle.kf_column.specs.Traces.{value_weight}
 use Rattle.kf_load.specs.Steps.{After, Gives, Refused, refusal}
 use Rattle.kf_load.specs.Texts.{File}
 use Rattle.kf_order.specs.Channels.{CapacityIsLeaked, IsNotNegative, LeakageIsBounded}

@@ -19,7 +19,7 @@ use Rattle.kf_check.specs.Laws.{OneJudgement, OneTyped}
 use Rattle.kf_core.specs.JointLaws.{RowsAreOne, HypersAreOne}
 use Rattle.kf_core.specs.Programs.{ProgramTree}
 use Rattle.kf_core.proofs.OneTable.{one_list}
-use Rattle.kf_hyper.specs.Traces.{Row}
+use Rattle.kf_column.specs.Traces.{Row}
 use Rattle.kf_channel.specs.Channels.{AreSecrets}
 use Rattle.kf_capacity.specs.Grids.{ChannelTree, channel_grid}
 use Rattle.kf_text.specs.Texts.{hyper_text, trace_text, channel_text, trail_text, make_text}
@@ -29,8 +29,8 @@ use Rattle.kf_text.specs.BlameTexts.{blame_text}
 use Rattle.kf_text.specs.CapacityTexts.{capacity_text}
 use Rattle.kf_frac.specs.Fractions.{limit}
 use Rattle.kf_value.specs.Targets.{Item}
-use Rattle.kf_hyper.specs.declared.entry.Entry.{Entry}
-use Rattle.kf_hyper.specs.Hypers.{Inner}
+use Rattle.kf_column.specs.declared.entry.Entry.{Entry}
+use Rattle.kf_column.specs.Hypers.{Inner}
 use Rattle.kf_core.specs.Joint.{Cell, joint_of}
 use Rattle.kf_core.specs.Scale.{scale_of as run_scale}
 use Rattle.kf_gain.specs.declared.error.TableError.{TableError}

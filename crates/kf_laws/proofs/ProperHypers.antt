@@ -11,16 +11,16 @@ use Rattle.kf_value.specs.Targets.{Item}
 use Rattle.kf_value.specs.Types.{count, product}
 use Rattle.kf_value.specs.Values.{is_equal}
 use Rattle.kf_value.proofs.ListLemmas.{each_any, each_flat_map, each_weaker}
-use Rattle.kf_hyper.specs.declared.entry.Entry.{Entry}
-use Rattle.kf_hyper.specs.Columns.{IsColumn, total}
-use Rattle.kf_hyper.specs.Hypers.{Inner, IsHyper}
-use Rattle.kf_hyper.specs.Joint.{mass}
-use Rattle.kf_hyper.specs.Shapes.{IsBelow, IsShape, as_inner}
-use Rattle.kf_hyper.specs.Traces.{Row}
-use Rattle.kf_hyper.proofs.Abstraction.{is_hyper, is_shape}
-use Rattle.kf_hyper.proofs.AtMostOne.{at_most_one}
-use Rattle.kf_hyper.proofs.SomeHyper.{Classed, classed}
-use Rattle.kf_hyper.proofs.Weights.{above_column}
+use Rattle.kf_column.specs.declared.entry.Entry.{Entry}
+use Rattle.kf_column.specs.Columns.{IsColumn, total}
+use Rattle.kf_column.specs.Hypers.{Inner, IsHyper}
+use Rattle.kf_column.specs.Joint.{mass}
+use Rattle.kf_column.specs.Shapes.{IsBelow, IsShape, as_inner}
+use Rattle.kf_column.specs.Traces.{Row}
+use Rattle.kf_column.proofs.Abstraction.{is_hyper, is_shape}
+use Rattle.kf_column.proofs.AtMostOne.{at_most_one}
+use Rattle.kf_column.proofs.SomeHyper.{Classed, classed}
+use Rattle.kf_column.proofs.Weights.{above_column}
 use Rattle.kf_core.specs.Checked.{IsChecked}
 use Rattle.kf_core.specs.Joint.{Cell, cell_of, joint_of, target_number, target_values_at}
 use Rattle.kf_core.specs.JointLaws.{JointIsWhole}

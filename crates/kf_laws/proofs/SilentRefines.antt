@@ -10,14 +10,14 @@ use Rattle.std.proofs.lemmas.List.Elements.{All-from_recursion, All-map, recursi
 use Rattle.kf_value.specs.Targets.{Item}
 use Rattle.kf_value.specs.Values.{ValueTree}
 use Rattle.kf_value.proofs.ListLemmas.{each_both, each_weaker}
-use Rattle.kf_hyper.specs.declared.entry.Entry.{Entry}
-use Rattle.kf_hyper.specs.Averages.{joint_weight}
-use Rattle.kf_hyper.specs.Columns.{IsColumn, weight_at, total, proportional}
-use Rattle.kf_hyper.specs.Hypers.{Inner, IsHyper, IsInner, class_total}
-use Rattle.kf_hyper.specs.Laws.{class_weight}
-use Rattle.kf_hyper.specs.Traces.{Row}
-use Rattle.kf_hyper.proofs.Scaling.{product_positive, total_positive}
-use Rattle.kf_hyper.proofs.Weighing.{classes_weigh, times_inner}
+use Rattle.kf_column.specs.declared.entry.Entry.{Entry}
+use Rattle.kf_column.specs.Averages.{joint_weight}
+use Rattle.kf_column.specs.Columns.{IsColumn, weight_at, total, proportional}
+use Rattle.kf_column.specs.Hypers.{Inner, IsHyper, IsInner, class_total}
+use Rattle.kf_column.specs.Laws.{class_weight}
+use Rattle.kf_column.specs.Traces.{Row}
+use Rattle.kf_column.proofs.Scaling.{product_positive, total_positive}
+use Rattle.kf_column.proofs.Weighing.{classes_weigh, times_inner}
 use Rattle.kf_core.specs.Joint.{Cell, weight_of}
 use Rattle.kf_core.specs.Rows.{AreRowsOf, IsHyperOf}
 use Rattle.kf_core.specs.Scale.{scale_of}

@@ -4,8 +4,8 @@ use Rattle.kf_core.specs.Joint.{joint_of}
 use Rattle.kf_core.specs.Programs.{ProgramTree}
 use Rattle.kf_core.specs.Rows.{IsHyperOf}
 use Rattle.kf_core.specs.Scale.{scale_of}
-use Rattle.kf_hyper.specs.Hypers.{Inner}
-use Rattle.kf_hyper.specs.Traces.{value_weight}
+use Rattle.kf_column.specs.Hypers.{Inner}
+use Rattle.kf_column.specs.Traces.{value_weight}
 use Rattle.kf_capacity.specs.Grids.{ChannelTree, GridTree, channel_grid, capacity_of}
 use Rattle.kf_gain.specs.Gains.{GainOf, Bayes, Table, TableTree}
 use Rattle.kf_gain.specs.Vulnerabilities.{IsPosterior}

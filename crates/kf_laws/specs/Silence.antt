@@ -1,6 +1,6 @@
 -- For bodies: a law of silent statements that stands above refinement.
 use Rattle.std.specs.Prelude.{ℕ, Bool, List}
-use Rattle.kf_hyper.specs.Hypers.{Inner}
+use Rattle.kf_column.specs.Hypers.{Inner}
 use Rattle.kf_core.specs.Programs.{ProgramTree}
 use Rattle.kf_core.specs.Rows.{IsHyperOf}
 use Rattle.kf_core.specs.Scale.{scale_of}

@@ -11,7 +11,7 @@ use Rattle.kf_gain.specs.Gains.{GainOf, TableTree, over_of}
 use Rattle.kf_gain.specs.Views.{gain_tree}
 use Rattle.kf_gain.specs.Vulnerabilities.{IsWidth}
 use Rattle.kf_gain.specs.declared.gain.Gain.{Gain}
-use Rattle.kf_hyper.specs.Hypers.{Inner}
+use Rattle.kf_column.specs.Hypers.{Inner}
 use Rattle.kf_lines.specs.LineTexts.{lines_text}
 use Rattle.kf_lines.specs.Outcome.{LinesIn, LinesUnder, TaskLines}
 use Rattle.kf_lines.specs.Sites.{program_sites}

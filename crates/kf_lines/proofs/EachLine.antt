@@ -11,7 +11,7 @@ use Rattle.kf_frac.specs.Parts.{IsFraction}
 use Rattle.kf_gain.specs.Gains.{GainOf, TableTree, over_of}
 use Rattle.kf_gain.specs.Vulnerabilities.{IsPosterior, IsWidth}
 use Rattle.kf_gain.proofs.Turning.{width_is}
-use Rattle.kf_hyper.specs.Hypers.{Inner}
+use Rattle.kf_column.specs.Hypers.{Inner}
 use Rattle.kf_lines.specs.Sites as spec
 use Rattle.kf_lines.specs.Sites.{sites as sites_of_statement, under}
 use Rattle.kf_lines.specs.Summaries.{AreLines, LineTree}

@@ -6,7 +6,7 @@ use Rattle.kf_core.specs.Programs.{ProgramTree}
 use Rattle.kf_core.specs.Rows.{IsHyperOf}
 use Rattle.kf_gain.specs.Gains.{GainOf, TableTree}
 use Rattle.kf_gain.specs.Vulnerabilities.{IsPosterior}
-use Rattle.kf_hyper.specs.Hypers.{Inner}
+use Rattle.kf_column.specs.Hypers.{Inner}
 use Rattle.kf_lines.specs.Sites.{Site}
 use Rattle.kf_silent.specs.Silent.{only, silent_joint}
 

@@ -4,12 +4,12 @@ use Rattle.std.specs.List.{IsDistinct, AllByRecursion as Each}
 use Rattle.std.proofs.Math.Nat.{mul-div_cancel_left}
 use Rattle.std.proofs.lemmas.List.Elements.{All-head, All-tail}
 use Rattle.std.proofs.lemmas.List.Sums.{sum_by-cons}
-use Rattle.kf_hyper.specs.declared.entry.Entry.{Entry}
-use Rattle.kf_hyper.specs.Columns.{IsColumn, proportional, total, weight_at}
-use Rattle.kf_hyper.specs.Hypers.{Inner, IsHyper, IsInner, class_total}
-use Rattle.kf_hyper.proofs.Proportions.{all_proportional, proportional_all}
-use Rattle.kf_hyper.proofs.Scaling.{total_positive}
-use Rattle.kf_hyper.proofs.Weights.{weight_at_head}
+use Rattle.kf_column.specs.declared.entry.Entry.{Entry}
+use Rattle.kf_column.specs.Columns.{IsColumn, proportional, total, weight_at}
+use Rattle.kf_column.specs.Hypers.{Inner, IsHyper, IsInner, class_total}
+use Rattle.kf_column.proofs.Proportions.{all_proportional, proportional_all}
+use Rattle.kf_column.proofs.Scaling.{total_positive}
+use Rattle.kf_column.proofs.Weights.{weight_at_head}
 
 -- ---- sums over two lists
 

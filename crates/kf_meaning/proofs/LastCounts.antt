@@ -5,15 +5,15 @@ use Rattle.std.proofs.Math.Seq.{take-length}
 use Rattle.std.proofs.lemmas.List.Elements.{All-cons, All-nil}
 use Rattle.kf_value.specs.Stores.{stores}
 use Rattle.kf_value.specs.Types.{TypeTree}
-use Rattle.kf_hyper.specs.declared.entry.Entry.{Entry}
-use Rattle.kf_hyper.specs.Averages.{joint_column}
-use Rattle.kf_hyper.specs.Columns.{IsColumn}
-use Rattle.kf_hyper.specs.Hypers.{Inner, IsHyper}
-use Rattle.kf_hyper.specs.Laws.{ProjectedNumbers, SomeHyper}
-use Rattle.kf_hyper.specs.Merged.{AreMerged}
-use Rattle.kf_hyper.specs.Shapes.{IsBelow}
-use Rattle.kf_hyper.specs.Traces.{Row}
-use Rattle.kf_hyper.proofs.Beliefs.{merged_below, merged_distinct}
+use Rattle.kf_column.specs.declared.entry.Entry.{Entry}
+use Rattle.kf_column.specs.Averages.{joint_column}
+use Rattle.kf_column.specs.Columns.{IsColumn}
+use Rattle.kf_column.specs.Hypers.{Inner, IsHyper}
+use Rattle.kf_column.specs.Laws.{ProjectedNumbers, SomeHyper}
+use Rattle.kf_column.specs.Merged.{AreMerged}
+use Rattle.kf_column.specs.Shapes.{IsBelow}
+use Rattle.kf_column.specs.Traces.{Row}
+use Rattle.kf_column.proofs.Beliefs.{merged_below, merged_distinct}
 use Rattle.kf_core.specs.ChoiceLaws.{ChoicesAreShares}
 use Rattle.kf_core.specs.Dxs.{DxTree}
 use Rattle.kf_core.specs.Joint.{cells, target_number}

@@ -7,7 +7,7 @@ use Rattle.std.specs.declared.cmp.Ordering.{Ordering}
 use Rattle.std.specs.declared.cmp.Ordering.TheVariants.{Less, Equal, Greater}
 use Rattle.kf_value.specs.Values.{ValueTree, Truth, Whole, Tuple, Set, parts, parts_list}
 use Rattle.kf_value.proofs.Orders.{same}
-use Rattle.kf_hyper.specs.Traces.{Row, trace_order}
+use Rattle.kf_column.specs.Traces.{Row, trace_order}
 use Rattle.kf_core.proofs.OneTable.{as_tuples, listed_parts}
 use Rattle.kf_capacity.specs.Compositions.{place_of, secret_values}
 use Rattle.kf_meaning.specs.Channels.{PlacesShowSecrets}

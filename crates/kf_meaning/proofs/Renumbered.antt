@@ -6,14 +6,14 @@ use Rattle.std.proofs.Math.Nat.{div-one, one-mul}
 use Rattle.std.proofs.lemmas.Bool.{cases_lt, eq-eqb, eqb-true, false_from_ne_true}
 use Rattle.std.proofs.lemmas.List.Elements.{All-head, All-tail}
 use Rattle.std.proofs.lemmas.List.Sums.{sum_by-cons}
-use Rattle.kf_hyper.specs.declared.entry.Entry.{Entry}
-use Rattle.kf_hyper.specs.Columns.{IsColumn, proportional, weight_at}
-use Rattle.kf_hyper.specs.Projection.{weight_through}
-use Rattle.kf_hyper.specs.Shapes.{IsBelow}
-use Rattle.kf_hyper.specs.Traces.{Row}
-use Rattle.kf_hyper.proofs.Proportions.{all_proportional, proportional_all}
-use Rattle.kf_hyper.proofs.Scaling.{two_ways}
-use Rattle.kf_hyper.proofs.Weights.{weight_at-cons, weight_at_other}
+use Rattle.kf_column.specs.declared.entry.Entry.{Entry}
+use Rattle.kf_column.specs.Columns.{IsColumn, proportional, weight_at}
+use Rattle.kf_column.specs.Projection.{weight_through}
+use Rattle.kf_column.specs.Shapes.{IsBelow}
+use Rattle.kf_column.specs.Traces.{Row}
+use Rattle.kf_column.proofs.Proportions.{all_proportional, proportional_all}
+use Rattle.kf_column.proofs.Scaling.{two_ways}
+use Rattle.kf_column.proofs.Weights.{weight_at-cons, weight_at_other}
 use Rattle.kf_core.specs.Joint.{HasTrace, weight_of}
 use Rattle.kf_core.specs.Pushing.{carried_cells}
 use Rattle.kf_core.specs.Rows.{AreRowsOf}

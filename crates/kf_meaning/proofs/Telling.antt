@@ -9,8 +9,8 @@ use Rattle.kf_value.specs.Stores.{stores}
 use Rattle.kf_value.specs.Targets.{Item}
 use Rattle.kf_value.specs.Types.{TypeTree, count, product}
 use Rattle.kf_value.specs.Values.{ValueTree, Truth}
-use Rattle.kf_hyper.specs.Laws.{AreAt, ProjectedNumbers}
-use Rattle.kf_hyper.proofs.AtMostOne.{In}
+use Rattle.kf_column.specs.Laws.{AreAt, ProjectedNumbers}
+use Rattle.kf_column.proofs.AtMostOne.{In}
 use Rattle.kf_core.specs.Checked.{IsChecked}
 use Rattle.kf_core.specs.Joint.{target_number, target_values_at}
 use Rattle.kf_core.specs.Programs.{ProgramTree}

@@ -10,11 +10,11 @@ use Rattle.kf_value.specs.Stores.{stores}
 use Rattle.kf_value.specs.Types.{TypeTree}
 use Rattle.kf_value.specs.Values.{ValueTree, is_equal, truth}
 use Rattle.kf_value.proofs.ListLemmas.{each_any, each_flat_map, each_map, each_weaker}
-use Rattle.kf_hyper.specs.declared.entry.Entry.{Entry}
-use Rattle.kf_hyper.specs.Columns.{IsColumn, weight_at}
-use Rattle.kf_hyper.specs.Shapes.{IsBelow}
-use Rattle.kf_hyper.specs.Traces.{Row}
-use Rattle.kf_hyper.proofs.Weights.{weight_at-cons, weight_at_head}
+use Rattle.kf_column.specs.declared.entry.Entry.{Entry}
+use Rattle.kf_column.specs.Columns.{IsColumn, weight_at}
+use Rattle.kf_column.specs.Shapes.{IsBelow}
+use Rattle.kf_column.specs.Traces.{Row}
+use Rattle.kf_column.proofs.Weights.{weight_at-cons, weight_at_head}
 use Rattle.kf_core.specs.Choices.{total}
 use Rattle.kf_core.specs.Dxs.{DxTree}
 use Rattle.kf_core.specs.Joint.{Cell, cell_of, cells, weight_of}

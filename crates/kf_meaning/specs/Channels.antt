@@ -1,6 +1,6 @@
 -- For bodies: laws of composed channels, cell by cell (Alvim et al. 2020, cascade and parallel composition).
 use Rattle.std.specs.Prelude.{◌≡◌, ℕ, ◌+◌, ◌*◌, ◌<◌, true, List, [], Some, length, slice_get, slice_index, slice_index_or}
-use Rattle.kf_hyper.specs.Traces.{Row}
+use Rattle.kf_column.specs.Traces.{Row}
 use Rattle.kf_capacity.specs.Compositions.{cascade_grid, fits, parallel_grid, places, secret_values}
 use Rattle.kf_capacity.specs.Grids.{ChannelTree, GridTree}
 use Rattle.kf_capacity.specs.Shapes.{IsStochastic}

@@ -1,6 +1,6 @@
 -- For bodies: laws of trails: how many beliefs there are after the last statement, beside the hyper that is printed.
 use Rattle.std.specs.Prelude.{◌≡◌, ℕ, ◌<◌, ◌≤◌, List, Contains, length, slice_get, Some, IsOk}
-use Rattle.kf_hyper.specs.Hypers.{Inner}
+use Rattle.kf_column.specs.Hypers.{Inner}
 use Rattle.kf_core.specs.Checked.{IsChecked}
 use Rattle.kf_core.specs.Joint.{joint_of}
 use Rattle.kf_core.specs.Programs.{ProgramTree}

@@ -10,8 +10,8 @@ ghost use Rattle.kf_meaning.specs.Choosing.{AndSkips, CondSkips, FirstIsAsked, O
 ghost use Rattle.kf_meaning.specs.Faults.{BlockFaultIsFirst, FirstFaultOfRuns, FirstFaultOfProgram, NoFaultBefore};
 ghost use Rattle.kf_meaning.specs.Trails.{LastCountBounds, LastCountIsMet};
 
+use kf_column::{one_hyper, projection_laws};
 use kf_core::{choice_laws, joint_laws, run_laws};
-use kf_hyper::{one_hyper, projection_laws};
 
 /// Laws of the definitions: the reported fault of a program or a block is that of the shortest prefix of its statements which has one, by
 /// the pass over sets of stores and by the runs themselves. It does nothing when it runs.

@@ -11,9 +11,9 @@ use Rattle.std.proofs.lemmas.List.Elements.{All-get_or}
 use Rattle.std.proofs.lemmas.List.FromFn.{get_or-map-range_with_len, length-map-range_with_len}
 use Rattle.std.proofs.lemmas.Slice.Zip.{AllZip-long}
 use Rattle.kf_frac.proofs.Ring.{ring}
-use Rattle.kf_hyper.specs.declared.entry.Entry.{Entry}
-use Rattle.kf_hyper.specs.Columns.{weight_at}
-use Rattle.kf_hyper.proofs.Weights.{Above, above_from, ascending_above, positive_above, weight_at_head, weight_at_other, weight_below}
+use Rattle.kf_column.specs.declared.entry.Entry.{Entry}
+use Rattle.kf_column.specs.Columns.{weight_at}
+use Rattle.kf_column.proofs.Weights.{Above, above_from, ascending_above, positive_above, weight_at_head, weight_at_other, weight_below}
 use Rattle.kf_gain.specs.Gains.{GainOf, TableTree}
 use Rattle.kf_gain.specs.Laws.{HasActions}
 use Rattle.kf_gain.specs.Worth.{IsVulnerability, NoBetter}

@@ -10,8 +10,8 @@ use Rattle.kf_frac.specs.Fractions.{reduced_num, reduced_den, parts_of}
 use Rattle.kf_frac.proofs.CommonDivisors.{gcd_is}
 use Rattle.kf_frac.proofs.LowestTerms.{reduced_num_abs, reduced_den_times}
 use Rattle.kf_frac.proofs.Multiples.{common_divided, common_positive}
-use Rattle.kf_hyper.specs.Columns.{weight_at}
-use Rattle.kf_hyper.specs.Traces.{Row, value_weight}
+use Rattle.kf_column.specs.Columns.{weight_at}
+use Rattle.kf_column.specs.Traces.{Row, value_weight}
 use Rattle.kf_capacity.specs.Dens.{column_dens, dens}
 use Rattle.kf_capacity.specs.Grids.{ChannelTree, cell_den, column_in, denominator}
 use Rattle.kf_capacity.proofs.Denominators.{AllWeigh, dens_positive}

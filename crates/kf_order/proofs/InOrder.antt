@@ -4,10 +4,10 @@ use Rattle.std.specs.declared.cmp.Ordering.TheVariants.{Less}
 use Rattle.std.specs.Ordering.{ordering_reverse}
 use Rattle.std.specs.List.{AllByRecursion as Each}
 use Rattle.std.specs.List.Sorted.{IsStrictlySortedBy}
-use Rattle.kf_hyper.specs.declared.entry.Entry.{Entry}
-use Rattle.kf_hyper.specs.Hypers.{list_order}
-use Rattle.kf_hyper.proofs.AtMostOne.{In, Ordered, same_lists}
-use Rattle.kf_hyper.proofs.Gathering.{list_total}
+use Rattle.kf_column.specs.declared.entry.Entry.{Entry}
+use Rattle.kf_column.specs.Hypers.{list_order}
+use Rattle.kf_column.proofs.AtMostOne.{In, Ordered, same_lists}
+use Rattle.kf_column.proofs.Gathering.{list_total}
 
 -- ---- members and places
 

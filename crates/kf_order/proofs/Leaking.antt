@@ -14,13 +14,13 @@ use lib.Signed.{◌≤ℤ◌}
 use Rattle.kf_frac.specs.Fractions.{parts_of}
 use Rattle.kf_frac.proofs.Ring.{add_mul, mul_add}
 use Rattle.kf_value.proofs.ListLemmas.{each_both}
-use Rattle.kf_hyper.specs.declared.entry.Entry.{Entry}
-use Rattle.kf_hyper.specs.Columns.{IsColumn, weight_at}
-use Rattle.kf_hyper.specs.Hypers.{Inner, IsHyper}
-use Rattle.kf_hyper.specs.Traces.{Row, value_weight}
+use Rattle.kf_column.specs.declared.entry.Entry.{Entry}
+use Rattle.kf_column.specs.Columns.{IsColumn, weight_at}
+use Rattle.kf_column.specs.Hypers.{Inner, IsHyper}
+use Rattle.kf_column.specs.Traces.{Row, value_weight}
 use Rattle.kf_hyper.proofs.Averaging.{sum-mapped}
-use Rattle.kf_hyper.proofs.Weighing.{averages_weigh}
-use Rattle.kf_hyper.proofs.Weights.{Above, above_column}
+use Rattle.kf_column.proofs.Weighing.{averages_weigh}
+use Rattle.kf_column.proofs.Weights.{Above, above_column}
 use Rattle.kf_gain.specs.Gains.{GainOf, Bayes, TableTree}
 use Rattle.kf_gain.specs.Laws.{HasActions}
 use Rattle.kf_gain.specs.Vulnerabilities.{IsAverage, IsPrior, IsPosterior}

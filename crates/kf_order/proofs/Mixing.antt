@@ -7,13 +7,13 @@ use Rattle.std.proofs.Math.Nat.{eq-zero-or-pos, mul-div_cancel}
 use Rattle.std.proofs.lemmas.Int.{ints}
 use Rattle.std.proofs.lemmas.List.Sums.{sum_by-cons}
 use lib.Signed.{◌≤ℤ◌}
-use Rattle.kf_hyper.specs.declared.entry.Entry.{Entry}
-use Rattle.kf_hyper.specs.Averages.{scaled, joint_weight, joint_column, average_weight}
-use Rattle.kf_hyper.specs.Columns.{weight_at, total as sum_of}
-use Rattle.kf_hyper.specs.Hypers.{Inner}
-use Rattle.kf_hyper.proofs.ClassSums.{above_scaled}
-use Rattle.kf_hyper.proofs.Scaling.{total-scaled, total_positive, weight_at-scaled}
-use Rattle.kf_hyper.proofs.Weights.{Above, ascending_above, column_above, positive_above}
+use Rattle.kf_column.specs.declared.entry.Entry.{Entry}
+use Rattle.kf_column.specs.Averages.{scaled, joint_weight, joint_column, average_weight}
+use Rattle.kf_column.specs.Columns.{weight_at, total as sum_of}
+use Rattle.kf_column.specs.Hypers.{Inner}
+use Rattle.kf_column.proofs.ClassSums.{above_scaled}
+use Rattle.kf_column.proofs.Scaling.{total-scaled, total_positive, weight_at-scaled}
+use Rattle.kf_column.proofs.Weights.{Above, ascending_above, column_above, positive_above}
 use Rattle.kf_gain.specs.Gains.{GainOf, Bayes, Tries, Guessing, Table, TableTree}
 use Rattle.kf_gain.specs.Vulnerabilities.{IsAverage, IsPosterior}
 use Rattle.kf_gain.specs.Worth.{IsVulnerability, NoBetter}

@@ -8,8 +8,8 @@ use Rattle.std.proofs.lemmas.List.{get_or_default}
 use Rattle.std.proofs.lemmas.List.Elements.{recursion_from_All}
 use Rattle.std.proofs.lemmas.List.Sorted.{All-permutation}
 use Rattle.std.proofs.lemmas.List.Sums.{get_or-le-sum_by}
-use Rattle.kf_hyper.specs.Columns.{weight_at}
-use Rattle.kf_hyper.specs.Traces.{Row, value_weight}
+use Rattle.kf_column.specs.Columns.{weight_at}
+use Rattle.kf_column.specs.Traces.{Row, value_weight}
 use Rattle.kf_channel.specs.Channels.{AreSecrets}
 use Rattle.kf_capacity.specs.Grids.{ChannelTree, column_in, denominator}
 use Rattle.kf_order.specs.Structure.{HaveOneMatrix}

@@ -11,14 +11,14 @@ use Rattle.std.proofs.lemmas.List.{ext_get_or, get_or-map, length-map}
 use Rattle.std.proofs.lemmas.List.Elements.{All-get_or}
 use lib.Signed.{◌<ℤ◌, ◌≤ℤ◌}
 use Rattle.kf_frac.proofs.Ring.{ring}
-use Rattle.kf_hyper.specs.declared.entry.Entry.{Entry}
-use Rattle.kf_hyper.specs.Columns.{weight_at, total as sum_of}
-use Rattle.kf_hyper.specs.Hypers.{Inner, IsInner}
-use Rattle.kf_hyper.proofs.AtMostOne.{In}
-use Rattle.kf_hyper.proofs.ClassSums.{class_sum, is_whole}
-use Rattle.kf_hyper.proofs.Posteriors.{same_inner}
-use Rattle.kf_hyper.proofs.Proportions.{AreProportional}
-use Rattle.kf_hyper.proofs.Scaling.{product_positive}
+use Rattle.kf_column.specs.declared.entry.Entry.{Entry}
+use Rattle.kf_column.specs.Columns.{weight_at, total as sum_of}
+use Rattle.kf_column.specs.Hypers.{Inner, IsInner}
+use Rattle.kf_column.proofs.AtMostOne.{In}
+use Rattle.kf_column.proofs.ClassSums.{class_sum, is_whole}
+use Rattle.kf_column.proofs.Posteriors.{same_inner}
+use Rattle.kf_column.proofs.Proportions.{AreProportional}
+use Rattle.kf_column.proofs.Scaling.{product_positive}
 use Rattle.kf_gain.specs.Gains.{Bayes}
 use Rattle.kf_gain.proofs.Measures.{some}
 use Rattle.kf_simplex.specs.Base.{total}

@@ -7,13 +7,13 @@ use Rattle.std.proofs.lemmas.List.{get_or-map, length-map}
 use lib.Signed.{◌<ℤ◌, ◌≤ℤ◌}
 use Rattle.kf_frac.proofs.Ring.{ring}
 use Rattle.kf_value.specs.Numbers.{target_size}
-use Rattle.kf_hyper.specs.declared.entry.Entry.{Entry}
-use Rattle.kf_hyper.specs.Averages.{joint_column}
-use Rattle.kf_hyper.specs.Columns.{weight_at}
-use Rattle.kf_hyper.specs.Hypers.{Inner}
-use Rattle.kf_hyper.proofs.Scaling.{product_positive}
-use Rattle.kf_hyper.proofs.Weighing.{joint_column_weighs}
-use Rattle.kf_hyper.proofs.Weights.{Above}
+use Rattle.kf_column.specs.declared.entry.Entry.{Entry}
+use Rattle.kf_column.specs.Averages.{joint_column}
+use Rattle.kf_column.specs.Columns.{weight_at}
+use Rattle.kf_column.specs.Hypers.{Inner}
+use Rattle.kf_column.proofs.Scaling.{product_positive}
+use Rattle.kf_column.proofs.Weighing.{joint_column_weighs}
+use Rattle.kf_column.proofs.Weights.{Above}
 use Rattle.kf_gain.specs.Gains.{GainOf, Bayes, Tries, Guessing, Table, TableTree}
 use Rattle.kf_gain.specs.Laws.{HasActions}
 use Rattle.kf_gain.specs.Vulnerabilities.{IsPosterior}

@@ -8,10 +8,10 @@ use Rattle.std.proofs.lemmas.List.{get_or-map, length-map}
 use Rattle.std.proofs.lemmas.List.Elements.{Contains-get_or}
 use lib.Signed.{◌≤ℤ◌}
 use Rattle.kf_frac.proofs.Ring.{mul_assoc, ring}
-use Rattle.kf_hyper.specs.declared.entry.Entry.{Entry}
-use Rattle.kf_hyper.specs.Columns.{weight_at}
-use Rattle.kf_hyper.proofs.AtMostOne.{In}
-use Rattle.kf_hyper.proofs.Weights.{same_column, weight_at_head, weight_at_other}
+use Rattle.kf_column.specs.declared.entry.Entry.{Entry}
+use Rattle.kf_column.specs.Columns.{weight_at}
+use Rattle.kf_column.proofs.AtMostOne.{In}
+use Rattle.kf_column.proofs.Weights.{same_column, weight_at_head, weight_at_other}
 use Rattle.kf_gain.specs.declared.table.Action.{Action}
 use Rattle.kf_gain.specs.declared.table.GainEntry.{GainEntry}
 use Rattle.kf_gain.specs.Gains.{Table, TableTree, gain_at}

@@ -12,13 +12,13 @@ use lib.Signed.{◌<ℤ◌, ◌≤ℤ◌}
 use Rattle.kf_frac.specs.Divisors.{common_multiple}
 use Rattle.kf_frac.proofs.Multiples.{common_divided, common_positive}
 use Rattle.kf_frac.proofs.Ring.{mul_add, ring}
-use Rattle.kf_hyper.specs.declared.entry.Entry.{Entry}
-use Rattle.kf_hyper.specs.Averages.{joint_column}
-use Rattle.kf_hyper.specs.Columns.{IsColumn, weight_at}
-use Rattle.kf_hyper.specs.Hypers.{Inner}
-use Rattle.kf_hyper.specs.Traces.{Row, value_weight}
-use Rattle.kf_hyper.proofs.AtMostOne.{In}
-use Rattle.kf_hyper.proofs.Scaling.{product_positive}
+use Rattle.kf_column.specs.declared.entry.Entry.{Entry}
+use Rattle.kf_column.specs.Averages.{joint_column}
+use Rattle.kf_column.specs.Columns.{IsColumn, weight_at}
+use Rattle.kf_column.specs.Hypers.{Inner}
+use Rattle.kf_column.specs.Traces.{Row, value_weight}
+use Rattle.kf_column.proofs.AtMostOne.{In}
+use Rattle.kf_column.proofs.Scaling.{product_positive}
 use Rattle.kf_core.proofs.OneTable.{in_from_contains}
 use Rattle.kf_channel.specs.Channels.{AreSecrets}
 use Rattle.kf_gain.specs.Gains.{Table, TableTree}

@@ -1,6 +1,6 @@
 -- For bodies: whether one channel leaks no more than another doesn't depend on the prior (Alvim et al. 2020, refinement of channels).
 use Rattle.std.specs.Prelude.{◌≡◌, ℕ, ◌*◌, List, IsPermutation}
-use Rattle.kf_hyper.specs.Traces.{value_weight}
+use Rattle.kf_column.specs.Traces.{value_weight}
 use Rattle.kf_core.specs.Joint.{Cell}
 use Rattle.kf_core.specs.Rows.{AreRowsOf, IsHyperOf}
 use Rattle.kf_channel.specs.Channels.{AreSecrets}

@@ -12,10 +12,10 @@ use Rattle.std.proofs.lemmas.List.{length-append, length-replicate}
 use Rattle.kf_frac.proofs.Ring.{mul_assoc, mul_add}
 use Rattle.kf_value.specs.Types.{TypeTree}
 use Rattle.kf_value.proofs.ListLemmas.{each_any}
-use Rattle.kf_hyper.specs.Averages.{joint_column}
-use Rattle.kf_hyper.specs.Hypers.{Inner}
-use Rattle.kf_hyper.specs.declared.entry.Entry.{Entry}
-use Rattle.kf_hyper.specs.Traces.{Row}
+use Rattle.kf_column.specs.Averages.{joint_column}
+use Rattle.kf_column.specs.Hypers.{Inner}
+use Rattle.kf_column.specs.declared.entry.Entry.{Entry}
+use Rattle.kf_column.specs.Traces.{Row}
 use Rattle.kf_core.specs.Checked.{IsChecked}
 use Rattle.kf_core.specs.Joint.{joint_of, target_number}
 use Rattle.kf_core.specs.Programs.{ProgramTree}

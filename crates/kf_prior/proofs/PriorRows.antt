@@ -8,14 +8,14 @@ use Rattle.std.proofs.lemmas.List.Elements.{All-head, All-tail, All-from_recursi
 use Rattle.std.proofs.lemmas.List.Kept.{IsStrictlySortedBy-filter}
 use Rattle.kf_value.specs.Values.{ValueTree, is_equal}
 use Rattle.kf_value.proofs.ListLemmas.{each_map}
-use Rattle.kf_hyper.specs.declared.entry.Entry.{Entry}
-use Rattle.kf_hyper.specs.Columns.{IsColumn, weight_at, total}
-use Rattle.kf_hyper.specs.Hypers.{Inner}
-use Rattle.kf_hyper.specs.Averages.{joint_column}
-use Rattle.kf_hyper.specs.Traces.{Row, trace_order}
-use Rattle.kf_hyper.proofs.AtMostOne.{In}
-use Rattle.kf_hyper.proofs.Scaling.{total-cons}
-use Rattle.kf_hyper.proofs.Weights.{weight_at-cons}
+use Rattle.kf_column.specs.declared.entry.Entry.{Entry}
+use Rattle.kf_column.specs.Columns.{IsColumn, weight_at, total}
+use Rattle.kf_column.specs.Hypers.{Inner}
+use Rattle.kf_column.specs.Averages.{joint_column}
+use Rattle.kf_column.specs.Traces.{Row, trace_order}
+use Rattle.kf_column.proofs.AtMostOne.{In}
+use Rattle.kf_column.proofs.Scaling.{total-cons}
+use Rattle.kf_column.proofs.Weights.{weight_at-cons}
 use Rattle.kf_core.specs.Joint.{Cell, is_cell_at, weight_of, trace_weight, HasTrace}
 use Rattle.kf_core.specs.Rows.{AreRowsOf, IsHyperOf}
 use Rattle.kf_core.proofs.OneTable.{in_from_contains, contains_from_in, one_list, not_both_traces}

@@ -9,16 +9,16 @@ use Rattle.std.proofs.lemmas.Int.{ints}
 use Rattle.std.proofs.lemmas.List.Elements.{All-head, All-tail}
 use Rattle.std.proofs.lemmas.List.Sums.{sum_by-cons}
 use Rattle.kf_frac.proofs.Ring.{add_mul}
-use Rattle.kf_hyper.specs.declared.entry.Entry.{Entry}
-use Rattle.kf_hyper.specs.Columns.{IsColumn, weight_at, total, proportional}
-use Rattle.kf_hyper.specs.Hypers.{Inner, IsInner, IsHyper, class_total}
-use Rattle.kf_hyper.specs.Averages.{scaled, joint_column}
-use Rattle.kf_hyper.specs.Classes.{HasInner}
-use Rattle.kf_hyper.proofs.Posteriors.{same_inner}
-use Rattle.kf_hyper.proofs.Proportions.{proportional_all, bool_cases}
-use Rattle.kf_hyper.proofs.Scaling.{total-cons, total-scaled, total_positive, proportional_reduced}
-use Rattle.kf_hyper.proofs.SomeHyper.{inner_of_column}
-use Rattle.kf_hyper.proofs.Weights.{weight_at-cons, same_column}
+use Rattle.kf_column.specs.declared.entry.Entry.{Entry}
+use Rattle.kf_column.specs.Columns.{IsColumn, weight_at, total, proportional}
+use Rattle.kf_column.specs.Hypers.{Inner, IsInner, IsHyper, class_total}
+use Rattle.kf_column.specs.Averages.{scaled, joint_column}
+use Rattle.kf_column.specs.Classes.{HasInner}
+use Rattle.kf_column.proofs.Posteriors.{same_inner}
+use Rattle.kf_column.proofs.Proportions.{proportional_all, bool_cases}
+use Rattle.kf_column.proofs.Scaling.{total-cons, total-scaled, total_positive, proportional_reduced}
+use Rattle.kf_column.proofs.SomeHyper.{inner_of_column}
+use Rattle.kf_column.proofs.Weights.{weight_at-cons, same_column}
 use Rattle.kf_gain.specs.declared.table.GainEntry.{GainEntry}
 use Rattle.kf_gain.specs.Gains.{Table, TableTree}
 use Rattle.kf_gain.specs.Worth.{gained, IsVulnerability}

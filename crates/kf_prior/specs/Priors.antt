@@ -1,8 +1,8 @@
 -- Believed by who reads what is said of all priors: what is seen of a program where its initial stores are as likely as a prior says.
 use Rattle.std.specs.Prelude.{◌≡◌, ℕ, ◌+◌, ◌*◌, ℤ, pos, ◌+ℤ◌, List, [], ◌∷◌, ◌++◌, map, take, drop, length}
 use Rattle.kf_value.specs.Types.{count, product}
-use Rattle.kf_hyper.specs.declared.entry.Entry.{Entry}
-use Rattle.kf_hyper.specs.Traces.{Row}
+use Rattle.kf_column.specs.declared.entry.Entry.{Entry}
+use Rattle.kf_column.specs.Traces.{Row}
 use Rattle.kf_core.specs.Joint.{Cell, cells, target_number}
 use Rattle.kf_core.specs.Programs.{ProgramTree}
 use Rattle.kf_core.specs.Rows.{AreRowsOf}

@@ -5,12 +5,12 @@ use Rattle.std.specs.List.{AllZip}
 use Rattle.std.proofs.Math.Nat.{div-one, one-mul}
 use Rattle.std.proofs.lemmas.List.Elements.{All-head, All-tail}
 use Rattle.kf_value.specs.Types.{count, product}
-use Rattle.kf_hyper.specs.declared.entry.Entry.{Entry}
-use Rattle.kf_hyper.specs.Columns.{IsColumn, weight_at}
-use Rattle.kf_hyper.specs.Hypers.{Inner, IsHyper}
-use Rattle.kf_hyper.specs.Laws.{ProjectedNumbers}
-use Rattle.kf_hyper.specs.Projection.{projected, weight_through}
-use Rattle.kf_hyper.specs.Shapes.{IsBelow}
+use Rattle.kf_column.specs.declared.entry.Entry.{Entry}
+use Rattle.kf_column.specs.Columns.{IsColumn, weight_at}
+use Rattle.kf_column.specs.Hypers.{Inner, IsHyper}
+use Rattle.kf_column.specs.Laws.{ProjectedNumbers}
+use Rattle.kf_column.specs.Projection.{projected, weight_through}
+use Rattle.kf_column.specs.Shapes.{IsBelow}
 use Rattle.kf_core.specs.Checked.{IsChecked}
 use Rattle.kf_core.specs.Joint.{Cell, is_cell_at, target_number, weight_of}
 use Rattle.kf_core.specs.Programs.{ProgramTree}

@@ -6,11 +6,11 @@ use Rattle.std.proofs.Math.Nat.{one-mul, div-one}
 use Rattle.std.proofs.lemmas.List.Elements.{All-weaker, All-from_recursion}
 use Rattle.kf_value.specs.Values.{is_equal}
 use Rattle.kf_value.proofs.Sorting.{sorted-nil, sorted-cons}
-use Rattle.kf_hyper.specs.declared.entry.Entry.{Entry}
-use Rattle.kf_hyper.specs.Columns.{IsColumn, weight_at, total}
-use Rattle.kf_hyper.specs.Traces.{Row, trace_order}
-use Rattle.kf_hyper.proofs.AtMostOne.{In}
-use Rattle.kf_hyper.proofs.Scaling.{total_positive}
+use Rattle.kf_column.specs.declared.entry.Entry.{Entry}
+use Rattle.kf_column.specs.Columns.{IsColumn, weight_at, total}
+use Rattle.kf_column.specs.Traces.{Row, trace_order}
+use Rattle.kf_column.proofs.AtMostOne.{In}
+use Rattle.kf_column.proofs.Scaling.{total_positive}
 use Rattle.kf_core.specs.Joint.{Cell, cells, weight_of, HasTrace}
 use Rattle.kf_core.specs.Pushing.{carried_cells, AreBehind}
 use Rattle.kf_core.specs.Rows.{AreRowsOf}

@@ -6,7 +6,7 @@ use Rattle.kf_core.specs.Programs.{ProgramTree}
 use Rattle.kf_gain.specs.Gains.{Bayes}
 use Rattle.kf_gain.specs.Laws.{OneReport, SomeReport}
 use Rattle.kf_gain.specs.Vulnerabilities.{IsPosterior}
-use Rattle.kf_hyper.specs.Hypers.{Inner}
+use Rattle.kf_column.specs.Hypers.{Inner}
 use Rattle.kf_quiet.specs.Blames.{AreBlames, BlameTree, IsBlame}
 use Rattle.kf_quiet.specs.Laws.{OnlyOneBlames, SomeBlames, SomeQuiet}
 use Rattle.kf_quiet.specs.Quiet.{quiet_joint}

@@ -9,7 +9,7 @@ use Rattle.std.specs.declared.cmp.Ordering.TheVariants.{Less}
 use Rattle.std.proofs.Math.Nat.{mul-div_assoc, mul_comm, zero-div, zero-mul}
 use Rattle.kf_value.specs.Values.{ValueTree, is_equal}
 use Rattle.kf_value.proofs.ListLemmas.{each_flat_map, each_weaker}
-use Rattle.kf_hyper.specs.Traces.{Row, trace_order}
+use Rattle.kf_column.specs.Traces.{Row, trace_order}
 use Rattle.kf_core.specs.Joint.{Cell, cell_of, cells, HasTrace}
 use Rattle.kf_core.specs.Rows.{AreRowsOf}
 use Rattle.kf_core.specs.Runs.{Run, Halted}

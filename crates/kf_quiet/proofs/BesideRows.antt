@@ -13,11 +13,11 @@ use Rattle.std.proofs.lemmas.List.Sums.{sum_by-append}
 use Rattle.kf_value.specs.Values.{is_equal}
 use Rattle.kf_value.proofs.ListLemmas.{each_weaker, each_append, each_map, each_any}
 use Rattle.kf_value.proofs.Sorting.{sorted-append, Before}
-use Rattle.kf_hyper.specs.declared.entry.Entry.{Entry}
-use Rattle.kf_hyper.specs.Columns.{total, proportional}
-use Rattle.kf_hyper.specs.Hypers.{class_total}
-use Rattle.kf_hyper.specs.Traces.{Row, trace_order}
-use Rattle.kf_hyper.proofs.AtMostOne.{In}
+use Rattle.kf_column.specs.declared.entry.Entry.{Entry}
+use Rattle.kf_column.specs.Columns.{total, proportional}
+use Rattle.kf_column.specs.Hypers.{class_total}
+use Rattle.kf_column.specs.Traces.{Row, trace_order}
+use Rattle.kf_column.proofs.AtMostOne.{In}
 use Rattle.kf_core.specs.Joint.{Cell, cell_of, cells, weight_of, trace_weight, HasTrace}
 use Rattle.kf_core.specs.Pushing.{carried_cells}
 use Rattle.kf_core.specs.Rows.{AreRowsOf}

@@ -9,13 +9,13 @@ use Rattle.kf_value.proofs.ListLemmas.{each_weaker, each_both, each_map, each_fl
 use Rattle.std.specs.Prelude.{sum_by, if◌then◌else◌}
 use Rattle.std.specs.declared.cmp.Ordering.TheVariants.{Less}
 use Rattle.kf_value.specs.Values.{ValueTree}
-use Rattle.kf_hyper.specs.declared.entry.Entry.{Entry}
-use Rattle.kf_hyper.specs.Columns.{IsColumn, weight_at, total, proportional}
-use Rattle.kf_hyper.specs.Hypers.{class_total}
-use Rattle.kf_hyper.specs.Joint.{mass}
-use Rattle.kf_hyper.specs.Merged.{SameBeliefs, AreMerged}
-use Rattle.kf_hyper.specs.Traces.{Row, trace_order}
-use Rattle.kf_hyper.proofs.Weights.{above_column}
+use Rattle.kf_column.specs.declared.entry.Entry.{Entry}
+use Rattle.kf_column.specs.Columns.{IsColumn, weight_at, total, proportional}
+use Rattle.kf_column.specs.Hypers.{class_total}
+use Rattle.kf_column.specs.Joint.{mass}
+use Rattle.kf_column.specs.Merged.{SameBeliefs, AreMerged}
+use Rattle.kf_column.specs.Traces.{Row, trace_order}
+use Rattle.kf_column.proofs.Weights.{above_column}
 use Rattle.kf_core.specs.Joint.{cells, weight_of, HasTrace}
 use Rattle.kf_core.specs.Pushing.{carried_cells, AreBehind}
 use Rattle.kf_core.specs.Ready.{DivideAlong, IsPushed}
@@ -23,7 +23,7 @@ use Rattle.kf_core.specs.Runs.{Run, chain, stay}
 use Rattle.kf_core.proofs.Measures.{Measure}
 use Rattle.kf_quiet.specs.Following.{Goes, Takes}
 use Rattle.kf_quiet.specs.Merging.{SplitsOnce, SomeAreBehind, OnlyOneBehind}
-use Rattle.kf_hyper.proofs.Beliefs.{some_merged, one_merged, merged_columns, merged_again, merged_totals, merged_mass, totals_tell}
+use Rattle.kf_column.proofs.Beliefs.{some_merged, one_merged, merged_columns, merged_again, merged_totals, merged_mass, totals_tell}
 use Rattle.kf_quiet.proofs.AlikeRows.{alike_behind, all_stay}
 use Rattle.kf_quiet.proofs.BesideRows.{beside_total}
 use Rattle.kf_quiet.proofs.CellsFrom.{rows_told}

@@ -6,8 +6,8 @@ use Rattle.std.specs.List.{AllByRecursion as Each}
 use Rattle.std.proofs.Math.Nat.{mul-div_assoc, dvd-mul_left, mul-zero}
 use Rattle.std.proofs.lemmas.Nat.Gcd.{dvd_trans}
 use Rattle.kf_value.specs.Values.{ValueTree, is_equal}
-use Rattle.kf_hyper.specs.declared.entry.Entry.{Entry}
-use Rattle.kf_hyper.specs.Averages.{scaled}
+use Rattle.kf_column.specs.declared.entry.Entry.{Entry}
+use Rattle.kf_column.specs.Averages.{scaled}
 use Rattle.kf_core.specs.Joint.{Cell, cell_of, cells, is_cell_at, weight_of, trace_weight}
 use Rattle.kf_core.specs.Pushing.{carried_cells}
 use Rattle.kf_core.specs.Runs.{Run, Halted}

@@ -8,10 +8,10 @@ use Rattle.std.proofs.lemmas.Bool.{cases_eq}
 use Rattle.std.proofs.lemmas.List.Elements.{recursion_from_All, All-from_recursion, All-contains_itself}
 use Rattle.kf_value.specs.Values.{is_equal}
 use Rattle.kf_value.proofs.ListLemmas.{each_weaker, each_append, each_flat_map, each_both, each_map}
-use Rattle.kf_hyper.specs.declared.entry.Entry.{Entry}
-use Rattle.kf_hyper.specs.Columns.{IsColumn, weight_at}
-use Rattle.kf_hyper.specs.Traces.{Row, trace_order}
-use Rattle.kf_hyper.proofs.AtMostOne.{In}
+use Rattle.kf_column.specs.declared.entry.Entry.{Entry}
+use Rattle.kf_column.specs.Columns.{IsColumn, weight_at}
+use Rattle.kf_column.specs.Traces.{Row, trace_order}
+use Rattle.kf_column.proofs.AtMostOne.{In}
 use Rattle.kf_core.specs.Joint.{Cell, cell_of, cells, weight_of, HasTrace}
 use Rattle.kf_core.specs.Pushing.{carried_cells}
 use Rattle.kf_core.specs.Rows.{AreRowsOf}

@@ -5,7 +5,7 @@ use Rattle.std.specs.List.{AllByRecursion as Each}
 use Rattle.std.proofs.Math.Nat.{mul_comm, mul-div_assoc, dvd-mul_right}
 use Rattle.std.proofs.lemmas.Nat.Gcd.{dvd_trans}
 use Rattle.kf_value.proofs.ListLemmas.{each_append}
-use Rattle.kf_hyper.specs.declared.entry.Entry.{Entry}
+use Rattle.kf_column.specs.declared.entry.Entry.{Entry}
 use Rattle.kf_core.specs.Joint.{Cell, cell_of, cells}
 use Rattle.kf_core.specs.Pushing.{carried_cells}
 use Rattle.kf_core.specs.Runs.{Run, Halted, chain, joined, onward}

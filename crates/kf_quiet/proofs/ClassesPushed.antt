@@ -7,21 +7,21 @@ use Rattle.std.proofs.Math.Nat.{mul_comm, mul-div_cancel_left, dvd-add}
 use Rattle.std.proofs.lemmas.List.Elements.{recursion_from_All, All-from_recursion}
 use Rattle.std.proofs.lemmas.List.Sums.{sum_by-cons, sum_by-append}
 use Rattle.kf_value.proofs.ListLemmas.{each_weaker, each_both}
-use Rattle.kf_hyper.specs.declared.entry.Entry.{Entry}
-use Rattle.kf_hyper.specs.Averages.{scaled, joint_column}
-use Rattle.kf_hyper.specs.Classes.{HasInner}
-use Rattle.kf_hyper.specs.Columns.{IsColumn, total, proportional}
-use Rattle.kf_hyper.specs.Hypers.{Inner, IsInner, IsHyper, class_total}
-use Rattle.kf_hyper.specs.Merged.{SameBeliefs, AreMerged}
-use Rattle.kf_hyper.proofs.Posteriors.{same_inner}
-use Rattle.kf_hyper.proofs.Proportions.{proportional_all, bool_cases}
-use Rattle.kf_hyper.proofs.Scaling.{total_positive, total-scaled, proportional_reduced}
-use Rattle.kf_hyper.proofs.SomeHyper.{inner_of_column}
+use Rattle.kf_column.specs.declared.entry.Entry.{Entry}
+use Rattle.kf_column.specs.Averages.{scaled, joint_column}
+use Rattle.kf_column.specs.Classes.{HasInner}
+use Rattle.kf_column.specs.Columns.{IsColumn, total, proportional}
+use Rattle.kf_column.specs.Hypers.{Inner, IsInner, IsHyper, class_total}
+use Rattle.kf_column.specs.Merged.{SameBeliefs, AreMerged}
+use Rattle.kf_column.proofs.Posteriors.{same_inner}
+use Rattle.kf_column.proofs.Proportions.{proportional_all, bool_cases}
+use Rattle.kf_column.proofs.Scaling.{total_positive, total-scaled, proportional_reduced}
+use Rattle.kf_column.proofs.SomeHyper.{inner_of_column}
 use Rattle.kf_core.specs.Pushing.{AreBehind}
 use Rattle.kf_core.specs.Ready.{DivideAlong}
 use Rattle.kf_core.specs.Runs.{Run}
 use Rattle.kf_core.proofs.Sums.{adds, adds_mapped, adds_same, first_positive}
-use Rattle.kf_hyper.proofs.Beliefs.{totals_tell}
+use Rattle.kf_column.proofs.Beliefs.{totals_tell}
 use Rattle.kf_quiet.proofs.Gathers.{adds_swap}
 use Rattle.kf_quiet.proofs.MergedWeights.{merged_hold}
 use Rattle.kf_quiet.proofs.RowColumns.{row_columns, behind_of, behind_is, each_column}

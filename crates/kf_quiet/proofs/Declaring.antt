@@ -12,7 +12,7 @@ use Rattle.kf_core.specs.Runs.{Run, Halted, Tried, tried, place, replaced, moved
 use Rattle.kf_core.specs.Sts.{StTree, Assign, sts}
 use Rattle.kf_core.specs.SupportLaws.{RunsChain}
 use Rattle.kf_core.proofs.OneTable.{in_from_contains}
-use Rattle.kf_hyper.proofs.AtMostOne.{In}
+use Rattle.kf_column.proofs.AtMostOne.{In}
 use Rattle.kf_quiet.specs.Merging.{SplitsOnce}
 use Rattle.kf_quiet.proofs.Renaming.{chain_same}
 

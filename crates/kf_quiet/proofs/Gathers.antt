@@ -7,9 +7,9 @@ use Rattle.std.specs.List.{AllByRecursion as Each}
 use Rattle.std.proofs.lemmas.Bool.{eqb-true, ne_eqb, cases_eq}
 use Rattle.kf_value.specs.Values.{is_equal}
 use Rattle.kf_value.proofs.ListLemmas.{each_weaker, each_both}
-use Rattle.kf_hyper.specs.declared.entry.Entry.{Entry}
-use Rattle.kf_hyper.specs.Columns.{weight_at}
-use Rattle.kf_hyper.proofs.Weights.{Above, weight_at_other}
+use Rattle.kf_column.specs.declared.entry.Entry.{Entry}
+use Rattle.kf_column.specs.Columns.{weight_at}
+use Rattle.kf_column.proofs.Weights.{Above, weight_at_other}
 use Rattle.kf_core.specs.Joint.{Cell, weight_of}
 use Rattle.kf_core.proofs.Measures.{Measure}
 use Rattle.kf_core.proofs.Sums.{adds, adds_same, adds_nothing, each_is}

@@ -7,17 +7,17 @@ use Rattle.std.specs.List.{AllByRecursion as Each}
 use Rattle.std.proofs.lemmas.List.Elements.{All-map, recursion_from_All}
 use Rattle.kf_value.specs.Values.{is_equal}
 use Rattle.kf_value.proofs.ListLemmas.{each_weaker, each_both}
-use Rattle.kf_hyper.specs.declared.entry.Entry.{Entry}
-use Rattle.kf_hyper.specs.Averages.{joint_weight, joint_column}
-use Rattle.kf_hyper.specs.Columns.{IsColumn, weight_at, total, proportional}
-use Rattle.kf_hyper.specs.Hypers.{Inner, IsHyper, IsInner, class_total}
-use Rattle.kf_hyper.specs.Laws.{class_weight}
-use Rattle.kf_hyper.specs.Traces.{Row}
-use Rattle.kf_hyper.proofs.AtMostOne.{In}
-use Rattle.kf_hyper.proofs.Beliefs.{merged_columns}
-use Rattle.kf_hyper.proofs.Scaling.{total_positive}
-use Rattle.kf_hyper.proofs.Weighing.{classes_weigh, joint_column_weighs}
-use Rattle.kf_hyper.proofs.Weights.{above_column}
+use Rattle.kf_column.specs.declared.entry.Entry.{Entry}
+use Rattle.kf_column.specs.Averages.{joint_weight, joint_column}
+use Rattle.kf_column.specs.Columns.{IsColumn, weight_at, total, proportional}
+use Rattle.kf_column.specs.Hypers.{Inner, IsHyper, IsInner, class_total}
+use Rattle.kf_column.specs.Laws.{class_weight}
+use Rattle.kf_column.specs.Traces.{Row}
+use Rattle.kf_column.proofs.AtMostOne.{In}
+use Rattle.kf_column.proofs.Beliefs.{merged_columns}
+use Rattle.kf_column.proofs.Scaling.{total_positive}
+use Rattle.kf_column.proofs.Weighing.{classes_weigh, joint_column_weighs}
+use Rattle.kf_column.proofs.Weights.{above_column}
 use Rattle.kf_core.specs.Joint.{Cell, weight_of, HasTrace}
 use Rattle.kf_core.specs.Rows.{AreRowsOf}
 use Rattle.kf_core.proofs.OneTable.{in_from_contains}

@@ -8,14 +8,14 @@ use Rattle.std.proofs.Math.Nat.{eq-zero-or-pos, mul-div_cancel, mul_comm}
 use Rattle.std.proofs.lemmas.Int.{ints}
 use Rattle.std.proofs.lemmas.List.Sums.{sum_by-cons}
 use Rattle.kf_frac.proofs.Ring.{add_mul}
-use Rattle.kf_hyper.specs.declared.entry.Entry.{Entry}
-use Rattle.kf_hyper.specs.Averages.{scaled, joint_weight, joint_column, average_weight}
-use Rattle.kf_hyper.specs.Columns.{IsColumn, weight_at, total, proportional}
-use Rattle.kf_hyper.specs.Hypers.{Inner, IsInner}
-use Rattle.kf_hyper.proofs.ClassSums.{above_scaled}
-use Rattle.kf_hyper.proofs.Scaling.{total-scaled, weight_at-scaled, total_positive}
-use Rattle.kf_hyper.proofs.Weighing.{IsTimes, times_inner}
-use Rattle.kf_hyper.proofs.Weights.{Above, above_column, ascending_above, positive_above, same_column}
+use Rattle.kf_column.specs.declared.entry.Entry.{Entry}
+use Rattle.kf_column.specs.Averages.{scaled, joint_weight, joint_column, average_weight}
+use Rattle.kf_column.specs.Columns.{IsColumn, weight_at, total, proportional}
+use Rattle.kf_column.specs.Hypers.{Inner, IsInner}
+use Rattle.kf_column.proofs.ClassSums.{above_scaled}
+use Rattle.kf_column.proofs.Scaling.{total-scaled, weight_at-scaled, total_positive}
+use Rattle.kf_column.proofs.Weighing.{IsTimes, times_inner}
+use Rattle.kf_column.proofs.Weights.{Above, above_column, ascending_above, positive_above, same_column}
 use Rattle.kf_core.proofs.Sums.{adds}
 use Rattle.kf_gain.specs.Gains.{GainOf, Bayes, Tries, Guessing, Table, TableTree}
 use Rattle.kf_gain.specs.Vulnerabilities.{IsPosterior}

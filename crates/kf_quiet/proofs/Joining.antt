@@ -3,11 +3,11 @@ use Rattle.std.proofs.Common.{◌≡◌, ◌+◌, List, ◌++◌, All, arith}
 use Rattle.std.specs.Prelude.{if◌then◌else◌}
 use Rattle.std.proofs.lemmas.List.Elements.{All-append}
 use Rattle.std.proofs.lemmas.List.Sums.{sum_by-append}
-use Rattle.kf_hyper.specs.declared.entry.Entry.{Entry}
-use Rattle.kf_hyper.specs.Columns.{IsColumn, total, proportional}
-use Rattle.kf_hyper.specs.Hypers.{IsInner, class_total}
-use Rattle.kf_hyper.specs.Merged.{AreMerged}
-use Rattle.kf_hyper.proofs.Beliefs.{merged_totals, merged_columns, totals_tell}
+use Rattle.kf_column.specs.declared.entry.Entry.{Entry}
+use Rattle.kf_column.specs.Columns.{IsColumn, total, proportional}
+use Rattle.kf_column.specs.Hypers.{IsInner, class_total}
+use Rattle.kf_column.specs.Merged.{AreMerged}
+use Rattle.kf_column.proofs.Beliefs.{merged_totals, merged_columns, totals_tell}
 use Rattle.kf_quiet.proofs.Carrying.{Matrix}
 
 pub both_columns : (one other : Matrix) → All IsColumn one → All IsColumn other → All IsColumn (one ++ other)

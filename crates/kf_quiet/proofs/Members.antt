@@ -4,7 +4,7 @@ use Rattle.std.specs.Prelude.{is_ok, IsOk}
 use Rattle.std.specs.List.{flat_map}
 use Rattle.std.proofs.lemmas.List.Elements.{All-head, All-tail}
 use Rattle.kf_value.specs.Values.{ValueTree}
-use Rattle.kf_hyper.proofs.AtMostOne.{In}
+use Rattle.kf_column.proofs.AtMostOne.{In}
 use Rattle.kf_core.specs.Choices.{Weighted, total}
 use Rattle.kf_core.specs.Runs.{Run, Halted, Tried, joined, onward, chain, choice_run, branched}
 

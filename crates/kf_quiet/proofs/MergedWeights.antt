@@ -6,13 +6,13 @@ use Rattle.std.proofs.lemmas.Bool.{eqb-true, cases_eq}
 use Rattle.std.proofs.lemmas.List.Sums.{sum_by-cons}
 use Rattle.std.proofs.lemmas.List.Elements.{recursion_from_All}
 use Rattle.kf_value.proofs.ListLemmas.{each_both}
-use Rattle.kf_hyper.specs.declared.entry.Entry.{Entry}
-use Rattle.kf_hyper.specs.Columns.{IsColumn, weight_at, proportional}
-use Rattle.kf_hyper.specs.Laws.{class_weight}
-use Rattle.kf_hyper.specs.Merged.{AreMerged}
-use Rattle.kf_hyper.proofs.Posteriors.{weight_of_head}
-use Rattle.kf_hyper.proofs.Weights.{Above, above_column, weight_at-cons, weight_at_other, weight_below}
-use Rattle.kf_hyper.proofs.Beliefs.{merged_columns, merged_weights}
+use Rattle.kf_column.specs.declared.entry.Entry.{Entry}
+use Rattle.kf_column.specs.Columns.{IsColumn, weight_at, proportional}
+use Rattle.kf_column.specs.Laws.{class_weight}
+use Rattle.kf_column.specs.Merged.{AreMerged}
+use Rattle.kf_column.proofs.Posteriors.{weight_of_head}
+use Rattle.kf_column.proofs.Weights.{Above, above_column, weight_at-cons, weight_at_other, weight_below}
+use Rattle.kf_column.proofs.Beliefs.{merged_columns, merged_weights}
 
 module _ (P : ℕ → ℕ → Type 0) where
   -- there is no weight, or it holds of it

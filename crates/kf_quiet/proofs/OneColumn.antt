@@ -4,13 +4,13 @@ use Rattle.std.specs.List.{IsDistinct}
 use Rattle.std.proofs.lemmas.List.Elements.{All-cons, All-nil, All-head, All-tail}
 use Rattle.std.proofs.Math.Nat.{add-zero}
 use Rattle.kf_core.proofs.Sums.{sum_is}
-use Rattle.kf_hyper.specs.declared.entry.Entry.{Entry}
-use Rattle.kf_hyper.specs.Columns.{IsColumn, weight_at, proportional}
-use Rattle.kf_hyper.specs.Laws.{class_weight}
-use Rattle.kf_hyper.specs.Merged.{AreMerged}
-use Rattle.kf_hyper.proofs.Scaling.{proportional_itself}
-use Rattle.kf_hyper.proofs.Weights.{above_column, same_column, weight_at_head}
-use Rattle.kf_hyper.proofs.Beliefs.{merged_columns, merged_has, merged_weights, merged_distinct}
+use Rattle.kf_column.specs.declared.entry.Entry.{Entry}
+use Rattle.kf_column.specs.Columns.{IsColumn, weight_at, proportional}
+use Rattle.kf_column.specs.Laws.{class_weight}
+use Rattle.kf_column.specs.Merged.{AreMerged}
+use Rattle.kf_column.proofs.Scaling.{proportional_itself}
+use Rattle.kf_column.proofs.Weights.{above_column, same_column, weight_at_head}
+use Rattle.kf_column.proofs.Beliefs.{merged_columns, merged_has, merged_weights, merged_distinct}
 
 module _ (column : List Entry) where
   class_alone : (m : List Entry) (x : ℕ) → class_weight (column ∷ []) m x ≡ (if proportional column m then weight_at column x else 0)

@@ -7,13 +7,13 @@ use Rattle.std.proofs.Math.Nat.{add-zero, one-dvd}
 use Rattle.std.proofs.lemmas.List.{take-append-drop}
 use Rattle.std.proofs.lemmas.List.Elements.{All-cons, All-nil, All-head, All-from_recursion, recursion_from_All}
 use Rattle.std.proofs.lemmas.Option.{slice_get_within}
-use Rattle.kf_hyper.specs.declared.entry.Entry.{Entry}
-use Rattle.kf_hyper.specs.Columns.{IsColumn, weight_at}
-use Rattle.kf_hyper.specs.Hypers.{Inner, IsHyper}
-use Rattle.kf_hyper.specs.Joint.{mass}
-use Rattle.kf_hyper.specs.Merged.{AreMerged}
-use Rattle.kf_hyper.specs.Traces.{Row}
-use Rattle.kf_hyper.proofs.Weights.{above_column, column_above, same_column}
+use Rattle.kf_column.specs.declared.entry.Entry.{Entry}
+use Rattle.kf_column.specs.Columns.{IsColumn, weight_at}
+use Rattle.kf_column.specs.Hypers.{Inner, IsHyper}
+use Rattle.kf_column.specs.Joint.{mass}
+use Rattle.kf_column.specs.Merged.{AreMerged}
+use Rattle.kf_column.specs.Traces.{Row}
+use Rattle.kf_column.proofs.Weights.{above_column, column_above, same_column}
 use Rattle.kf_core.specs.Checked.{IsChecked}
 use Rattle.kf_core.specs.ChoiceLaws.{ChoicesAreShares}
 use Rattle.kf_core.specs.Dxs.{DxTree}
@@ -36,7 +36,7 @@ use Rattle.kf_core.proofs.WholeJoint.{within}
 use Rattle.kf_quiet.specs.Following.{Goes, Takes}
 use Rattle.kf_quiet.specs.Merging.{SplitsOnce}
 use Rattle.kf_quiet.proofs.Beginning.{some_weight, takes, carried_before, cells_keep, cells_silent, has_silent, one_silent_row}
-use Rattle.kf_hyper.proofs.Beliefs.{some_merged}
+use Rattle.kf_column.proofs.Beliefs.{some_merged}
 use Rattle.kf_quiet.proofs.Carrying.{Runner, Matrix, chained, commutes, goes_behind, goes_divide, pushed_chain, pushed_mass, pushed_stay, some_behind, some_pushed, behind_columns}
 use Rattle.kf_quiet.proofs.Declaring.{Silent, chain_silent, declared_next, declared_parted, declared_silent, silent_splits}
 use Rattle.kf_quiet.proofs.OneColumn.{merged_one}

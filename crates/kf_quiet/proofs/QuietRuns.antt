@@ -4,13 +4,13 @@ use Rattle.std.specs.List.{AllByRecursion as Each}
 use Rattle.std.proofs.lemmas.List.{map-append}
 use Rattle.kf_value.specs.Values.{ValueTree}
 use Rattle.kf_value.proofs.ListLemmas.{each_map, each_any}
-use Rattle.kf_hyper.specs.declared.entry.Entry.{Entry}
-use Rattle.kf_hyper.specs.Averages.{average_weight, joint_column, joint_weight}
-use Rattle.kf_hyper.specs.Columns.{IsColumn, weight_at}
-use Rattle.kf_hyper.specs.Hypers.{Inner}
-use Rattle.kf_hyper.specs.Traces.{Row}
-use Rattle.kf_hyper.proofs.AtMostOne.{In}
-use Rattle.kf_hyper.proofs.Weighing.{averages_weigh, joint_column_weighs}
+use Rattle.kf_column.specs.declared.entry.Entry.{Entry}
+use Rattle.kf_column.specs.Averages.{average_weight, joint_column, joint_weight}
+use Rattle.kf_column.specs.Columns.{IsColumn, weight_at}
+use Rattle.kf_column.specs.Hypers.{Inner}
+use Rattle.kf_column.specs.Traces.{Row}
+use Rattle.kf_column.proofs.AtMostOne.{In}
+use Rattle.kf_column.proofs.Weighing.{averages_weigh, joint_column_weighs}
 use Rattle.kf_core.specs.Joint.{Cell, cell_of, cells, weight_of}
 use Rattle.kf_core.specs.Pushing.{AreBehind, carried_cells}
 use Rattle.kf_core.specs.Ready.{IsPushed}

@@ -4,9 +4,9 @@ use Rattle.std.specs.List.{AllByRecursion as Each, AllZip, flat_map}
 use Rattle.std.proofs.lemmas.List.{map-append}
 use Rattle.std.proofs.lemmas.List.Elements.{recursion_from_All}
 use Rattle.kf_value.proofs.ListLemmas.{each_append, each_map}
-use Rattle.kf_hyper.specs.declared.entry.Entry.{Entry}
-use Rattle.kf_hyper.specs.Columns.{IsColumn}
-use Rattle.kf_hyper.specs.Traces.{Row}
+use Rattle.kf_column.specs.declared.entry.Entry.{Entry}
+use Rattle.kf_column.specs.Columns.{IsColumn}
+use Rattle.kf_column.specs.Traces.{Row}
 use Rattle.kf_core.specs.Pushing.{carried_cells, AreBehind}
 use Rattle.kf_core.specs.Rows.{AreRowsOf}
 use Rattle.kf_core.specs.Runs.{Run}

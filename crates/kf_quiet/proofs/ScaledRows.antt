@@ -7,13 +7,13 @@ use Rattle.std.specs.List.Sorted.{IsStrictlySortedBy}
 use Rattle.std.proofs.Math.Nat.{mul-zero}
 use Rattle.std.proofs.lemmas.List.Elements.{All-map, All-weaker}
 use Rattle.std.proofs.lemmas.List.Sums.{sum_by-cons}
-use Rattle.kf_hyper.specs.declared.entry.Entry.{Entry}
-use Rattle.kf_hyper.specs.Averages.{scaled}
-use Rattle.kf_hyper.specs.Columns.{IsColumn, weight_at, total, proportional}
-use Rattle.kf_hyper.specs.Hypers.{class_total}
-use Rattle.kf_hyper.specs.Traces.{Row, trace_order}
-use Rattle.kf_hyper.proofs.Scaling.{product_positive, weight_at-scaled, total-scaled, proportional-scaled, times_if}
-use Rattle.kf_hyper.proofs.Weights.{Above, above_column, column_above}
+use Rattle.kf_column.specs.declared.entry.Entry.{Entry}
+use Rattle.kf_column.specs.Averages.{scaled}
+use Rattle.kf_column.specs.Columns.{IsColumn, weight_at, total, proportional}
+use Rattle.kf_column.specs.Hypers.{class_total}
+use Rattle.kf_column.specs.Traces.{Row, trace_order}
+use Rattle.kf_column.proofs.Scaling.{product_positive, weight_at-scaled, total-scaled, proportional-scaled, times_if}
+use Rattle.kf_column.proofs.Weights.{Above, above_column, column_above}
 use Rattle.kf_core.specs.Joint.{HasTrace, weight_of, trace_weight}
 use Rattle.kf_core.specs.Pushing.{carried_cells}
 use Rattle.kf_core.specs.Rows.{AreRowsOf}

@@ -8,10 +8,10 @@ use Rattle.std.proofs.Math.Nat.{mul-one}
 use Rattle.std.proofs.lemmas.Grind.{flat_map-append}
 use Rattle.kf_value.specs.Values.{ValueTree, Truth, Whole, Tuple, Set, truth, order, lexicographic}
 use Rattle.kf_value.proofs.ListLemmas.{each_any}
-use Rattle.kf_hyper.proofs.AtMostOne.{In}
-use Rattle.kf_hyper.specs.Columns.{IsColumn}
-use Rattle.kf_hyper.specs.Merged.{AreMerged}
-use Rattle.kf_hyper.specs.Traces.{trace_order}
+use Rattle.kf_column.proofs.AtMostOne.{In}
+use Rattle.kf_column.specs.Columns.{IsColumn}
+use Rattle.kf_column.specs.Merged.{AreMerged}
+use Rattle.kf_column.specs.Traces.{trace_order}
 use Rattle.kf_core.specs.Choices.{Weighted, total}
 use Rattle.kf_core.specs.Joint.{Cell, cell_of, cells, is_cell_at, weight_of}
 use Rattle.kf_core.specs.Ready.{IsPushed}
@@ -19,7 +19,7 @@ use Rattle.kf_core.specs.Runs.{Run, Tried, LoopBound, joined, onward, chain, cho
 use Rattle.kf_core.proofs.OneTable.{in_from_contains, contains_from_in}
 use Rattle.kf_core.proofs.Sums.{adds, adds_joined, adds_mapped, adds_flat, adds_both, sum_filtered, each_is}
 use Rattle.kf_quiet.specs.Following.{side}
-use Rattle.kf_hyper.proofs.Beliefs.{some_merged}
+use Rattle.kf_column.proofs.Beliefs.{some_merged}
 use Rattle.kf_quiet.proofs.Carrying.{Runner, Matrix, ComeBefore, AreAlike, some_pushed, one_pushed, pushed_columns, pushed_beside, pushed_alike}
 use Rattle.kf_quiet.proofs.Joining.{both_columns, merged_across, merged_turned}
 use Rattle.kf_quiet.proofs.Members.{Picks, branched_picks, in_either}

@@ -4,7 +4,7 @@ use Rattle.std.specs.Prelude.{IsOk, if◌then◌else◌}
 use Rattle.std.proofs.lemmas.List.{append_cancel_left}
 use Rattle.kf_value.specs.Types.{TypeTree}
 use Rattle.kf_value.specs.Values.{ValueTree, truth}
-use Rattle.kf_hyper.proofs.AtMostOne.{In}
+use Rattle.kf_column.proofs.AtMostOne.{In}
 use Rattle.kf_core.specs.Dxs.{DxTree}
 use Rattle.kf_core.specs.Sts.{StTree, StTrees, Skip, Assign, Observe, If, While, no_sts, more_sts}
 use Rattle.kf_core.specs.Runs.{Run, Halted, Tried, LoopBound, chain, branched, silent, shown, ended, stay, stopped, moved, replaced, assigned, guarded, looped, tried, place, runs, all_runs, leaks}

@@ -1,9 +1,9 @@
 -- What holds of columns pushed through statements: guards and their sides, loops turn by turn, whole blocks.
 use Rattle.std.proofs.Common.{◌≡◌, ℕ, suc, zero, true, false, List, [], ◌++◌, All, subst, append-nil}
 use Rattle.kf_value.specs.Types.{TypeTree}
-use Rattle.kf_hyper.specs.Columns.{IsColumn}
-use Rattle.kf_hyper.specs.Joint.{mass}
-use Rattle.kf_hyper.specs.Merged.{AreMerged}
+use Rattle.kf_column.specs.Columns.{IsColumn}
+use Rattle.kf_column.specs.Joint.{mass}
+use Rattle.kf_column.specs.Merged.{AreMerged}
 use Rattle.kf_core.specs.Ready.{IsPushed, IsReady}
 use Rattle.kf_core.specs.Sts.{StTree, StTrees, sts}
 use Rattle.kf_core.specs.Runs.{Tried, chain, stay, guarded, looped, runs, all_runs}
@@ -13,7 +13,7 @@ use Rattle.kf_core.proofs.Filled.{Filled, Solid, AllSolid, chain_full, looped_fu
 use Rattle.kf_core.proofs.WeightKept.{keeps, all_keep}
 use Rattle.kf_quiet.specs.Following.{Goes, observed, side}
 use Rattle.kf_quiet.specs.Merging.{SplitsOnce}
-use Rattle.kf_hyper.proofs.Beliefs.{some_merged, one_merged, merged_none}
+use Rattle.kf_column.proofs.Beliefs.{some_merged, one_merged, merged_none}
 use Rattle.kf_quiet.proofs.Joining.{both_columns, merged_across, merged_turned}
 use Rattle.kf_quiet.proofs.Carrying.{Runner, Matrix, goes_behind, pushed_chain, pushed_alike, pushed_again, pushed_columns, pushed_stay, none_behind}
 use Rattle.kf_quiet.proofs.Going.{first_goes, guard_goes, behind_goes, branch_pushed}

@@ -5,7 +5,7 @@ use Rattle.std.specs.declared.cmp.Ordering.{Ordering}
 use Rattle.std.specs.declared.cmp.Ordering.TheVariants.{Less, Equal, Greater}
 use Rattle.kf_value.specs.Values.{ValueTree, order}
 use Rattle.kf_value.proofs.Orders.{order-itself, same}
-use Rattle.kf_hyper.specs.Traces.{trace_order}
+use Rattle.kf_column.specs.Traces.{trace_order}
 use Rattle.kf_quiet.proofs.CellWeights.{Trace}
 
 -- ---- order

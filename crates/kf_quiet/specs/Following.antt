@@ -2,7 +2,7 @@
 use Rattle.std.specs.Prelude.{ℕ, ◌<◌, Bool, List, [], All, IsOk, if◌then◌else◌}
 use Rattle.std.specs.Int.{◌∣◌}
 use Rattle.kf_value.specs.Values.{truth}
-use Rattle.kf_hyper.specs.declared.entry.Entry.{Entry}
+use Rattle.kf_column.specs.declared.entry.Entry.{Entry}
 use Rattle.kf_core.specs.Runs.{Run, Tried, branched, shown, stay}
 
 -- the run ends, and its share of this weight is whole

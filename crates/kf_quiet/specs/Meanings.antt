@@ -3,9 +3,9 @@ use Rattle.std.specs.Prelude.{◌≡◌, ◌≤◌, ℕ, List, map, IsOk}
 use Rattle.std.specs.List.{IsDistinct}
 use Rattle.kf_frac.specs.Fractions.{limit}
 use Rattle.kf_value.specs.Types.{count, product}
-use Rattle.kf_hyper.specs.declared.entry.Entry.{Entry}
-use Rattle.kf_hyper.specs.Columns.{proportional}
-use Rattle.kf_hyper.specs.Hypers.{Inner, IsHyper}
+use Rattle.kf_column.specs.declared.entry.Entry.{Entry}
+use Rattle.kf_column.specs.Columns.{proportional}
+use Rattle.kf_column.specs.Hypers.{Inner, IsHyper}
 use Rattle.kf_core.specs.Checked.{IsChecked}
 use Rattle.kf_core.specs.Joint.{target_number}
 use Rattle.kf_core.specs.Programs.{ProgramTree}

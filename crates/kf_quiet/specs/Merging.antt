@@ -2,9 +2,9 @@
 use Rattle.std.specs.Prelude.{◌≡◌, ℕ, List, [], ◌++◌, All, Contains, IsOk}
 use Rattle.kf_value.specs.Values.{ValueTree}
 use Rattle.kf_value.specs.Types.{TypeTree}
-use Rattle.kf_hyper.specs.declared.entry.Entry.{Entry}
-use Rattle.kf_hyper.specs.Columns.{IsColumn}
-use Rattle.kf_hyper.specs.Merged.{SameBeliefs, AreMerged}
+use Rattle.kf_column.specs.declared.entry.Entry.{Entry}
+use Rattle.kf_column.specs.Columns.{IsColumn}
+use Rattle.kf_column.specs.Merged.{SameBeliefs, AreMerged}
 use Rattle.kf_core.specs.Sts.{StTree, sts}
 use Rattle.kf_core.specs.Runs.{Run, all_runs}
 use Rattle.kf_core.specs.Pushing.{AreBehind}

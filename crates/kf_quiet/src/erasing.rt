@@ -2,9 +2,9 @@
 
 ghost use Rattle.std.specs.Prelude.{◌≡◌, ◌≢◌, ◌≤◌, ◌<◌, ◌+◌, ◌^◌, [], ◌∷◌, ℕ, All, IfOk, OnOk, sum_by};
 ghost use Rattle.kf_frac.specs.Fractions.{limit};
-ghost use Rattle.kf_hyper.specs.Columns.{total, weight_at};
-ghost use Rattle.kf_hyper.specs.Joint.{mass};
-ghost use Rattle.kf_hyper.specs.Shapes.{IsBelow};
+ghost use Rattle.kf_column.specs.Columns.{total, weight_at};
+ghost use Rattle.kf_column.specs.Joint.{mass};
+ghost use Rattle.kf_column.specs.Shapes.{IsBelow};
 ghost use Rattle.kf_hyper.specs.Sums.{ArePositive, Gains, summed};
 ghost use Rattle.kf_quiet.specs.Erased.{IsErased};
 

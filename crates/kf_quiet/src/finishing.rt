@@ -2,16 +2,17 @@
 
 ghost use Rattle.std.specs.Prelude.{◌≡◌, ◌≤◌, All, IfOk};
 ghost use Rattle.kf_value.specs.Shapes.{shape_size};
-ghost use Rattle.kf_hyper.specs.Columns.{IsColumn};
-ghost use Rattle.kf_hyper.specs.Joint.{mass};
-ghost use Rattle.kf_hyper.specs.Shapes.{IsBelow};
+ghost use Rattle.kf_column.specs.Columns.{IsColumn};
+ghost use Rattle.kf_column.specs.Joint.{mass};
+ghost use Rattle.kf_column.specs.Shapes.{IsBelow};
 ghost use Rattle.kf_hyper.specs.Views.{inners_of, scale_of, target_of};
 ghost use Rattle.kf_core.specs.Checked.{IsChecked};
 ghost use Rattle.kf_core.specs.Views.{program_tree};
 ghost use Rattle.kf_quiet.specs.Meanings.{IsFinished};
 
+use kf_column::projection_laws;
 use kf_core::Program;
-use kf_hyper::{Columns, Hyper, abstract_columns, project, projection_laws};
+use kf_hyper::{Columns, Hyper, abstract_columns, project};
 use kf_value::Mem;
 use std::alloc::Global;
 

@@ -1,9 +1,9 @@
 ghost use Rattle.kf_quiet.specs.Laws.{NoBlamePasses, OnlyOneBlames, QuietLeaksNoMore, SomeBlames, SomeQuiet};
 ghost use Rattle.kf_quiet.specs.Merging.{BlocksChain, MergingCommutes, NoTraceGoesOn, OnlyOneBehind, SomeAreBehind};
 
+use kf_column::one_hyper;
 use kf_core::{choice_laws, joint_laws, run_laws};
 use kf_gain::gain_laws;
-use kf_hyper::one_hyper;
 
 /// Why columns may be merged on the way: what stands behind statements comes to the same beliefs whether columns of one
 /// posterior were added up before them or not. It does nothing when it runs.

@@ -1,9 +1,9 @@
 //! A program as columns of stores pushed through its outermost statements.
 
 ghost use Rattle.std.specs.Prelude.{◌≡◌, ◌≤◌, [], ◌∷◌, List, All, length, take, drop, IfOk};
-ghost use Rattle.kf_hyper.specs.declared.entry.Entry.{Entry};
-ghost use Rattle.kf_hyper.specs.Joint.{mass};
-ghost use Rattle.kf_hyper.specs.Shapes.{IsBelow};
+ghost use Rattle.kf_column.specs.declared.entry.Entry.{Entry};
+ghost use Rattle.kf_column.specs.Joint.{mass};
+ghost use Rattle.kf_column.specs.Shapes.{IsBelow};
 ghost use Rattle.kf_core.specs.Ready.{IsPushed, IsReady, IsStart};
 ghost use Rattle.kf_core.specs.Views.{program_tree};
 ghost use Rattle.kf_quiet.specs.Meanings.{Meaning, IsMeaning, runs_between, store_count};

@@ -1,9 +1,9 @@
 //! The hyper of a program with a quiet block.
 
 ghost use Rattle.std.specs.Prelude.{◌≡◌, ◌≤◌, ◌<◌, [], ◌∷◌, All, length, drop, IfOk};
-ghost use Rattle.kf_hyper.specs.Columns.{total};
-ghost use Rattle.kf_hyper.specs.Joint.{mass};
-ghost use Rattle.kf_hyper.specs.Shapes.{IsBelow};
+ghost use Rattle.kf_column.specs.Columns.{total};
+ghost use Rattle.kf_column.specs.Joint.{mass};
+ghost use Rattle.kf_column.specs.Shapes.{IsBelow};
 ghost use Rattle.kf_core.specs.Pushing.{AreBehind};
 ghost use Rattle.kf_core.specs.Ready.{IsReady};
 ghost use Rattle.kf_core.specs.Rows.{IsHyperOf};

@@ -3,7 +3,7 @@ use Rattle.std.proofs.Common.{◌≡◌, ℕ, ◌*◌, ◌<◌, sym, ap, ◌∙�
 use Rattle.std.proofs.Math.IntN.{ℤ, pos, ◌*ℤ◌}
 use Rattle.std.proofs.lemmas.Int.{ints}
 use Rattle.kf_frac.proofs.Ring.{ring}
-use Rattle.kf_hyper.proofs.Scaling.{product_positive}
+use Rattle.kf_column.proofs.Scaling.{product_positive}
 use Rattle.kf_simplex.specs.Base.{total}
 use Rattle.kf_simplex.proofs.Signs.{cancel, product_not_negative}
 use Rattle.kf_simplex.proofs.Sums.{total-ext, total-scale, total-scale_right, total-swap, total_not_negative}

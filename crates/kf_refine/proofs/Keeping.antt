@@ -7,13 +7,13 @@ use Rattle.std.proofs.Math.Nat.{div-mul_cancel}
 use Rattle.std.proofs.lemmas.Bool.Decides.{nat_tests}
 use Rattle.std.proofs.lemmas.List.{get_or_past}
 use Rattle.std.proofs.lemmas.List.Elements.{All-head, All-tail}
-use Rattle.kf_hyper.specs.declared.entry.Entry.{Entry}
+use Rattle.kf_column.specs.declared.entry.Entry.{Entry}
 use Rattle.kf_hyper.specs.declared.hyper.Hyper.{Hyper}
-use Rattle.kf_hyper.specs.Averages.{joint_weight, average_weight}
-use Rattle.kf_hyper.specs.Columns.{IsColumn, weight_at, total}
-use Rattle.kf_hyper.specs.Hypers.{Inner, IsInner}
+use Rattle.kf_column.specs.Averages.{joint_weight, average_weight}
+use Rattle.kf_column.specs.Columns.{IsColumn, weight_at, total}
+use Rattle.kf_column.specs.Hypers.{Inner, IsInner}
 use Rattle.kf_hyper.specs.Views.{inners_of}
-use Rattle.kf_hyper.proofs.Weights.{Above, above_column, column_above}
+use Rattle.kf_column.proofs.Weights.{Above, above_column, column_above}
 use Rattle.kf_value.specs.declared.mem.Mem.{Mem}
 use Rattle.kf_refine.specs.Equations.{AreKept, HasWeight, InRatio, weight_in}
 use Rattle.kf_refine.specs.Refinements.{joint}

@@ -5,7 +5,7 @@ use Rattle.std.specs.List.{AllByRecursion}
 use Rattle.std.specs.List.Sorted.{IsStrictlyIncreasing, IsStrictlySortedBy}
 use Rattle.std.proofs.lemmas.Bool.Decides.{nat_tests}
 use Rattle.std.proofs.lemmas.List.Elements.{All-head, All-tail}
-use Rattle.kf_hyper.proofs.AtMostOne.{In}
+use Rattle.kf_column.proofs.AtMostOne.{In}
 
 module _ {X : Type 0} where
   pub in_contains : (x : X) (xs : List X) → In x xs → Contains xs x

@@ -8,8 +8,8 @@ use Rattle.std.proofs.lemmas.Int.{ints}
 use Rattle.std.proofs.lemmas.Bool.{cases_lt, cases_eq}
 use Rattle.std.proofs.lemmas.Bool.Decides.{nat_tests}
 use lib.Signed.{◌<ℤ◌, ◌≤ℤ◌}
-use Rattle.kf_hyper.specs.Hypers.{Inner}
-use Rattle.kf_hyper.specs.Shapes.{IsShape}
+use Rattle.kf_column.specs.Hypers.{Inner}
+use Rattle.kf_column.specs.Shapes.{IsShape}
 use Rattle.kf_simplex.proofs.FlatRows.{zero_from_abs}
 use Rattle.kf_simplex.proofs.Sums.{total_at_most, total-single}
 use Rattle.kf_simplex.specs.Base.{at, total}

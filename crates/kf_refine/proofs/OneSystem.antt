@@ -9,7 +9,7 @@ use Rattle.std.specs.List.Sorted.{IsStrictlyIncreasing}
 use Rattle.kf_frac.specs.Divisors.{gcd_of}
 use Rattle.kf_frac.proofs.CommonDivisors.{gcd_is, gcd_positive, gcd_swap, gcd_multiples}
 use Rattle.kf_frac.proofs.CommonMultiples.{product_positive}
-use Rattle.kf_hyper.proofs.AtMostOne.{In, Ordered, same_lists}
+use Rattle.kf_column.proofs.AtMostOne.{In, Ordered, same_lists}
 use Rattle.kf_hyper.proofs.Rising.{Rises, rises}
 use Rattle.kf_simplex.specs.Systems.{LinearSystem, IsSystem, SameNumbers, right_column}
 use Rattle.kf_refine.specs.Refinements.{HyperTree, count, joint}

@@ -5,12 +5,12 @@ use Rattle.std.proofs.lemmas.Nat.Gcd.{le_of_dvd}
 use Rattle.std.proofs.lemmas.List.{drop_more}
 use Rattle.std.proofs.lemmas.List.Sums.{get_or-le-sum_by}
 use Rattle.kf_frac.specs.Fractions.{limit}
-use Rattle.kf_hyper.specs.declared.entry.Entry.{Entry}
-use Rattle.kf_hyper.specs.Columns.{total}
-use Rattle.kf_hyper.specs.Hypers.{Inner}
+use Rattle.kf_column.specs.declared.entry.Entry.{Entry}
+use Rattle.kf_column.specs.Columns.{total}
+use Rattle.kf_column.specs.Hypers.{Inner}
 use Rattle.kf_hyper.specs.Views.{inners_of, inner_at}
 use Rattle.kf_hyper.specs.declared.hyper.Hyper.{Hyper}
-use Rattle.kf_hyper.proofs.Scaling.{total_positive}
+use Rattle.kf_column.proofs.Scaling.{total_positive}
 use Rattle.kf_refine.specs.Rows.{Rows, row_at, shares, row_from, Grows, AreFilled}
 
 -- ---- many

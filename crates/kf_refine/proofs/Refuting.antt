@@ -10,18 +10,18 @@ use Rattle.std.proofs.lemmas.List.Elements.{All-nil, All-cons, All-append, Conta
 use lib.Signed.{◌<ℤ◌, ◌≤ℤ◌}
 use Rattle.kf_frac.proofs.Ring.{ring, mul_add, mul_assoc, mul_left_comm}
 use Rattle.kf_value.specs.Numbers.{target_size}
-use Rattle.kf_hyper.specs.declared.entry.Entry.{Entry}
-use Rattle.kf_hyper.specs.Columns.{weight_at, total as weight_total}
-use Rattle.kf_hyper.specs.Hypers.{Inner}
-use Rattle.kf_hyper.specs.Averages.{joint_column}
-use Rattle.kf_hyper.proofs.Weights.{weight_at-cons}
-use Rattle.kf_hyper.proofs.Scaling.{total-cons}
+use Rattle.kf_column.specs.declared.entry.Entry.{Entry}
+use Rattle.kf_column.specs.Columns.{weight_at, total as weight_total}
+use Rattle.kf_column.specs.Hypers.{Inner}
+use Rattle.kf_column.specs.Averages.{joint_column}
+use Rattle.kf_column.proofs.Weights.{weight_at-cons}
+use Rattle.kf_column.proofs.Scaling.{total-cons}
 use Rattle.kf_gain.specs.declared.table.Action.{Action}
 use Rattle.kf_gain.specs.declared.table.GainEntry.{GainEntry}
 use Rattle.kf_gain.specs.Gains.{Table, TableTree, gain_at}
 use Rattle.kf_gain.specs.Worth.{gained, IsVulnerability}
 use Rattle.kf_gain.specs.Vulnerabilities.{IsPosterior, gains_of}
-use Rattle.kf_hyper.proofs.Weighing.{joint_column_weighs}
+use Rattle.kf_column.proofs.Weighing.{joint_column_weighs}
 use Rattle.kf_gain.proofs.Adding.{ArePairs, pairs}
 use Rattle.kf_gain.proofs.Reports.{some_report}
 use Rattle.kf_hyper.proofs.Rising.{Rises, rises}

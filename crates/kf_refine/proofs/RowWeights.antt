@@ -3,12 +3,12 @@ use Rattle.std.proofs.Common.{◌≡◌, ℕ, zero, suc, ◌+◌, ◌*◌, ◌/�
 use Rattle.std.proofs.Math.Nat.{mul_comm, mul-add, mul-zero}
 use Rattle.std.proofs.lemmas.Bool.{ne_eqb, cases_eq}
 use Rattle.std.proofs.lemmas.List.Sums.{sum_by-cons, sum_by-append}
-use Rattle.kf_hyper.specs.declared.entry.Entry.{Entry}
-use Rattle.kf_hyper.specs.Averages.{joint_weight, average_weight}
-use Rattle.kf_hyper.specs.Columns.{weight_at, total}
-use Rattle.kf_hyper.specs.Hypers.{Inner}
-use Rattle.kf_hyper.proofs.Scaling.{total-cons, product_positive}
-use Rattle.kf_hyper.proofs.Weights.{Above, weight_at_head, weight_at_other}
+use Rattle.kf_column.specs.declared.entry.Entry.{Entry}
+use Rattle.kf_column.specs.Averages.{joint_weight, average_weight}
+use Rattle.kf_column.specs.Columns.{weight_at, total}
+use Rattle.kf_column.specs.Hypers.{Inner}
+use Rattle.kf_column.proofs.Scaling.{total-cons, product_positive}
+use Rattle.kf_column.proofs.Weights.{Above, weight_at_head, weight_at_other}
 use Rattle.kf_refine.specs.Rows.{shares, row_from}
 
 pub total-append : (u v : List Entry) → total (u ++ v) ≡ total u + total v

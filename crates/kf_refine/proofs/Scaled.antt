@@ -10,12 +10,12 @@ use Rattle.std.proofs.lemmas.List.Elements.{All-head, Contains-get_or}
 use Rattle.std.proofs.lemmas.List.Sums.{sum_by-cons}
 use Rattle.kf_frac.specs.Divisors.{gcd_of}
 use Rattle.kf_frac.proofs.CommonDivisors.{gcd_is, gcd_swap, gcd_quotients, divides_other, coprime_part, coprime_product}
-use Rattle.kf_hyper.specs.declared.entry.Entry.{Entry}
-use Rattle.kf_hyper.specs.Columns.{IsColumn, weight_at, total}
-use Rattle.kf_hyper.specs.Hypers.{Inner, IsInner}
-use Rattle.kf_hyper.specs.Averages.{joint_weight, average_weight}
-use Rattle.kf_hyper.specs.Shapes.{IsShape}
-use Rattle.kf_hyper.proofs.Weights.{weight_at_head}
+use Rattle.kf_column.specs.declared.entry.Entry.{Entry}
+use Rattle.kf_column.specs.Columns.{IsColumn, weight_at, total}
+use Rattle.kf_column.specs.Hypers.{Inner, IsInner}
+use Rattle.kf_column.specs.Averages.{joint_weight, average_weight}
+use Rattle.kf_column.specs.Shapes.{IsShape}
+use Rattle.kf_column.proofs.Weights.{weight_at_head}
 use Rattle.kf_refine.specs.Refinements.{HyperTree, count, joint}
 use Rattle.kf_refine.specs.Equations.{HasWeight, weight_in, AreKept, AreWhole}
 use Rattle.kf_refine.specs.Views.{IsProper}

@@ -7,17 +7,17 @@ use Rattle.std.proofs.lemmas.List.Elements.{All-head, All-tail, All-cons, All-ni
 use lib.Signed.{◌<ℤ◌, ◌≤ℤ◌}
 use Rattle.kf_frac.proofs.Ring.{ring, add_mul}
 use Rattle.kf_value.specs.Numbers.{target_size}
-use Rattle.kf_hyper.specs.declared.entry.Entry.{Entry}
-use Rattle.kf_hyper.specs.Averages.{scaled, joint_column}
-use Rattle.kf_hyper.specs.Columns.{weight_at}
-use Rattle.kf_hyper.specs.Hypers.{Inner}
-use Rattle.kf_hyper.specs.Shapes.{IsBelow}
-use Rattle.kf_hyper.proofs.Weights.{weight_at-cons}
+use Rattle.kf_column.specs.declared.entry.Entry.{Entry}
+use Rattle.kf_column.specs.Averages.{scaled, joint_column}
+use Rattle.kf_column.specs.Columns.{weight_at}
+use Rattle.kf_column.specs.Hypers.{Inner}
+use Rattle.kf_column.specs.Shapes.{IsBelow}
+use Rattle.kf_column.proofs.Weights.{weight_at-cons}
 use Rattle.kf_gain.specs.declared.table.GainEntry.{GainEntry}
 use Rattle.kf_gain.specs.Gains.{Table, TableTree, gain_at}
 use Rattle.kf_gain.specs.Worth.{gained, IsVulnerability}
 use Rattle.kf_gain.specs.Vulnerabilities.{IsPosterior}
-use Rattle.kf_hyper.proofs.Weighing.{joint_column_weighs}
+use Rattle.kf_column.proofs.Weighing.{joint_column_weighs}
 use Rattle.kf_simplex.specs.Base.{total}
 use Rattle.kf_simplex.proofs.Signs.{cancel_le, product_monotone}
 use Rattle.kf_simplex.proofs.Sums.{total-ext, total-add, total-scale, total-scale_right, total-single, total-swap, total_all_zero}

@@ -11,8 +11,8 @@ use Rattle.std.proofs.lemmas.List.Sums.{sum_by-cons, get_or-le-sum_by}
 use lib.Signed.{◌<ℤ◌, ◌≤ℤ◌}
 use Rattle.kf_frac.proofs.Ring.{ring, mul_assoc, mul_left_comm}
 use Rattle.kf_frac.specs.declared.frac.Frac.{Frac}
-use Rattle.kf_hyper.specs.Hypers.{Inner}
-use Rattle.kf_hyper.specs.Averages.{joint_weight, average_weight}
+use Rattle.kf_column.specs.Hypers.{Inner}
+use Rattle.kf_column.specs.Averages.{joint_weight, average_weight}
 use Rattle.kf_simplex.specs.Base.{total}
 use Rattle.kf_simplex.specs.Systems.{LinearSystem}
 use Rattle.kf_simplex.specs.Runs.{solution}

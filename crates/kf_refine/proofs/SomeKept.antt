@@ -6,14 +6,14 @@ use Rattle.std.proofs.lemmas.List.{get_or_past}
 use Rattle.std.proofs.lemmas.List.Elements.{All-head, All-tail}
 use Rattle.std.proofs.lemmas.List.Sums.{sum_by-cons}
 use Rattle.kf_value.specs.Numbers.{target_size}
-use Rattle.kf_hyper.specs.declared.entry.Entry.{Entry}
-use Rattle.kf_hyper.specs.Columns.{weight_at, total}
-use Rattle.kf_hyper.specs.Hypers.{Inner}
-use Rattle.kf_hyper.specs.Averages.{joint_weight, average_weight}
-use Rattle.kf_hyper.specs.Shapes.{IsBelow}
-use Rattle.kf_hyper.proofs.AtMostOne.{In}
+use Rattle.kf_column.specs.declared.entry.Entry.{Entry}
+use Rattle.kf_column.specs.Columns.{weight_at, total}
+use Rattle.kf_column.specs.Hypers.{Inner}
+use Rattle.kf_column.specs.Averages.{joint_weight, average_weight}
+use Rattle.kf_column.specs.Shapes.{IsBelow}
+use Rattle.kf_column.proofs.AtMostOne.{In}
 use Rattle.kf_hyper.proofs.Rising.{Rises, increasing, rises_less}
-use Rattle.kf_hyper.proofs.Weights.{weight_at_other}
+use Rattle.kf_column.proofs.Weights.{weight_at_other}
 use Rattle.kf_refine.specs.Refinements.{HyperTree, count, joint}
 use Rattle.kf_refine.specs.Equations.{HasWeight, weight_in, InRatio, AreKept}
 use Rattle.kf_refine.specs.Views.{IsProper}

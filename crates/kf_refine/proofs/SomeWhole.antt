@@ -9,12 +9,12 @@ use Rattle.std.proofs.lemmas.List.Sums.{sum_by-cons}
 use Rattle.kf_frac.specs.Divisors.{gcd_of}
 use Rattle.kf_frac.proofs.CommonDivisors.{gcd_is}
 use Rattle.kf_frac.proofs.CommonMultiples.{product_positive}
-use Rattle.kf_hyper.specs.declared.entry.Entry.{Entry}
-use Rattle.kf_hyper.specs.Columns.{weight_at, total}
-use Rattle.kf_hyper.specs.Hypers.{Inner, IsInner}
-use Rattle.kf_hyper.specs.Averages.{joint_weight, average_weight}
-use Rattle.kf_hyper.proofs.AtMostOne.{In}
-use Rattle.kf_hyper.proofs.Weights.{weight_at_head}
+use Rattle.kf_column.specs.declared.entry.Entry.{Entry}
+use Rattle.kf_column.specs.Columns.{weight_at, total}
+use Rattle.kf_column.specs.Hypers.{Inner, IsInner}
+use Rattle.kf_column.specs.Averages.{joint_weight, average_weight}
+use Rattle.kf_column.proofs.AtMostOne.{In}
+use Rattle.kf_column.proofs.Weights.{weight_at_head}
 use Rattle.kf_refine.specs.Refinements.{HyperTree, count, joint}
 use Rattle.kf_refine.specs.Equations.{HasWeight, AreKept, AreWhole}
 use Rattle.kf_refine.specs.Views.{IsProper}

@@ -13,11 +13,11 @@ use Rattle.std.proofs.Math.IntN.{ℤ, pos}
 use Rattle.serde_json.specs.Data.{string}
 use Rattle.kf_value.specs.Numbers.{target_size}
 use Rattle.kf_value.specs.Targets.{Item}
-use Rattle.kf_hyper.specs.declared.entry.Entry.{Entry}
-use Rattle.kf_hyper.specs.Averages.{average_weight, joint_weight}
-use Rattle.kf_hyper.specs.Columns.{weight_at, total}
-use Rattle.kf_hyper.specs.Hypers.{Inner}
-use Rattle.kf_hyper.specs.Shapes.{IsBelow}
+use Rattle.kf_column.specs.declared.entry.Entry.{Entry}
+use Rattle.kf_column.specs.Averages.{average_weight, joint_weight}
+use Rattle.kf_column.specs.Columns.{weight_at, total}
+use Rattle.kf_column.specs.Hypers.{Inner}
+use Rattle.kf_column.specs.Shapes.{IsBelow}
 use Rattle.kf_gain.specs.Gains.{TableTree}
 use Rattle.kf_gain.specs.declared.table.GainEntry.{GainEntry}
 use Rattle.kf_json.specs.Rules.{is_name, is_name_byte}

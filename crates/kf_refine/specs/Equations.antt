@@ -2,7 +2,7 @@
 use Rattle.std.specs.Prelude.{◌≡◌, ℕ, ◌+◌, ◌-◌, ◌*◌, ◌<◌, ◌↔◌, ◌==◌, nat_lt, pos, List, length, Contains, slice_index, if◌then◌else◌}
 use Rattle.std.specs.List.Sorted.{IsStrictlyIncreasing}
 use Rattle.std.specs.Int.{◌∣◌}
-use Rattle.kf_hyper.specs.Averages.{average_weight}
+use Rattle.kf_column.specs.Averages.{average_weight}
 use Rattle.kf_simplex.specs.Systems.{LinearSystem, IsSystem, right_column}
 use Rattle.kf_refine.specs.Refinements.{HyperTree, count, joint}
 

@@ -2,8 +2,8 @@
 -- some gain separates them (Alvim et al. 2020, refinement of hypers).
 use Rattle.std.specs.Prelude.{◌≡◌, ℕ, ◌*◌, ◌<◌, All, ℤ, pos, ◌*ℤ◌, ◌<ℤ◌, ◌≤ℤ◌, List, [], length, slice_index_or}
 use Rattle.kf_value.specs.Targets.{Item}
-use Rattle.kf_hyper.specs.Hypers.{Inner}
-use Rattle.kf_hyper.specs.Averages.{joint_weight}
+use Rattle.kf_column.specs.Hypers.{Inner}
+use Rattle.kf_column.specs.Averages.{joint_weight}
 use Rattle.kf_gain.specs.Gains.{TableTree, Table}
 use Rattle.kf_gain.specs.Vulnerabilities.{IsPosterior}
 use Rattle.kf_simplex.specs.Base.{total}

@@ -3,7 +3,7 @@ use Rattle.std.specs.Prelude.{List, map}
 use Rattle.kf_frac.specs.Views.{num_of, den_of}
 use Rattle.kf_frac.specs.declared.frac.Frac.{Frac}
 use Rattle.kf_value.specs.Numbers.{target_size}
-use Rattle.kf_hyper.specs.Shapes.{IsShape}
+use Rattle.kf_column.specs.Shapes.{IsShape}
 use Rattle.kf_hyper.specs.Views.{inners_of, scale_of, target_of}
 use Rattle.kf_hyper.specs.declared.hyper.Hyper.{Hyper}
 use Rattle.kf_gain.specs.Views.{table_tree}

@@ -1,8 +1,8 @@
 //! The values whose weights the equations are about.
 
 ghost use Rattle.std.specs.Prelude.{◌≡◌, ◌+◌, ◌*◌, ◌/◌, ◌<◌, ◌^◌, [], ◌∷◌, ℕ, ◌==◌, length, IfOk, OnOk, IsSome, if◌then◌else◌};
-ghost use Rattle.kf_hyper.specs.Columns.{IsColumn, total};
-ghost use Rattle.kf_hyper.specs.Classes.{IsCommonFactor, IsReduced};
+ghost use Rattle.kf_column.specs.Columns.{IsColumn, total};
+ghost use Rattle.kf_column.specs.Classes.{IsCommonFactor, IsReduced};
 ghost use Rattle.kf_hyper.specs.Sums.{ArePositive};
 ghost use Rattle.kf_hyper.specs.Views.{inner_at, inners_of};
 ghost use Rattle.kf_refine.specs.Equations.{AreKept};

@@ -2,8 +2,8 @@
 use Rattle.std.proofs.Common.{◌≡◌, ℕ, ◌*◌, ◌<◌, ◌≤◌, ℤ, List, refl, arith}
 use Rattle.kf_frac.specs.Fractions.{limit}
 use Rattle.kf_frac.proofs.CommonMultiples.{product_positive}
-use Rattle.kf_hyper.specs.Hypers.{Inner}
-use Rattle.kf_hyper.specs.Shapes.{IsShape}
+use Rattle.kf_column.specs.Hypers.{Inner}
+use Rattle.kf_column.specs.Shapes.{IsShape}
 use Rattle.kf_gain.specs.declared.gain.Gain.{Gain}
 use Rattle.kf_gain.specs.declared.gain.Gain.TheVariants as gain
 use Rattle.kf_gain.specs.Gains.{over_of}

@@ -1,6 +1,6 @@
 -- For bodies: laws of the numbers of a report.
 use Rattle.std.specs.Prelude.{◌≡◌, ℕ, List}
-use Rattle.kf_hyper.specs.Hypers.{Inner}
+use Rattle.kf_column.specs.Hypers.{Inner}
 use Rattle.kf_gain.specs.Gains.{GainOf, TableTree}
 use Rattle.kf_gain.specs.Laws.{HasActions}
 use Rattle.kf_report.specs.Reports.{Leakage, IsLeakage}

@@ -1,6 +1,6 @@
 -- Believed: leakage reports: what is to be gained before and after a trace is seen (Alvim et al. 2020).
 use Rattle.std.specs.Prelude.{◌≡◌, ℕ, ◌*◌, ℤ, List}
-use Rattle.kf_hyper.specs.Hypers.{Inner}
+use Rattle.kf_column.specs.Hypers.{Inner}
 use Rattle.kf_gain.specs.Gains.{GainOf, TableTree, over_of}
 use Rattle.kf_gain.specs.Vulnerabilities.{IsPrior, IsPosterior}
 

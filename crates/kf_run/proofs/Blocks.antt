@@ -2,7 +2,7 @@
 use Rattle.std.proofs.Common.{ℕ, List, [], ◌∷◌}
 use Rattle.kf_value.specs.Shapes.{shape_size, shape_types}
 use Rattle.kf_value.specs.declared.shape.Shape.{Shape}
-use Rattle.kf_hyper.specs.Joint.{Joint}
+use Rattle.kf_column.specs.Joint.{Joint}
 use Rattle.kf_core.specs.Checked.{AreSound, IsSound, none}
 use Rattle.kf_core.specs.Runs.{all_runs, runs}
 use Rattle.kf_core.specs.Sts.{StTree, sts}

@@ -4,9 +4,9 @@ use Rattle.std.proofs.lemmas.List.{length-map, take_all}
 use Rattle.std.proofs.lemmas.List.Elements.{All-cons, All-nil}
 use Rattle.kf_value.specs.Shapes.{shape_size, shape_types}
 use Rattle.kf_value.proofs.ListLemmas.{mapped_read}
-use Rattle.kf_hyper.specs.declared.entry.Entry.{Entry}
-use Rattle.kf_hyper.specs.Joint.{Joint}
-use Rattle.kf_hyper.specs.Shapes.{IsBelow}
+use Rattle.kf_column.specs.declared.entry.Entry.{Entry}
+use Rattle.kf_column.specs.Joint.{Joint}
+use Rattle.kf_column.specs.Shapes.{IsBelow}
 use Rattle.kf_core.specs.declared.dx.Dx.{Dx}
 use Rattle.kf_core.specs.declared.program.Program.{Program}
 use Rattle.kf_core.specs.Checked.{IsChecked}

@@ -4,8 +4,8 @@ use Rattle.std.specs.Prelude.{if◌then◌else◌}
 use Rattle.kf_value.specs.Shapes.{shape_size, shape_types}
 use Rattle.kf_value.specs.Types.{TypeTree}
 use Rattle.kf_value.specs.declared.shape.Shape.{Shape}
-use Rattle.kf_hyper.specs.Joint.{Joint, mass}
-use Rattle.kf_hyper.specs.Merged.{AreMerged}
+use Rattle.kf_column.specs.Joint.{Joint, mass}
+use Rattle.kf_column.specs.Merged.{AreMerged}
 use Rattle.kf_core.specs.Checked.{IsSound}
 use Rattle.kf_core.specs.Runs.{assigned, guarded, leaks, looped, place, stay, tried}
 use Rattle.kf_core.specs.Views.{dx_tree, st_items, st_tree}

@@ -12,8 +12,8 @@ use Rattle.std.proofs.lemmas.List.Sums.{sum_by-append, sum_by-cons}
 use Rattle.kf_value.specs.Values.{ValueTree, order}
 use Rattle.kf_value.proofs.ListLemmas.{each_append, each_at}
 use Rattle.kf_value.proofs.Orders.{first_less, flip, goes_on, same}
-use Rattle.kf_hyper.specs.declared.entry.Entry.{Entry}
-use Rattle.kf_hyper.specs.Traces.{trace_order}
+use Rattle.kf_column.specs.declared.entry.Entry.{Entry}
+use Rattle.kf_column.specs.Traces.{trace_order}
 use Rattle.kf_run.specs.Groups.{AreGroupsOf, Ascend, value_in, ways_in}
 use Rattle.kf_run.specs.Ways.{Way, along}
 use Rattle.kf_run.specs.declared.grouping.Group.{Group}

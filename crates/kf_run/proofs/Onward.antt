@@ -2,10 +2,10 @@
 use Rattle.std.proofs.Common.{◌≡◌, ℕ, ◌+◌, ◌≤◌, true, false, ◌++◌, All, refl, ◌∙◌, arith}
 use Rattle.std.proofs.lemmas.List.Elements.{All-append}
 use Rattle.std.proofs.lemmas.List.Sums.{sum_by-append}
-use Rattle.kf_hyper.specs.Columns.{IsColumn, total}
-use Rattle.kf_hyper.specs.Joint.{Joint, mass}
-use Rattle.kf_hyper.specs.Merged.{AreMerged}
-use Rattle.kf_hyper.specs.Shapes.{IsBelow}
+use Rattle.kf_column.specs.Columns.{IsColumn, total}
+use Rattle.kf_column.specs.Joint.{Joint, mass}
+use Rattle.kf_column.specs.Merged.{AreMerged}
+use Rattle.kf_column.specs.Shapes.{IsBelow}
 use Rattle.kf_core.specs.Ready.{IsPushed}
 use Rattle.kf_core.specs.Runs.{Tried, chain, guarded, stay}
 use Rattle.kf_core.proofs.Filled.{Filled}
@@ -14,7 +14,7 @@ use Rattle.kf_core.proofs.WeightKept.{Keeps}
 use Rattle.kf_quiet.specs.Following.{Goes, observed, side}
 use Rattle.kf_quiet.specs.Merging.{SplitsOnce}
 use Rattle.kf_run.specs.Going.{CanGo, HasGone}
-use Rattle.kf_hyper.proofs.Beliefs.{merged_below}
+use Rattle.kf_column.proofs.Beliefs.{merged_below}
 use Rattle.kf_quiet.proofs.Carrying.{Runner, Matrix, goes_behind, pushed_chain, pushed_columns, pushed_stay}
 use Rattle.kf_quiet.proofs.Readying.{mass_kept}
 use Rattle.kf_quiet.proofs.Statements.{goes_first, goes_guard, goes_left, goes_taken, pushed_guarded}

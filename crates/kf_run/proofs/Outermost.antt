@@ -8,16 +8,16 @@ use Rattle.std.proofs.lemmas.List.Elements.{All-cons, All-head, All-nil, All-tai
 use Rattle.std.proofs.lemmas.List.Sums.{sum_by-cons}
 use Rattle.std.proofs.lemmas.Map.Keys.{IsDistinct-head}
 use Rattle.std.proofs.lemmas.Option.{get_or_from_slice_get, slice_get_within}
-use Rattle.kf_hyper.specs.declared.entry.Entry.{Entry}
-use Rattle.kf_hyper.specs.Averages.{joint_column}
-use Rattle.kf_hyper.specs.Columns.{IsColumn, proportional, weight_at}
-use Rattle.kf_hyper.specs.Hypers.{Inner}
-use Rattle.kf_hyper.specs.Joint.{Joint, mass}
-use Rattle.kf_hyper.specs.Laws.{class_weight}
-use Rattle.kf_hyper.specs.Merged.{AreMerged}
-use Rattle.kf_hyper.specs.Shapes.{IsBelow}
-use Rattle.kf_hyper.proofs.Scaling.{proportional_itself}
-use Rattle.kf_hyper.proofs.Weights.{above_column, same_column}
+use Rattle.kf_column.specs.declared.entry.Entry.{Entry}
+use Rattle.kf_column.specs.Averages.{joint_column}
+use Rattle.kf_column.specs.Columns.{IsColumn, proportional, weight_at}
+use Rattle.kf_column.specs.Hypers.{Inner}
+use Rattle.kf_column.specs.Joint.{Joint, mass}
+use Rattle.kf_column.specs.Laws.{class_weight}
+use Rattle.kf_column.specs.Merged.{AreMerged}
+use Rattle.kf_column.specs.Shapes.{IsBelow}
+use Rattle.kf_column.proofs.Scaling.{proportional_itself}
+use Rattle.kf_column.proofs.Weights.{above_column, same_column}
 use Rattle.kf_core.specs.Checked.{AreSound, declared_kinds}
 use Rattle.kf_core.specs.Joint.{joint_of}
 use Rattle.kf_core.specs.Pushing.{HasBeliefs, IsTrail}
@@ -31,7 +31,7 @@ use Rattle.kf_core.proofs.Filled.{all_full}
 use Rattle.kf_core.proofs.Solid.{all_solid}
 use Rattle.kf_quiet.specs.Following.{Goes}
 use Rattle.kf_quiet.specs.Meanings.{AreApart, IsFinished, IsMeaning, Meaning, runs_between, store_count}
-use Rattle.kf_hyper.proofs.Beliefs.{merged_columns, merged_distinct, merged_has, merged_weights, some_merged}
+use Rattle.kf_column.proofs.Beliefs.{merged_columns, merged_distinct, merged_has, merged_weights, some_merged}
 use Rattle.kf_quiet.proofs.Carrying.{Matrix, Runner, pushed_again, pushed_chain, pushed_columns, pushed_stay}
 use Rattle.kf_run.specs.Behind.{Behind, front}
 use Rattle.kf_run.proofs.Parts.{part, sound_behind}

@@ -7,9 +7,9 @@ use Rattle.std.proofs.Math.Nat.{mul-one, mul-div_assoc, div-mul_cancel, mul_comm
 use Rattle.std.proofs.lemmas.Grind.{flat_map-append}
 use Rattle.std.proofs.lemmas.List.Elements.{recursion_from_All}
 use Rattle.kf_value.specs.Values.{truth}
-use Rattle.kf_hyper.specs.declared.entry.Entry.{Entry}
-use Rattle.kf_hyper.specs.Joint.{mass}
-use Rattle.kf_hyper.specs.Columns as column
+use Rattle.kf_column.specs.declared.entry.Entry.{Entry}
+use Rattle.kf_column.specs.Joint.{mass}
+use Rattle.kf_column.specs.Columns as column
 use Rattle.kf_core.specs.Choices.{Weighted, total}
 use Rattle.kf_core.specs.Joint.{Cell, cell_of}
 use Rattle.kf_core.specs.Pushing.{carried_cells}

@@ -4,10 +4,10 @@ use Rattle.std.proofs.lemmas.List.{drop-drop, drop-map, length-map, take-append-
 use Rattle.std.proofs.lemmas.List.Elements.{All-append, All-cons, All-nil}
 use Rattle.kf_value.proofs.ListLemmas.{left_step}
 use Rattle.kf_value.specs.Shapes.{shape_size, shape_types}
-use Rattle.kf_hyper.specs.Columns.{IsColumn}
-use Rattle.kf_hyper.specs.Joint.{Joint, mass}
-use Rattle.kf_hyper.specs.Merged.{AreMerged}
-use Rattle.kf_hyper.specs.Shapes.{IsBelow}
+use Rattle.kf_column.specs.Columns.{IsColumn}
+use Rattle.kf_column.specs.Joint.{Joint, mass}
+use Rattle.kf_column.specs.Merged.{AreMerged}
+use Rattle.kf_column.specs.Shapes.{IsBelow}
 use Rattle.kf_core.specs.declared.program.Program.{Program}
 use Rattle.kf_core.specs.declared.st.St.{St}
 use Rattle.kf_core.specs.Checked.{AreSound, IsChecked, IsSound, more, none}
@@ -23,7 +23,7 @@ use Rattle.kf_value.specs.Kinds.{KindTree}
 use Rattle.kf_quiet.specs.Following.{Goes}
 use Rattle.kf_run.specs.Going.{CanGo, HasGone}
 use Rattle.kf_run.specs.Silence.{silent_at}
-use Rattle.kf_hyper.proofs.Beliefs.{merged_below, merged_columns, merged_mass}
+use Rattle.kf_column.proofs.Beliefs.{merged_below, merged_columns, merged_mass}
 use Rattle.kf_run.proofs.Blocks.{block, block_full, single_can, single_gone}
 use Rattle.kf_run.proofs.Silencing as silencing
 use Rattle.kf_quiet.proofs.Carrying.{Matrix, Runner, goes_behind, goes_merged, pushed_merged}

@@ -18,12 +18,12 @@ use Rattle.kf_value.specs.Views.{value_tree}
 use Rattle.kf_value.proofs.ListLemmas.{each_append, each_map, each_weaker}
 use Rattle.kf_value.proofs.Orders.{first_less, flip, goes_on, order-itself, order_total, same}
 use Rattle.kf_value.proofs.Sorting.{sorted-nil, sorted-cons}
-use Rattle.kf_hyper.specs.declared.entry.Entry.{Entry}
-use Rattle.kf_hyper.specs.Columns.{IsColumn, total, weight_at}
-use Rattle.kf_hyper.specs.Joint.{mass}
-use Rattle.kf_hyper.specs.Shapes.{IsBelow}
-use Rattle.kf_hyper.specs.Traces.{Row, trace_order}
-use Rattle.kf_hyper.proofs.Weights.{above_column}
+use Rattle.kf_column.specs.declared.entry.Entry.{Entry}
+use Rattle.kf_column.specs.Columns.{IsColumn, total, weight_at}
+use Rattle.kf_column.specs.Joint.{mass}
+use Rattle.kf_column.specs.Shapes.{IsBelow}
+use Rattle.kf_column.specs.Traces.{Row, trace_order}
+use Rattle.kf_column.proofs.Weights.{above_column}
 use Rattle.kf_core.specs.Pushing.{carried_cells}
 use Rattle.kf_core.specs.Runs.{Run}
 use Rattle.kf_core.proofs.Measures.{Full}

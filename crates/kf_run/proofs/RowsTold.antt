@@ -9,10 +9,10 @@ use Rattle.std.proofs.lemmas.Bool.{false_from_ne_true}
 use Rattle.std.proofs.lemmas.List.Elements.{All-from_recursion}
 use Rattle.kf_value.specs.Values.{ValueTree, is_equal}
 use Rattle.kf_value.proofs.ListLemmas.{each_weaker}
-use Rattle.kf_hyper.specs.declared.entry.Entry.{Entry}
-use Rattle.kf_hyper.specs.Columns.{IsColumn, weight_at}
-use Rattle.kf_hyper.specs.Traces.{Row, trace_order}
-use Rattle.kf_hyper.proofs.Weights.{Above, column_above, weight_at_head}
+use Rattle.kf_column.specs.declared.entry.Entry.{Entry}
+use Rattle.kf_column.specs.Columns.{IsColumn, weight_at}
+use Rattle.kf_column.specs.Traces.{Row, trace_order}
+use Rattle.kf_column.proofs.Weights.{Above, column_above, weight_at_head}
 use Rattle.kf_core.specs.Joint.{Cell, is_cell_at, trace_weight, weight_of, HasTrace}
 use Rattle.kf_core.specs.Rows.{AreRowsOf}
 use Rattle.kf_core.proofs.Measures.{Full}

@@ -16,8 +16,8 @@ use Rattle.kf_value.specs.Shapes.{shape_types}
 use Rattle.kf_value.specs.Values.{ValueTree, Truth, Whole, Tuple, Set, is_equal, truth}
 use Rattle.kf_value.specs.declared.shape.Shape.{Shape}
 use Rattle.kf_value.proofs.ListLemmas.{each_any, each_append, each_flat_map, each_weaker}
-use Rattle.kf_hyper.specs.declared.entry.Entry.{Entry}
-use Rattle.kf_hyper.specs.Columns.{total as column_total}
+use Rattle.kf_column.specs.declared.entry.Entry.{Entry}
+use Rattle.kf_column.specs.Columns.{total as column_total}
 use Rattle.kf_core.specs.Choices.{Weighted, total}
 use Rattle.kf_core.specs.Dxs.{DxTree}
 use Rattle.kf_core.specs.Joint.{Cell, cells, cell_of, weight_of}

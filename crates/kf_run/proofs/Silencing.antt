@@ -9,13 +9,13 @@ use Rattle.std.proofs.lemmas.Slice.Eq.{bytes_eq-Decides}
 use Rattle.kf_value.specs.Shapes.{shape_size, shape_types}
 use Rattle.kf_value.specs.Types.{TypeTree}
 use Rattle.kf_value.specs.declared.shape.Shape.{Shape}
-use Rattle.kf_hyper.specs.declared.entry.Entry.{Entry}
-use Rattle.kf_hyper.specs.Columns.{IsColumn, total, weight_at}
-use Rattle.kf_hyper.specs.Joint.{Joint, mass}
-use Rattle.kf_hyper.specs.Merged.{AreMerged}
-use Rattle.kf_hyper.specs.Shapes.{IsBelow}
-use Rattle.kf_hyper.proofs.Beliefs.{merged_below}
-use Rattle.kf_hyper.proofs.Scaling.{total_positive}
+use Rattle.kf_column.specs.declared.entry.Entry.{Entry}
+use Rattle.kf_column.specs.Columns.{IsColumn, total, weight_at}
+use Rattle.kf_column.specs.Joint.{Joint, mass}
+use Rattle.kf_column.specs.Merged.{AreMerged}
+use Rattle.kf_column.specs.Shapes.{IsBelow}
+use Rattle.kf_column.proofs.Beliefs.{merged_below}
+use Rattle.kf_column.proofs.Scaling.{total_positive}
 use Rattle.kf_core.specs.Checked.{AreSound, IsSound}
 use Rattle.kf_core.specs.Pushing.{AreBehind}
 use Rattle.kf_core.specs.Runs.{Run, all_runs, runs, stay}

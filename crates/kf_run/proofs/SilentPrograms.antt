@@ -5,10 +5,10 @@ use Rattle.std.proofs.lemmas.List.Elements.{All-cons, All-nil}
 use Rattle.kf_value.proofs.ListLemmas.{left_step}
 use Rattle.kf_value.specs.Shapes.{shape_size, shape_types}
 use Rattle.kf_value.specs.Types.{TypeTree}
-use Rattle.kf_hyper.specs.declared.entry.Entry.{Entry}
-use Rattle.kf_hyper.specs.Columns.{IsColumn}
-use Rattle.kf_hyper.specs.Hypers.{Inner}
-use Rattle.kf_hyper.specs.Joint.{Joint, mass}
+use Rattle.kf_column.specs.declared.entry.Entry.{Entry}
+use Rattle.kf_column.specs.Columns.{IsColumn}
+use Rattle.kf_column.specs.Hypers.{Inner}
+use Rattle.kf_column.specs.Joint.{Joint, mass}
 use Rattle.kf_core.specs.declared.program.Program.{Program}
 use Rattle.kf_core.specs.declared.st.St.{St}
 use Rattle.kf_core.specs.Checked.{AreSound, IsSound}

@@ -1,8 +1,8 @@
 -- Every program has one trail: at each place there is one number of beliefs.
 use Rattle.std.proofs.Common.{◌≡◌, ℕ, zero, suc, List, [], ◌∷◌, Some, map, take, length, slice_get, refl, sym, ap, subst, ◌∙◌, arith}
-use Rattle.kf_hyper.specs.Hypers.{Inner, IsHyper}
-use Rattle.kf_hyper.specs.Laws.{SomeHyper, AtMostOneHyper}
-use Rattle.kf_hyper.specs.Traces.{Row}
+use Rattle.kf_column.specs.Hypers.{Inner, IsHyper}
+use Rattle.kf_column.specs.Laws.{SomeHyper, AtMostOneHyper}
+use Rattle.kf_column.specs.Traces.{Row}
 use Rattle.kf_core.specs.Joint.{Cell, cells}
 use Rattle.kf_core.specs.JointLaws.{RowsExist, RowsAreOne}
 use Rattle.kf_core.specs.Programs.{ProgramTree}

@@ -1,15 +1,15 @@
 -- Columns pushed through a loop, turn by turn.
 use Rattle.std.proofs.Common.{◌≡◌, ℕ, zero, suc, ◌+◌, ◌≤◌, true, false, [], ◌∷◌, ◌++◌, All, length, refl, sym, ◌∙◌, subst, arith}
 use Rattle.std.proofs.lemmas.List.Elements.{All-append, All-nil}
-use Rattle.kf_hyper.specs.Columns.{IsColumn}
-use Rattle.kf_hyper.specs.Joint.{Joint, mass}
-use Rattle.kf_hyper.specs.Merged.{AreMerged}
-use Rattle.kf_hyper.specs.Shapes.{IsBelow}
+use Rattle.kf_column.specs.Columns.{IsColumn}
+use Rattle.kf_column.specs.Joint.{Joint, mass}
+use Rattle.kf_column.specs.Merged.{AreMerged}
+use Rattle.kf_column.specs.Shapes.{IsBelow}
 use Rattle.kf_core.specs.Runs.{LoopBound, Tried, chain, looped, stay, stopped}
 use Rattle.kf_core.proofs.Filled.{Filled, chain_full, looped_full}
 use Rattle.kf_quiet.specs.Following.{Goes, observed, side}
 use Rattle.kf_run.specs.Going.{CanGo, HasGone}
-use Rattle.kf_hyper.proofs.Beliefs.{merged_again, merged_below, merged_columns, merged_mass, merged_none}
+use Rattle.kf_column.proofs.Beliefs.{merged_again, merged_below, merged_columns, merged_mass, merged_none}
 use Rattle.kf_run.proofs.Onward.{AreSides, Carries, carried_mass, mass_both}
 use Rattle.kf_quiet.proofs.Carrying.{Runner, Matrix, pushed_columns}
 use Rattle.kf_quiet.proofs.Statements.{ComesTo, all_turned, goes_body, goes_guard, goes_next, turned, turned_last, turned_none}

@@ -1,7 +1,7 @@
 -- For bodies: columns before one of a program's outermost statements.
 use Rattle.std.specs.Prelude.{ℕ, List}
-use Rattle.kf_hyper.specs.declared.entry.Entry.{Entry}
-use Rattle.kf_hyper.specs.Joint.{Joint}
+use Rattle.kf_column.specs.declared.entry.Entry.{Entry}
+use Rattle.kf_column.specs.Joint.{Joint}
 use Rattle.kf_core.specs.declared.program.Program.{Program}
 use Rattle.kf_core.specs.Views.{program_tree}
 use Rattle.kf_support.specs.declared.cleared.Cleared.{Cleared}

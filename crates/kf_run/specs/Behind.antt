@@ -1,8 +1,8 @@
 -- For bodies: columns behind so many of a program's outermost statements.
 use Rattle.std.specs.Prelude.{◌≡◌, ℕ, List, [], ◌∷◌, All, take, drop}
-use Rattle.kf_hyper.specs.declared.entry.Entry.{Entry}
-use Rattle.kf_hyper.specs.Joint.{Joint, mass}
-use Rattle.kf_hyper.specs.Shapes.{IsBelow}
+use Rattle.kf_column.specs.declared.entry.Entry.{Entry}
+use Rattle.kf_column.specs.Joint.{Joint, mass}
+use Rattle.kf_column.specs.Shapes.{IsBelow}
 use Rattle.kf_core.specs.Ready.{IsPushed, IsReady, IsStart}
 use Rattle.kf_core.specs.Runs.{Run, all_runs}
 use Rattle.kf_core.specs.Sts.{sts}

@@ -1,8 +1,8 @@
 -- For bodies: columns that can be pushed along runs, and what they come to.
 use Rattle.std.specs.Prelude.{◌≡◌, ◌≤◌, ℕ, List, All}
-use Rattle.kf_hyper.specs.Columns.{IsColumn}
-use Rattle.kf_hyper.specs.Joint.{Joint, mass}
-use Rattle.kf_hyper.specs.Shapes.{IsBelow}
+use Rattle.kf_column.specs.Columns.{IsColumn}
+use Rattle.kf_column.specs.Joint.{Joint, mass}
+use Rattle.kf_column.specs.Shapes.{IsBelow}
 use Rattle.kf_core.specs.Ready.{IsPushed}
 use Rattle.kf_core.specs.Runs.{Run}
 use Rattle.kf_quiet.specs.Following.{Goes}

@@ -5,11 +5,11 @@ use Rattle.std.specs.Cmp.Lexicographic.{pointwise}
 use Rattle.kf_value.specs.Types.{TypeTree}
 use Rattle.kf_value.specs.Values.{ValueTree, Truth, is_equal, truth}
 use Rattle.kf_value.specs.Views.{value_tree}
-use Rattle.kf_hyper.specs.declared.entry.Entry.{Entry}
-use Rattle.kf_hyper.specs.Columns.{total}
-use Rattle.kf_hyper.specs.Joint.{mass}
-use Rattle.kf_hyper.specs.Shapes.{IsBelow}
-use Rattle.kf_hyper.specs.Traces.{Row}
+use Rattle.kf_column.specs.declared.entry.Entry.{Entry}
+use Rattle.kf_column.specs.Columns.{total}
+use Rattle.kf_column.specs.Joint.{mass}
+use Rattle.kf_column.specs.Shapes.{IsBelow}
+use Rattle.kf_column.specs.Traces.{Row}
 use Rattle.kf_core.specs.Choices.{Weighted}
 use Rattle.kf_core.specs.Joint.{weight_of}
 use Rattle.kf_core.specs.Pushing.{carried_cells}

@@ -1,7 +1,7 @@
 //! The columns of a program before one of its outermost statements, and the hyper where one statement within it is silent.
 
 ghost use Rattle.std.specs.Prelude.{◌≡◌, ◌<◌, ◌+◌, ◌∷◌, List, length, IfOk, OnOk};
-ghost use Rattle.kf_hyper.specs.declared.entry.Entry.{Entry};
+ghost use Rattle.kf_column.specs.declared.entry.Entry.{Entry};
 ghost use Rattle.kf_hyper.specs.Views.{inners_of, scale_of, target_of};
 ghost use Rattle.kf_core.specs.Rows.{IsHyperOf};
 ghost use Rattle.kf_core.specs.Views.{program_tree};

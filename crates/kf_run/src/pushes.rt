@@ -3,10 +3,10 @@
 ghost use Rattle.std.specs.Prelude.{◌≡◌, ◌≤◌, ◌<◌, ◌+◌, ◌-◌, ◌++◌, false, [], ◌∷◌, List, All, length, map, take, drop, IfOk};
 ghost use Rattle.kf_value.specs.Kinds.{TruthKind};
 ghost use Rattle.kf_value.specs.Shapes.{shape_size, shape_types};
-ghost use Rattle.kf_hyper.specs.Columns.{total};
-ghost use Rattle.kf_hyper.specs.Joint.{IsJoint, mass};
-ghost use Rattle.kf_hyper.specs.Merged.{AreMerged};
-ghost use Rattle.kf_hyper.specs.Shapes.{IsBelow};
+ghost use Rattle.kf_column.specs.Columns.{total};
+ghost use Rattle.kf_column.specs.Joint.{IsJoint, mass};
+ghost use Rattle.kf_column.specs.Merged.{AreMerged};
+ghost use Rattle.kf_column.specs.Shapes.{IsBelow};
 ghost use Rattle.kf_core.specs.Checked.{AreSound, DistKinded, IsSound};
 ghost use Rattle.kf_core.specs.Pushing.{AreBehind};
 ghost use Rattle.kf_core.specs.Ready.{IsPushed, IsReady};

@@ -3,9 +3,9 @@
 ghost use Rattle.std.specs.Prelude.{◌≡◌, ◌<◌, ◌≤◌, ◌^◌, ℕ, List, [], All, Bool, flat_map, map, length, IfOk, OnOk};
 ghost use Rattle.std.specs.List.{AllByRecursion as Each};
 ghost use Rattle.kf_value.specs.Values.{ValueTree};
-ghost use Rattle.kf_hyper.specs.declared.entry.Entry.{Entry as EntryTree};
-ghost use Rattle.kf_hyper.specs.Columns.{IsColumn, total};
-ghost use Rattle.kf_hyper.specs.Shapes.{IsBelow};
+ghost use Rattle.kf_column.specs.declared.entry.Entry.{Entry as EntryTree};
+ghost use Rattle.kf_column.specs.Columns.{IsColumn, total};
+ghost use Rattle.kf_column.specs.Shapes.{IsBelow};
 ghost use Rattle.kf_core.specs.Runs.{Run};
 ghost use Rattle.kf_run.specs.Groups.{AreSame, Ascend, ways_in};
 ghost use Rattle.kf_run.specs.Spreading.{IsFront, Rise};

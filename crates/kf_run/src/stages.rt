@@ -3,9 +3,9 @@
 ghost use Rattle.std.specs.Prelude.{◌≡◌, ◌≤◌, ◌<◌, ◌+◌, [], ◌∷◌, List, All, length, take, drop, map, IfOk, IsOk};
 ghost use Rattle.kf_frac.specs.Fractions.{limit};
 ghost use Rattle.kf_value.specs.Types.{count as size_of_type, product};
-ghost use Rattle.kf_hyper.specs.declared.entry.Entry.{Entry};
-ghost use Rattle.kf_hyper.specs.Joint.{mass};
-ghost use Rattle.kf_hyper.specs.Shapes.{IsBelow};
+ghost use Rattle.kf_column.specs.declared.entry.Entry.{Entry};
+ghost use Rattle.kf_column.specs.Joint.{mass};
+ghost use Rattle.kf_column.specs.Shapes.{IsBelow};
 ghost use Rattle.kf_hyper.specs.Views.{inners_of, scale_of, target_of};
 ghost use Rattle.kf_core.specs.Joint.{joint_of};
 ghost use Rattle.kf_core.specs.Pushing.{IsTrail};

@@ -3,8 +3,8 @@
 ghost use Rattle.std.specs.Prelude.{◌≡◌, ◌≤◌, ◌<◌, [], ◌∷◌, List, All, IfOk, IsOk};
 ghost use Rattle.kf_frac.specs.Fractions.{limit};
 ghost use Rattle.kf_value.specs.Shapes.{shape_size};
-ghost use Rattle.kf_hyper.specs.declared.entry.Entry.{Entry};
-ghost use Rattle.kf_hyper.specs.Shapes.{IsBelow};
+ghost use Rattle.kf_column.specs.declared.entry.Entry.{Entry};
+ghost use Rattle.kf_column.specs.Shapes.{IsBelow};
 ghost use Rattle.kf_core.specs.Checked.{IsChecked};
 ghost use Rattle.kf_core.specs.Ready.{IsReady, IsStart};
 ghost use Rattle.kf_core.specs.Scale.{scale_of};

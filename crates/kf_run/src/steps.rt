@@ -3,9 +3,9 @@
 ghost use Rattle.std.specs.Prelude.{◌≡◌, ◌<◌, ◌+◌, ℕ, true, false, length, List, All, IfOk, IfSome};
 ghost use Rattle.kf_value.specs.Kinds.{KindTree, TruthKind};
 ghost use Rattle.kf_value.specs.Shapes.{shape_size, shape_types};
-ghost use Rattle.kf_hyper.specs.declared.entry.Entry.{Entry as EntryTree};
-ghost use Rattle.kf_hyper.specs.Joint.{IsJoint, mass};
-ghost use Rattle.kf_hyper.specs.Shapes.{IsBelow};
+ghost use Rattle.kf_column.specs.declared.entry.Entry.{Entry as EntryTree};
+ghost use Rattle.kf_column.specs.Joint.{IsJoint, mass};
+ghost use Rattle.kf_column.specs.Shapes.{IsBelow};
 ghost use Rattle.kf_core.specs.Checked.{DistKinded, IsChecked};
 ghost use Rattle.kf_core.specs.Ready.{IsPushed};
 ghost use Rattle.kf_core.specs.Runs.{Run, assigned, copied, leaks, silent, stay, tried};

@@ -1,12 +1,12 @@
 -- What silent statements leave out are traces alone: what all inners give to a value together stays, and so does the width of a gain.
 use Rattle.std.proofs.Common.{◌≡◌, ℕ, ◌==◌, Bool, cond, List, map, Result, Ok, Err, refl, sym, ap, ◌∙◌}
 use Rattle.std.proofs.lemmas.List.Elements.{All-map}
-use Rattle.kf_hyper.specs.declared.entry.Entry.{Entry}
-use Rattle.kf_hyper.specs.Averages.{average_weight}
-use Rattle.kf_hyper.specs.Columns.{IsColumn, weight_at}
-use Rattle.kf_hyper.specs.Hypers.{Inner}
-use Rattle.kf_hyper.specs.Traces.{Row}
-use Rattle.kf_hyper.proofs.Weighing.{averages_weigh}
+use Rattle.kf_column.specs.declared.entry.Entry.{Entry}
+use Rattle.kf_column.specs.Averages.{average_weight}
+use Rattle.kf_column.specs.Columns.{IsColumn, weight_at}
+use Rattle.kf_column.specs.Hypers.{Inner}
+use Rattle.kf_column.specs.Traces.{Row}
+use Rattle.kf_column.proofs.Weighing.{averages_weigh}
 use Rattle.kf_core.specs.Joint.{Cell, cell_of, cells, joint_of, target_number}
 use Rattle.kf_core.specs.JointLaws.{HypersAreOne, HypersExist}
 use Rattle.kf_core.specs.Programs.{ProgramTree}

@@ -5,7 +5,7 @@ use Rattle.std.specs.Prelude.{is_ok, IsOk, if◌then◌else◌}
 use Rattle.std.specs.List.{AllZip, flat_map}
 use Rattle.std.proofs.lemmas.List.{append_cancel_left, map-id}
 use Rattle.kf_value.specs.Values.{ValueTree, truth}
-use Rattle.kf_hyper.proofs.AtMostOne.{In}
+use Rattle.kf_column.proofs.AtMostOne.{In}
 use Rattle.kf_core.specs.Choices.{Weighted, total}
 use Rattle.kf_core.specs.Runs.{Run, Halted, Tried, LoopBound, branched, chain, choice_run, guarded, joined, looped, onward, shown, stay, stopped}
 use Rattle.kf_quiet.specs.Quiet.{hushed}

@@ -1,8 +1,8 @@
 -- What goes along the runs of statements goes along their silent runs, and comes to the silent hyper.
 use Rattle.std.proofs.Common.{◌≡◌, ℕ, suc, ◌+◌, Bool, List, [], ◌∷◌, ◌++◌, length, IsOk, refl, sym, ap, subst, ◌∙◌, arith}
 use Rattle.kf_value.specs.Types.{TypeTree}
-use Rattle.kf_hyper.specs.declared.entry.Entry.{Entry}
-use Rattle.kf_hyper.specs.Hypers.{Inner, IsHyper}
+use Rattle.kf_column.specs.declared.entry.Entry.{Entry}
+use Rattle.kf_column.specs.Hypers.{Inner, IsHyper}
 use Rattle.kf_core.specs.Checked.{IsChecked}
 use Rattle.kf_core.specs.ChoiceLaws.{ChoicesAreShares}
 use Rattle.kf_core.specs.Joint.{target_number}

@@ -10,15 +10,15 @@ use Rattle.std.proofs.lemmas.List.Elements.{recursion_from_All}
 use Rattle.std.proofs.lemmas.List.Sums.{sum_by-cons}
 use Rattle.kf_frac.proofs.Ring.{add_mul}
 use Rattle.kf_value.proofs.ListLemmas.{each_both}
-use Rattle.kf_hyper.specs.declared.entry.Entry.{Entry}
-use Rattle.kf_hyper.specs.Averages.{scaled, joint_weight, joint_column, average_weight}
-use Rattle.kf_hyper.specs.Columns.{IsColumn, weight_at, total, proportional}
-use Rattle.kf_hyper.specs.Hypers.{Inner, IsHyper, IsInner, class_total}
-use Rattle.kf_hyper.specs.Traces.{Row}
-use Rattle.kf_hyper.proofs.ClassSums.{above_scaled}
-use Rattle.kf_hyper.proofs.Scaling.{total-scaled, weight_at-scaled, total_positive}
-use Rattle.kf_hyper.proofs.Weighing.{IsTimes, times_inner}
-use Rattle.kf_hyper.proofs.Weights.{Above, above_column, ascending_above, positive_above, same_column}
+use Rattle.kf_column.specs.declared.entry.Entry.{Entry}
+use Rattle.kf_column.specs.Averages.{scaled, joint_weight, joint_column, average_weight}
+use Rattle.kf_column.specs.Columns.{IsColumn, weight_at, total, proportional}
+use Rattle.kf_column.specs.Hypers.{Inner, IsHyper, IsInner, class_total}
+use Rattle.kf_column.specs.Traces.{Row}
+use Rattle.kf_column.proofs.ClassSums.{above_scaled}
+use Rattle.kf_column.proofs.Scaling.{total-scaled, weight_at-scaled, total_positive}
+use Rattle.kf_column.proofs.Weighing.{IsTimes, times_inner}
+use Rattle.kf_column.proofs.Weights.{Above, above_column, ascending_above, positive_above, same_column}
 use Rattle.kf_core.proofs.Sums.{adds, adds_mapped, sum_is}
 use Rattle.kf_gain.specs.Gains.{GainOf, Bayes, Tries, Guessing, Table, TableTree}
 use Rattle.kf_gain.specs.Vulnerabilities.{IsPosterior}

@@ -2,8 +2,8 @@
 use Rattle.std.specs.Prelude.{◌≡◌, ◌↔◌, ℕ, suc, ◌≤◌, ◌<◌, ◌⊎◌, ℤ, Bool, true, false, List, [], ◌∷◌, map}
 use Rattle.kf_value.specs.Types.{TypeTree}
 use Rattle.kf_value.specs.Values.{ValueTree}
-use Rattle.kf_hyper.specs.Averages.{average_weight}
-use Rattle.kf_hyper.specs.Hypers.{Inner}
+use Rattle.kf_column.specs.Averages.{average_weight}
+use Rattle.kf_column.specs.Hypers.{Inner}
 use Rattle.kf_core.specs.Joint.{Cell, joint_of}
 use Rattle.kf_core.specs.Programs.{ProgramTree}
 use Rattle.kf_core.specs.Rows.{IsHyperOf}

@@ -5,9 +5,9 @@ use Rattle.std.proofs.lemmas.List.{get_or-map, length-map, drop-map}
 use Rattle.std.proofs.lemmas.List.Sums.{get_or-le-sum_by}
 use Rattle.kf_value.proofs.ListLemmas.{left_step}
 use Rattle.kf_hyper.specs.declared.traces.TraceRow.{TraceRow}
-use Rattle.kf_hyper.specs.Columns.{total}
-use Rattle.kf_hyper.specs.Shapes.{IsBelow}
-use Rattle.kf_hyper.specs.Traces.{Row}
+use Rattle.kf_column.specs.Columns.{total}
+use Rattle.kf_column.specs.Shapes.{IsBelow}
+use Rattle.kf_column.specs.Traces.{Row}
 use Rattle.kf_hyper.specs.Tables.{IsTable, table_row}
 
 module _ (rows items : List TraceRow) (same : items ≡ rows) (k : ℕ) (row : TraceRow) (inside : k < length items) (is : row ≡ get_or items k row) where

@@ -2,7 +2,7 @@
 use Rattle.std.specs.Prelude.{ℕ, pos, ◌+◌, List, [], ◌∷◌, ◌++◌, codes, decimal, flat_map}
 use Rattle.kf_frac.specs.Fractions.{fraction_text}
 use Rattle.kf_value.specs.Targets.{Item}
-use Rattle.kf_hyper.specs.Hypers.{Inner}
+use Rattle.kf_column.specs.Hypers.{Inner}
 use Rattle.kf_gain.specs.Gains.{GainOf}
 use Rattle.kf_attack.specs.Attacks.{AttackTree, BestTree, Values, Scores, NamedGain, ReachTree}
 use Rattle.kf_text.specs.ReportTexts.{gain_text}

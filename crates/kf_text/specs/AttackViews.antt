@@ -3,7 +3,7 @@ use Rattle.std.specs.Prelude.{ℕ, pos, ◌<◌, List, [], ◌++◌, All, codes,
 use Rattle.kf_frac.specs.Fractions.{fraction_text}
 use Rattle.kf_frac.specs.declared.frac.Frac.{Frac}
 use Rattle.kf_value.specs.Targets.{Item, target_value_text}
-use Rattle.kf_hyper.specs.Hypers.{Inner}
+use Rattle.kf_column.specs.Hypers.{Inner}
 use Rattle.kf_gain.specs.declared.table.Action.{Action}
 use Rattle.kf_attack.specs.declared.attack.Attack.{Attack}
 use Rattle.kf_attack.specs.declared.attack.Best.{Best}

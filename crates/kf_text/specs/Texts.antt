@@ -5,10 +5,10 @@ use Rattle.kf_frac.specs.Fractions.{fraction_text}
 use Rattle.kf_value.specs.Values.{ValueTree}
 use Rattle.kf_value.specs.Texts.{text, separated}
 use Rattle.kf_value.specs.Targets.{Item, target_text, target_value_text}
-use Rattle.kf_hyper.specs.declared.entry.Entry.{Entry}
-use Rattle.kf_hyper.specs.Columns.{total}
-use Rattle.kf_hyper.specs.Hypers.{Inner}
-use Rattle.kf_hyper.specs.Traces.{Row, share_at}
+use Rattle.kf_column.specs.declared.entry.Entry.{Entry}
+use Rattle.kf_column.specs.Columns.{total}
+use Rattle.kf_column.specs.Hypers.{Inner}
+use Rattle.kf_column.specs.Traces.{Row, share_at}
 
 -- a line is ended by LF
 abbrev pub line : List ℕ → List ℕ

@@ -1,5 +1,5 @@
 ghost use Rattle.std.specs.Prelude.{◌≡◌, ◌<◌, ◌++◌, IfOk, OnOk, flat_map, length, string_bytes};
-ghost use Rattle.kf_hyper.specs.Columns.{total};
+ghost use Rattle.kf_column.specs.Columns.{total};
 ghost use Rattle.kf_hyper.specs.Views.{entry_at, inner_at, inners_of, scale_of, target_of};
 ghost use Rattle.kf_text.specs.Endings.{line_end};
 ghost use Rattle.kf_text.specs.Texts.{head_lines, size_lines, entry_line, inner_lines, hyper_text as text_of_hyper};

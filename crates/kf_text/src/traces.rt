@@ -2,8 +2,8 @@ ghost use Rattle.std.specs.Prelude.{◌≡◌, ◌≤◌, ◌<◌, ◌++◌, IfO
 ghost use Rattle.kf_frac.specs.Fractions.{limit};
 ghost use Rattle.kf_value.specs.Numbers.{target_size};
 ghost use Rattle.kf_value.specs.Views.{items_of};
-ghost use Rattle.kf_hyper.specs.Columns.{total};
-ghost use Rattle.kf_hyper.specs.Shapes.{IsBelow};
+ghost use Rattle.kf_column.specs.Columns.{total};
+ghost use Rattle.kf_column.specs.Shapes.{IsBelow};
 ghost use Rattle.kf_hyper.specs.Tables.{table_row};
 ghost use Rattle.kf_hyper.specs.Views.{rows_of};
 ghost use Rattle.kf_text.specs.Texts.{entry_line, row_lines, table_lines, trace_text as text_of_table};

@@ -5,7 +5,7 @@ use Rattle.kf_core.specs.Joint.{joint_of}
 use Rattle.kf_core.specs.Rows.{IsHyperOf}
 use Rattle.kf_core.specs.Scale.{scale_of}
 use Rattle.kf_core.specs.Support.{program_pass}
-use Rattle.kf_hyper.specs.Hypers.{Inner}
+use Rattle.kf_column.specs.Hypers.{Inner}
 use Rattle.kf_load.specs.Texts.{Text, TypedOf}
 use Rattle.kf_load.proofs.Faults.{fits}
 use Rattle.kf_make.specs.Laws.{MadeIsParsed, MadeIsTyped}

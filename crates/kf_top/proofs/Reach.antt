@@ -8,7 +8,7 @@ use Rattle.kf_frac.proofs.CommonDivisors.{gcd_is, gcd_positive, gcd_swap}
 use Rattle.kf_frac.proofs.LowestTerms.{quotient_positive, reduced_num_signed, reduced_den_signed}
 use Rattle.kf_frac.proofs.Ring.{mul_left_comm}
 use Rattle.kf_simplex.proofs.Signs.{product_monotone, product_strict}
-use Rattle.kf_hyper.specs.Hypers.{Inner}
+use Rattle.kf_column.specs.Hypers.{Inner}
 use Rattle.kf_core.specs.Joint.{Cell}
 use Rattle.kf_core.specs.Rows.{IsHyperOf}
 use Rattle.kf_attack.specs.Attacks.{ReachTree, IsReach}

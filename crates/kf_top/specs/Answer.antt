@@ -9,8 +9,8 @@ use Rattle.kf_core.specs.Programs.{ProgramTree}
 use Rattle.kf_core.specs.Pushing.{IsTrail}
 use Rattle.kf_core.specs.Rows.{AreRowsOf, IsHyperOf}
 use Rattle.kf_core.specs.Scale.{scale_of}
-use Rattle.kf_hyper.specs.Hypers.{Inner}
-use Rattle.kf_hyper.specs.Traces.{Row}
+use Rattle.kf_column.specs.Hypers.{Inner}
+use Rattle.kf_column.specs.Traces.{Row}
 use Rattle.kf_channel.specs.Channels.{AreSecrets, all_initial}
 use Rattle.kf_capacity.specs.Grids.{ChannelTree, GridTree, channel_grid, capacity_of}
 use Rattle.kf_capacity.specs.Compositions.{IsCascade, IsParallel, IsChoice}

@@ -16,7 +16,7 @@ use Rattle.kf_core.specs.Dxs.{DxTree}
 use Rattle.kf_core.specs.Sts.{StTree, StTrees, Skip, Assign, Observe, If, While, no_sts, more_sts, sts}
 use Rattle.kf_core.specs.Programs.{ProgramTree}
 use Rattle.kf_core.specs.Runs.{Tried, tried}
-use Rattle.kf_hyper.specs.Traces.{trace_order}
+use Rattle.kf_column.specs.Traces.{trace_order}
 use Rattle.kf_traces.specs.Views.{PartsAscend}
 use Rattle.kf_traces.specs.Traced.{Weights, Traced, Lead, Part, unmoved, into, with_weight, with_part, with_share, with_shares, parted, split, behind, branches, alone, gone, assign_traced, guard_traced, loop_traced, traced, all_traced, declared_traced, copied_traced, program_traced}
 

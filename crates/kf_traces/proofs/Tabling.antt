@@ -5,12 +5,12 @@ use Rattle.std.specs.List.{All, AllByRecursion as Each}
 use Rattle.std.proofs.lemmas.List.Elements.{All-from_recursion, recursion_from_All, All-cons, All-head, All-nil}
 use Rattle.std.proofs.lemmas.List.Sums.{sum_by-cons}
 use Rattle.kf_frac.specs.Fractions.{limit}
-use Rattle.kf_hyper.specs.declared.entry.Entry.{Entry}
+use Rattle.kf_column.specs.declared.entry.Entry.{Entry}
 use Rattle.kf_hyper.specs.declared.column.Column.{Column}
-use Rattle.kf_hyper.specs.Columns.{weight_at, total}
-use Rattle.kf_hyper.specs.Shapes.{IsBelow}
-use Rattle.kf_hyper.specs.Joint.{IsJoint, mass}
-use Rattle.kf_hyper.specs.Projection.{weight_through}
+use Rattle.kf_column.specs.Columns.{weight_at, total}
+use Rattle.kf_column.specs.Shapes.{IsBelow}
+use Rattle.kf_column.specs.Joint.{IsJoint, mass}
+use Rattle.kf_column.specs.Projection.{weight_through}
 use Rattle.kf_hyper.specs.Sums.{summed, ArePositive}
 use Rattle.kf_core.proofs.Sums.{adds, sum_filtered}
 use Rattle.kf_traces.specs.Laws.{sum_of}

@@ -20,9 +20,9 @@ use Rattle.kf_core.specs.Rows.{AreRowsOf}
 use Rattle.kf_core.specs.Runs.{program_runs}
 use Rattle.kf_core.specs.Scale.{scale_of}
 use Rattle.kf_core.specs.Support.{program_pass}
-use Rattle.kf_hyper.specs.Columns.{IsColumn, weight_at, total}
-use Rattle.kf_hyper.specs.Shapes.{IsBelow}
-use Rattle.kf_hyper.specs.Traces.{Row, trace_order}
+use Rattle.kf_column.specs.Columns.{IsColumn, weight_at, total}
+use Rattle.kf_column.specs.Shapes.{IsBelow}
+use Rattle.kf_column.specs.Traces.{Row, trace_order}
 use Rattle.kf_hyper.specs.Tables.{IsTable}
 use Rattle.kf_core.proofs.Sums.{adds, sum_filtered}
 use Rattle.kf_traces.specs.Laws.{sum_of, target_weight, TracesJoin, TracesTell, AreTraces}

@@ -10,7 +10,7 @@ use Rattle.kf_core.specs.Runs.{Run, Halted, program_runs}
 use Rattle.kf_core.specs.Support.{program_pass}
 use Rattle.kf_core.specs.Scale.{scale_of}
 use Rattle.kf_core.specs.Joint.{target_number, joint_of, weight_of}
-use Rattle.kf_hyper.specs.Traces.{trace_order}
+use Rattle.kf_column.specs.Traces.{trace_order}
 use Rattle.kf_traces.specs.Traced.{Weights, Traced, program_traced}
 
 -- all weight that these stores have

@@ -8,13 +8,14 @@ ghost use Rattle.kf_value.specs.Views.{items_of};
 ghost use Rattle.kf_core.specs.Checked.{IsChecked};
 ghost use Rattle.kf_core.specs.Joint.{target_number};
 ghost use Rattle.kf_core.specs.Views.{program_tree};
-ghost use Rattle.kf_hyper.specs.Columns.{IsColumn, weight_at, total};
-ghost use Rattle.kf_hyper.specs.Shapes.{IsBelow};
+ghost use Rattle.kf_column.specs.Columns.{IsColumn, weight_at, total};
+ghost use Rattle.kf_column.specs.Shapes.{IsBelow};
 ghost use Rattle.kf_traces.specs.Laws.{sum_of};
 ghost use Rattle.kf_traces.specs.Views.{Fits};
 
+use kf_column::projection_laws;
 use kf_core::Program;
-use kf_hyper::{Column, ColumnList, Columns, column_of, project, projection_laws};
+use kf_hyper::{Column, ColumnList, Columns, column_of, project};
 use kf_value::Mem;
 use std::alloc::Global;
 use std::collections::BTreeMap;

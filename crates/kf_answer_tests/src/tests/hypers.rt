@@ -6,9 +6,9 @@ ghost use Rattle.kf_value.specs.Types.{Range};
 ghost use Rattle.kf_value.specs.TypeViews.{type_tree};
 ghost use Rattle.kf_value.specs.Numbers.{target_size};
 ghost use Rattle.kf_value.specs.Views.{items_of};
-ghost use Rattle.kf_hyper.specs.Columns.{IsColumn};
-ghost use Rattle.kf_hyper.specs.Shapes.{IsBelow};
-ghost use Rattle.kf_hyper.specs.Joint.{mass};
+ghost use Rattle.kf_column.specs.Columns.{IsColumn};
+ghost use Rattle.kf_column.specs.Shapes.{IsBelow};
+ghost use Rattle.kf_column.specs.Joint.{mass};
 
 use kf_hyper::{
     Column, ColumnList, Columns, Entry, EntryList, Hyper, abstract_columns, join, merge, project,

@@ -9,7 +9,7 @@ ghost use Rattle.kf_gain.specs.Gains.{Table, over_of};
 ghost use Rattle.kf_gain.specs.Views.{gain_tree, table_tree};
 ghost use Rattle.kf_gain.specs.Vulnerabilities.{IsPosterior, IsWidth, greatest, gains_of};
 ghost use Rattle.kf_gain.specs.Worth.{IsVulnerability};
-ghost use Rattle.kf_hyper.specs.Columns.{total as total_of};
+ghost use Rattle.kf_column.specs.Columns.{total as total_of};
 ghost use Rattle.kf_hyper.specs.Views.{inners_of, scale_of};
 
 use super::excess::{Excess, at_value, excesses};

@@ -4,8 +4,8 @@ ghost use Rattle.std.specs.Prelude.{◌≡◌, ◌↔◌, ◌+◌, ◌*◌, ◌/
 ghost use Rattle.std.specs.List.Sorted.{IsNonDecreasingBy};
 ghost use Rattle.kf_cert.specs.Cells.{AreCarried, IsCarried, share_total, column_total};
 ghost use Rattle.kf_frac.specs.Fractions.{limit};
-ghost use Rattle.kf_hyper.specs.Averages.{scaled, joint_weight};
-ghost use Rattle.kf_hyper.specs.Columns.{total};
+ghost use Rattle.kf_column.specs.Averages.{scaled, joint_weight};
+ghost use Rattle.kf_column.specs.Columns.{total};
 ghost use Rattle.kf_hyper.specs.Sums.{summed, ArePositive, Gains};
 ghost use Rattle.kf_hyper.specs.Views.{inners_of, inner_at, scale_of};
 ghost use Rattle.kf_refine.specs.Views.{hyper_tree};

@@ -2,7 +2,7 @@
 
 ghost use Rattle.std.specs.Prelude.{◌≡◌, ◌+◌, ◌*◌, ◌<◌, ◌^◌, IfOk, OnOk};
 ghost use Rattle.kf_cert.specs.Cells.{AreAscending};
-ghost use Rattle.kf_hyper.specs.Columns.{weight_at, total};
+ghost use Rattle.kf_column.specs.Columns.{weight_at, total};
 ghost use Rattle.kf_hyper.specs.Sums.{summed, ArePositive, Gains, weight_alone};
 
 use kf_hyper::Entry;

@@ -1,9 +1,9 @@
 ghost use Rattle.std.specs.Prelude.{◌≡◌, All, IfOk};
 ghost use Rattle.kf_value.specs.Numbers.{target_size};
 ghost use Rattle.kf_value.specs.Views.{items_of};
-ghost use Rattle.kf_hyper.specs.Shapes.{IsBelow};
-ghost use Rattle.kf_hyper.specs.Joint.{mass};
-ghost use Rattle.kf_hyper.specs.Hypers.{IsHyper};
+ghost use Rattle.kf_column.specs.Shapes.{IsBelow};
+ghost use Rattle.kf_column.specs.Joint.{mass};
+ghost use Rattle.kf_column.specs.Hypers.{IsHyper};
 ghost use Rattle.kf_hyper.specs.Views.{inners_of, scale_of, target_of};
 
 use super::Hyper;

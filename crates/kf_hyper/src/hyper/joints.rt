@@ -1,8 +1,8 @@
 ghost use Rattle.std.specs.Prelude.{◌≡◌, ◌<◌, ℕ, IfOk, length};
 ghost use Rattle.kf_value.specs.Numbers.{target_size};
-ghost use Rattle.kf_hyper.specs.Columns.{weight_at, total};
-ghost use Rattle.kf_hyper.specs.Averages.{joint_weight, average_weight};
-ghost use Rattle.kf_hyper.specs.Shapes.{IsBelow};
+ghost use Rattle.kf_column.specs.Columns.{weight_at, total};
+ghost use Rattle.kf_column.specs.Averages.{joint_weight, average_weight};
+ghost use Rattle.kf_column.specs.Shapes.{IsBelow};
 ghost use Rattle.kf_hyper.specs.Views.{inners_of, inner_at, scale_of, target_of};
 
 use super::Hyper;

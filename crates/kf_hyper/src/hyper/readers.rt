@@ -3,9 +3,9 @@ ghost use Rattle.kf_frac.specs.Fractions.{reduced_num, reduced_den};
 ghost use Rattle.kf_frac.specs.Views.{num_of, den_of};
 ghost use Rattle.kf_value.specs.Numbers.{target_size};
 ghost use Rattle.kf_value.specs.Views.{items_of};
-ghost use Rattle.kf_hyper.specs.Columns.{total};
+ghost use Rattle.kf_column.specs.Columns.{total};
 ghost use Rattle.kf_hyper.specs.Views.{entry_at, inners_of, inner_at, scale_of, target_of};
-ghost use Rattle.kf_hyper.specs.Shapes.{IsBelow, IsShape};
+ghost use Rattle.kf_column.specs.Shapes.{IsBelow, IsShape};
 
 use super::Hyper;
 use crate::Column;

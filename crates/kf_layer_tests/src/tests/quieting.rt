@@ -1,6 +1,6 @@
 // Erased columns, worked out by hand.
 ghost use Rattle.std.specs.Prelude.{◌≡◌};
-ghost use Rattle.kf_hyper.specs.Columns.{IsColumn};
+ghost use Rattle.kf_column.specs.Columns.{IsColumn};
 
 use crate::tests::*;
 use kf_hyper::{Column, ColumnList, Columns, Entry, EntryList};

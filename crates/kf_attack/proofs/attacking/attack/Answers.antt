@@ -1,6 +1,6 @@
 use Rattle.std.proofs.Common.{List}
 use Rattle.std.proofs.lemmas.Result.{IfOk-weaker}
-use Rattle.kf_hyper.specs.declared.entry.Entry.{Entry}
+use Rattle.kf_column.specs.declared.entry.Entry.{Entry}
 use Rattle.kf_gain.specs.Gains.{Bayes, Tries}
 use Rattle.kf_attack.specs.Inners.{IsShownBest}
 use Rattle.kf_attack.proofs.Taking.{once_shown}

@@ -4,8 +4,8 @@ use Rattle.std.specs.Int.{w128}
 use Rattle.std.proofs.lemmas.Int.{to_z_pos, fits_signed_from_abs}
 use Rattle.kf_frac.specs.Fractions.{limit}
 use Rattle.kf_frac.specs.Parts.{IsFraction}
-use Rattle.kf_hyper.specs.Columns.{total}
-use Rattle.kf_hyper.proofs.Scaling.{total_positive}
+use Rattle.kf_column.specs.Columns.{total}
+use Rattle.kf_column.proofs.Scaling.{total_positive}
 use Rattle.kf_attack.specs.Inners.{cost_of}
 use Rattle.kf_attack.proofs.Taking.{same_total, cost_fits, in_turn_shown, total_fits}
 use Rattle.kf_attack.proofs.guesses.in_turn.Goals as goal

@@ -1,7 +1,7 @@
 use Rattle.std.proofs.Common.{◌∙◌, pos, ap, arith}
 use Rattle.kf_frac.specs.Parts.{IsFraction}
-use Rattle.kf_hyper.specs.Columns.{total}
-use Rattle.kf_hyper.proofs.Scaling.{total_positive}
+use Rattle.kf_column.specs.Columns.{total}
+use Rattle.kf_column.proofs.Scaling.{total_positive}
 use Rattle.kf_attack.proofs.Taking.{front_within, likeliest_shown}
 use Rattle.kf_attack.proofs.guesses.likeliest.Goals as goal
 

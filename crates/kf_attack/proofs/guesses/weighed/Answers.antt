@@ -1,6 +1,6 @@
 use Rattle.std.proofs.Common.{rules, ◌≡◌, ◌+◌, List, ◌++◌, ◌∷◌, [], refl, sym, subst, take, get_or}
 use Rattle.std.specs.List.{AllZip}
-use Rattle.kf_hyper.specs.declared.entry.Entry.{Entry}
+use Rattle.kf_column.specs.declared.entry.Entry.{Entry}
 use Rattle.kf_attack.specs.declared.attack.WeighedValue.{WeighedValue}
 use Rattle.kf_attack.specs.Views.{ShowsValue}
 use Rattle.kf_attack.proofs.Zips.{zip_next}

@@ -3,7 +3,7 @@ use Rattle.std.specs.Prelude.{IsPermutation}
 use Rattle.std.specs.List.Sorted.{IsSorted}
 use Rattle.std.specs.Ordering.{is_lt}
 use Rattle.std.proofs.lemmas.List.Sorted.{answers_always, ranks_by}
-use Rattle.kf_hyper.specs.declared.entry.Entry.{Entry}
+use Rattle.kf_column.specs.declared.entry.Entry.{Entry}
 use Rattle.kf_attack.specs.Attacks.{rank}
 use Rattle.kf_attack.proofs.Ranks.{rank_total, strictly_ranked}
 use Rattle.kf_attack.proofs.ranking.ranked.Goals as goal

@@ -1,7 +1,7 @@
 use Rattle.std.proofs.Common.{ℕ, ◌<◌, ◌≤◌, List, [], sym, ◌∙◌, subst, arith, length}
 use Rattle.std.proofs.lemmas.List.{drop_all}
-use Rattle.kf_hyper.specs.declared.entry.Entry.{Entry}
-use Rattle.kf_hyper.specs.Hypers.{Inner}
+use Rattle.kf_column.specs.declared.entry.Entry.{Entry}
+use Rattle.kf_column.specs.Hypers.{Inner}
 use Rattle.kf_hyper.specs.Views.{inner_at, inners_of, scale_of}
 use Rattle.kf_attack.specs.Attacks.{AreRanked}
 use Rattle.kf_attack.proofs.Inners.{Gathers, gathers_none, gathers_next, adds_fit, all_gathered}

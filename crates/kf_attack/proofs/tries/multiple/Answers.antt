@@ -1,6 +1,6 @@
 use Rattle.std.proofs.Common.{List, [], ap, arith}
-use Rattle.kf_hyper.specs.Columns.{total}
-use Rattle.kf_hyper.specs.Hypers.{Inner}
+use Rattle.kf_column.specs.Columns.{total}
+use Rattle.kf_column.specs.Hypers.{Inner}
 use Rattle.kf_hyper.specs.Views.{inners_of, scale_of}
 use Rattle.kf_gain.specs.Gains.{Bayes}
 use Rattle.kf_gain.proofs.Turning.{inner_within, some_total}

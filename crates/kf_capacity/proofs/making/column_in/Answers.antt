@@ -1,6 +1,6 @@
 use Rattle.std.proofs.Common.{◌≡◌, ℕ, List, [], ◌∙◌, ◌*◌, ◌/◌, unsigned_abs, get_or, arith}
 use Rattle.kf_frac.specs.Fractions.{parts_of}
-use Rattle.kf_hyper.specs.Traces.{Row}
+use Rattle.kf_column.specs.Traces.{Row}
 use Rattle.kf_channel.specs.Views.{row_at, secrets_of}
 use Rattle.kf_capacity.specs.Grids.{cell}
 use Rattle.kf_capacity.specs.Views.{channel_tree}

@@ -1,5 +1,5 @@
 use Rattle.std.proofs.Common.{ℕ, List, [], ◌∙◌, arith}
-use Rattle.kf_hyper.specs.Traces.{Row}
+use Rattle.kf_column.specs.Traces.{Row}
 use Rattle.kf_channel.specs.Views.{rows_of}
 use Rattle.kf_capacity.specs.Grids.{column_in}
 use Rattle.kf_capacity.specs.Views.{channel_tree}

@@ -2,7 +2,7 @@ use Rattle.std.proofs.Common.{◌≤◌, ◌+◌, [], drop, sym, ◌∙◌, ap, 
 use Rattle.kf_channel.specs.Views.{rows_of}
 use Rattle.kf_frac.specs.Fractions.{limit}
 use Rattle.kf_frac.specs.Laws.{multiple_from}
-use Rattle.kf_hyper.specs.Traces.{Row}
+use Rattle.kf_column.specs.Traces.{Row}
 use Rattle.kf_capacity.specs.Dens.{dens}
 use Rattle.kf_capacity.specs.Views.{channel_tree}
 use Rattle.kf_capacity.proofs.Channels.{channel_weighs}

@@ -1,7 +1,7 @@
 use Rattle.std.proofs.Common.{rules, map, ◌∙◌}
 use Rattle.std.proofs.lemmas.Fn.{always_returns_same}
 use Rattle.kf_value.specs.Views.{value_tree, value_trees}
-use Rattle.kf_hyper.specs.Traces.{trace_order}
+use Rattle.kf_column.specs.Traces.{trace_order}
 use Rattle.kf_capacity.proofs.Named.{searched_place}
 use Rattle.kf_capacity.proofs.places.place_of.Goals as goal
 

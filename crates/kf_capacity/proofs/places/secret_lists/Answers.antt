@@ -8,7 +8,7 @@ use Rattle.kf_value.specs.Targets.{target_values}
 use Rattle.kf_value.specs.TypeViews.{item_of}
 use Rattle.kf_value.specs.Views.{value_trees}
 use Rattle.kf_value.proofs.ListLemmas.{left_step, left_end}
-use Rattle.kf_hyper.specs.Traces.{trace_order}
+use Rattle.kf_column.specs.Traces.{trace_order}
 use Rattle.kf_channel.specs.Views.{target_of, secrets_of}
 use Rattle.kf_capacity.specs.Compositions.{secret_values}
 use Rattle.kf_capacity.specs.Views.{channel_tree}

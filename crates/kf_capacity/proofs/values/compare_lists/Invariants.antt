@@ -1,6 +1,6 @@
 use Rattle.std.proofs.Common.{◌≡◌, map, drop}
 use Rattle.kf_value.specs.Views.{value_tree}
-use Rattle.kf_hyper.specs.Traces.{trace_order}
+use Rattle.kf_column.specs.Traces.{trace_order}
 use Rattle.kf_capacity.proofs.values.compare_lists.Given as goal
 
 -- comparing what is left gives the answer

@@ -3,7 +3,7 @@ use Rattle.std.specs.Int.{w128}
 use Rattle.std.specs.Prelude.{FitsSigned}
 use Rattle.std.proofs.lemmas.Int.{to_z-of_z}
 use Rattle.std.proofs.lemmas.List.Sorted.{answers_always}
-use Rattle.kf_hyper.proofs.Gathering.{nat_equal}
+use Rattle.kf_column.proofs.Gathering.{nat_equal}
 use Rattle.kf_hyper.proofs.Rising.{searchable_by}
 use Rattle.kf_gain.specs.declared.table.GainEntry.{GainEntry}
 use Rattle.kf_gain.proofs.Finding.{gain_found, missed}

@@ -1,6 +1,6 @@
 use Rattle.std.proofs.Common.{◌≡◌, ◌≤◌, ◌*◌, map, take, drop, max}
 use Rattle.std.specs.Prelude.{◌+ℤ◌, unsigned_abs}
-use Rattle.kf_hyper.specs.Columns.{total}
+use Rattle.kf_column.specs.Columns.{total}
 use Rattle.kf_gain.specs.Vulnerabilities.{greatest}
 use Rattle.kf_gain.specs.Worth.{gained}
 use Rattle.kf_gain.proofs.actions.gained.Given as goal

@@ -1,8 +1,8 @@
 use Rattle.std.proofs.Common.{◌≡◌, ℕ, ◌*◌, ◌≤◌, List, ap, sym, ◌∙◌, subst, arith, map, pos, length}
 use Rattle.std.specs.Prelude.{IsPermutation}
-use Rattle.kf_hyper.specs.declared.entry.Entry.{Entry}
-use Rattle.kf_hyper.specs.Columns.{total, weight_at, values}
-use Rattle.kf_hyper.proofs.Weights.{above_column}
+use Rattle.kf_column.specs.declared.entry.Entry.{Entry}
+use Rattle.kf_column.specs.Columns.{total, weight_at, values}
+use Rattle.kf_column.proofs.Weights.{above_column}
 use Rattle.kf_gain.specs.Gains.{Guessing}
 use Rattle.kf_gain.specs.Worth.{IsVulnerability}
 use Rattle.kf_gain.proofs.Falling.{all, falls, costs}

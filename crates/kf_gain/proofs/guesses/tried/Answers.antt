@@ -1,8 +1,8 @@
 use Rattle.std.proofs.Common.{◌≡◌, ℕ, List, ap, sym, ◌∙◌, subst, arith, map, pos}
 use Rattle.std.proofs.lemmas.List.Sorted.{sum_by-IsPermutation}
-use Rattle.kf_hyper.specs.declared.entry.Entry.{Entry}
-use Rattle.kf_hyper.specs.Columns.{total}
-use Rattle.kf_hyper.proofs.Weights.{above_column}
+use Rattle.kf_column.specs.declared.entry.Entry.{Entry}
+use Rattle.kf_column.specs.Columns.{total}
+use Rattle.kf_column.proofs.Weights.{above_column}
 use Rattle.kf_hyper.proofs.Averaging.{sum-mapped}
 use Rattle.kf_gain.specs.Gains.{Tries}
 use Rattle.kf_gain.specs.Worth.{IsVulnerability}

@@ -1,7 +1,7 @@
 use Rattle.std.proofs.Common.{rules, ◌≡◌, ◌<◌, ◌∙◌, ap, subst, sym, arith, Vec, Global}
 use borrow.Author.Tests.{tests}
 use Rattle.std.proofs.lemmas.List.Sorted.{IsNonDecreasingBy-from_sort_by_key, sum_by-IsPermutation, All-permutation}
-use Rattle.kf_hyper.specs.declared.entry.Entry.{Entry}
+use Rattle.kf_column.specs.declared.entry.Entry.{Entry}
 use Rattle.kf_hyper.specs.Sums.{Gathers}
 use Rattle.kf_hyper.proofs.Neighbours.{gathers_sorted}
 use Rattle.kf_hyper.proofs.adding.gathered.Goals as goal

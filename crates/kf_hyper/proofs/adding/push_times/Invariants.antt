@@ -1,5 +1,5 @@
 use Rattle.std.proofs.Common.{◌≡◌, ◌++◌, map, take}
-use Rattle.kf_hyper.specs.Averages.{scaled}
+use Rattle.kf_column.specs.Averages.{scaled}
 use Rattle.kf_hyper.proofs.adding.push_times.Given as goal
 
 abbrev pub invariant-loop-entry : goal.invariant-loop-entry

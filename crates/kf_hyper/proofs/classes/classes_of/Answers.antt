@@ -2,7 +2,7 @@ use Rattle.std.proofs.Common.{rules, arith}
 use Rattle.std.proofs.lemmas.List.MinMax.{ranks_by}
 use Rattle.std.proofs.lemmas.List.Sorted.{answers_always}
 use Rattle.kf_hyper.specs.declared.class.Class.{Class}
-use Rattle.kf_hyper.proofs.Gathering.{list_total}
+use Rattle.kf_column.proofs.Gathering.{list_total}
 use Rattle.kf_hyper.proofs.Joining.{before, classes_permuted, totals_sum}
 use Rattle.kf_hyper.proofs.classes.classes_of.Goals as goal
 

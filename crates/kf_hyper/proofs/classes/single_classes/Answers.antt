@@ -1,6 +1,6 @@
 use Rattle.std.proofs.Common.{◌++◌, ◌∷◌, [], ◌∙◌, ap, sym, append_assoc}
 use Rattle.std.specs.Vec.Iter.{into_iter_items}
-use Rattle.kf_hyper.proofs.Steps.{classes_pushed}
+use Rattle.kf_hyper.proofs.Made.{classes_pushed}
 use Rattle.kf_hyper.proofs.classes.single_classes.Goals as goal
 
 pub loop-column-preserved : goal.loop-column-preserved

@@ -1,6 +1,7 @@
 use Rattle.std.proofs.Common.{◌≡◌, ◌++◌, map}
 use Rattle.std.specs.Vec.Iter.{into_iter_items}
-use Rattle.kf_hyper.specs.Classes.{ClassesOf, class_of}
+use Rattle.kf_column.specs.Classes.{ClassesOf}
+use Rattle.kf_hyper.specs.ClassViews.{class_of}
 use Rattle.kf_hyper.proofs.classes.single_classes.Given as goal
 
 abbrev pub invariant-loop-column : goal.invariant-loop-column

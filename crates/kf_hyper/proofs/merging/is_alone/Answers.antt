@@ -1,6 +1,6 @@
 use Rattle.std.proofs.Common.{subst, arith}
-use Rattle.kf_hyper.specs.Columns.{IsColumn}
-use Rattle.kf_hyper.proofs.Beliefs.{merged_empty, merged_alone}
+use Rattle.kf_column.specs.Columns.{IsColumn}
+use Rattle.kf_column.proofs.Beliefs.{merged_empty, merged_alone}
 use Rattle.kf_hyper.proofs.merging.is_alone.Goals as goal
 
 pub returns-in-empty : goal.returns-in-empty

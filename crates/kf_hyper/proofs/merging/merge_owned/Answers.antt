@@ -1,11 +1,11 @@
 use Rattle.std.proofs.Common.{◌≡◌, ◌∙◌, ap, subst, map, List}
 use Rattle.kf_hyper.specs.declared.column.Column.{Column}
-use Rattle.kf_hyper.specs.Classes.{class_of}
-use Rattle.kf_hyper.specs.Joint.{Joint}
-use Rattle.kf_hyper.specs.Merged.{AreMerged}
-use Rattle.kf_hyper.proofs.Beliefs.{merged_made, joint_made}
-use Rattle.kf_hyper.proofs.ClassSums.{all_whole}
-use Rattle.kf_hyper.proofs.Ordered.{ordered}
+use Rattle.kf_hyper.specs.ClassViews.{class_of}
+use Rattle.kf_column.specs.Joint.{Joint}
+use Rattle.kf_column.specs.Merged.{AreMerged}
+use Rattle.kf_hyper.proofs.Made.{merged_made, joint_made}
+use Rattle.kf_column.proofs.ClassSums.{all_whole}
+use Rattle.kf_column.proofs.Ordered.{ordered}
 use Rattle.kf_hyper.proofs.merging.merge_owned.Goals as goal
 
 pub returns-then-is_alone-clause-merged : goal.returns-then-is_alone-clause-merged

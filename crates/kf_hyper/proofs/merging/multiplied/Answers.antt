@@ -1,13 +1,12 @@
 use Rattle.std.proofs.Common.{◌≡◌, ℕ, ◌*◌, ◌/◌, ◌<◌, ◌∙◌, map, ap, sym, subst, arith, length, set}
 use Rattle.std.proofs.Math.Nat.{mul_comm}
 use Rattle.kf_hyper.specs.declared.class.Class.{Class}
-use Rattle.kf_hyper.specs.declared.entry.Entry.{Entry}
-use Rattle.kf_hyper.specs.Averages.{scaled, joint_column}
-use Rattle.kf_hyper.specs.Columns.{IsColumn}
-use Rattle.kf_hyper.specs.Shapes.{inner_of}
-use Rattle.kf_hyper.specs.Classes.{class_of}
-use Rattle.kf_hyper.proofs.ClassSums.{class_column}
-use Rattle.kf_hyper.proofs.Scaling.{scaled_one}
+use Rattle.kf_column.specs.declared.entry.Entry.{Entry}
+use Rattle.kf_column.specs.Averages.{scaled, joint_column}
+use Rattle.kf_column.specs.Columns.{IsColumn}
+use Rattle.kf_hyper.specs.ClassViews.{inner_of, class_of}
+use Rattle.kf_column.proofs.ClassSums.{class_column}
+use Rattle.kf_column.proofs.Scaling.{scaled_one}
 use Rattle.kf_hyper.proofs.InPlace.{mapped_more, mapped_all}
 use Rattle.kf_hyper.proofs.merging.multiplied.Goals as goal
 

@@ -1,5 +1,5 @@
 use Rattle.std.proofs.Common.{◌≡◌}
-use Rattle.kf_hyper.specs.Averages.{scaled}
+use Rattle.kf_column.specs.Averages.{scaled}
 use Rattle.kf_hyper.proofs.InPlace.{part_mapped}
 use Rattle.kf_hyper.proofs.merging.multiplied.Given as goal
 

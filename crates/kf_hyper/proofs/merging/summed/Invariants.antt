@@ -1,8 +1,8 @@
 use Rattle.std.proofs.Common.{◌≡◌, ◌++◌, All, map}
 use Rattle.std.specs.Vec.Iter.{into_iter_items}
-use Rattle.kf_hyper.specs.Averages.{joint_column}
-use Rattle.kf_hyper.specs.Shapes.{inner_of}
-use Rattle.kf_hyper.specs.Classes.{IsWhole, class_of}
+use Rattle.kf_column.specs.Averages.{joint_column}
+use Rattle.kf_hyper.specs.ClassViews.{inner_of, class_of}
+use Rattle.kf_column.specs.Classes.{IsWhole}
 use Rattle.kf_hyper.proofs.merging.summed.Given as goal
 
 abbrev pub invariant-loop-class : goal.invariant-loop-class

@@ -4,10 +4,10 @@ use Rattle.std.proofs.lemmas.List.Sums.{get_or-le-sum_by, sum_by-take-le}
 use Rattle.kf_frac.specs.Fractions.{limit}
 use Rattle.kf_value.specs.Types.{product}
 use Rattle.kf_value.specs.Shapes.{shape_sizes, shape_size}
-use Rattle.kf_hyper.specs.Columns.{weight_at, total}
-use Rattle.kf_hyper.specs.Shapes.{IsBelow}
-use Rattle.kf_hyper.specs.Joint.{mass}
-use Rattle.kf_hyper.specs.Projection.{at_places, projected, weight_through}
+use Rattle.kf_column.specs.Columns.{weight_at, total}
+use Rattle.kf_column.specs.Shapes.{IsBelow}
+use Rattle.kf_column.specs.Joint.{mass}
+use Rattle.kf_column.specs.Projection.{at_places, projected, weight_through}
 use Rattle.kf_hyper.proofs.OneMore.{mapped_push, mass_push}
 use Rattle.kf_hyper.proofs.projection.project.Goals as goal
 

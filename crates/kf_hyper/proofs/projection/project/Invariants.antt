@@ -1,10 +1,10 @@
 use Rattle.std.proofs.Common.{◌≡◌, All, map, take}
 use Rattle.kf_value.specs.Types.{product}
 use Rattle.kf_value.specs.Shapes.{shape_sizes}
-use Rattle.kf_hyper.specs.Columns.{weight_at}
-use Rattle.kf_hyper.specs.Shapes.{IsBelow}
-use Rattle.kf_hyper.specs.Joint.{mass}
-use Rattle.kf_hyper.specs.Projection.{at_places, projected, weight_through}
+use Rattle.kf_column.specs.Columns.{weight_at}
+use Rattle.kf_column.specs.Shapes.{IsBelow}
+use Rattle.kf_column.specs.Joint.{mass}
+use Rattle.kf_column.specs.Projection.{at_places, projected, weight_through}
 use Rattle.kf_hyper.proofs.projection.project.Given as goal
 
 abbrev pub invariant-loop-column : goal.invariant-loop-column

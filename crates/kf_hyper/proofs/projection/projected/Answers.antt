@@ -2,7 +2,7 @@ use Rattle.std.proofs.Common.{◌≡◌, ℕ, ◌+◌, ◌*◌, ◌<◌, ap, sym
 use Rattle.std.proofs.lemmas.List.{length-map, get_or_default}
 use Rattle.kf_value.specs.Numbers.{digits}
 use Rattle.kf_value.specs.Shapes.{shape_sizes}
-use Rattle.kf_hyper.specs.Projection.{projected}
+use Rattle.kf_column.specs.Projection.{projected}
 use Rattle.kf_hyper.proofs.Projecting.{number_more, number_room, number_below, first_product}
 use Rattle.kf_hyper.proofs.projection.projected.Goals as goal
 

@@ -1,7 +1,7 @@
 use Rattle.std.proofs.Common.{◌≡◌, ◌<◌, take}
 use Rattle.kf_value.specs.Types.{product}
 use Rattle.kf_value.specs.Shapes.{shape_sizes}
-use Rattle.kf_hyper.specs.Projection.{at_places, projected}
+use Rattle.kf_column.specs.Projection.{at_places, projected}
 use Rattle.kf_hyper.proofs.projection.projected.Given as goal
 
 abbrev pub invariant-loop-slot : goal.invariant-loop-slot

@@ -1,11 +1,11 @@
 use Rattle.std.proofs.Common.{ℕ, ◌==◌, List, ◌∙◌, ap, subst, sym, arith}
 use Rattle.kf_value.specs.Shapes.{shape_sizes}
-use Rattle.kf_hyper.specs.declared.entry.Entry.{Entry}
-use Rattle.kf_hyper.specs.Columns.{IsColumn, total, weight_at}
-use Rattle.kf_hyper.specs.Projection.{projected}
+use Rattle.kf_column.specs.declared.entry.Entry.{Entry}
+use Rattle.kf_column.specs.Columns.{IsColumn, total, weight_at}
+use Rattle.kf_column.specs.Projection.{projected}
 use Rattle.kf_hyper.specs.Sums.{ArePositive}
 use Rattle.kf_hyper.proofs.Moving.{all_moved, moved_total, moved_positive, moved_weights}
-use Rattle.kf_hyper.proofs.Scaling.{total_positive}
+use Rattle.kf_column.proofs.Scaling.{total_positive}
 use Rattle.kf_hyper.proofs.projection.projected_column.Goals as goal
 
 pub gathered-requires-clause-some : goal.gathered-requires-clause-some

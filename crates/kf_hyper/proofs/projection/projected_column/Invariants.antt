@@ -1,8 +1,8 @@
 use Rattle.std.proofs.Common.{◌≡◌, map, take}
 use Rattle.kf_value.specs.Types.{product}
 use Rattle.kf_value.specs.Shapes.{shape_sizes}
-use Rattle.kf_hyper.specs.Shapes.{IsBelow}
-use Rattle.kf_hyper.specs.Projection.{at_places, projected}
+use Rattle.kf_column.specs.Shapes.{IsBelow}
+use Rattle.kf_column.specs.Projection.{at_places, projected}
 use Rattle.kf_hyper.proofs.Moving.{moved}
 use Rattle.kf_hyper.proofs.projection.projected_column.Given as goal
 

@@ -1,6 +1,6 @@
 use Rattle.std.proofs.Common.{◌∙◌}
 use Rattle.kf_frac.proofs.CommonDivisors.{gcd_swap}
-use Rattle.kf_hyper.proofs.Factors.{factor_none, factor_more, factor_all, factor_one}
+use Rattle.kf_column.proofs.Factors.{factor_none, factor_more, factor_all, factor_one}
 use Rattle.kf_hyper.proofs.reducing.common_factor.Goals as goal
 
 pub loop-entry-init : goal.loop-entry-init

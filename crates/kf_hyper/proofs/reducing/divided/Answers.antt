@@ -1,6 +1,6 @@
 use Rattle.std.proofs.Common.{ℕ, ◌<◌, ◌∙◌, ap, arith, length, set}
-use Rattle.kf_hyper.specs.declared.entry.Entry.{Entry}
-use Rattle.kf_hyper.proofs.Factors.{quotient, some_factor, reduced_is, multiplied}
+use Rattle.kf_column.specs.declared.entry.Entry.{Entry}
+use Rattle.kf_column.proofs.Factors.{quotient, some_factor, reduced_is, multiplied}
 use Rattle.kf_hyper.proofs.InPlace.{mapped_more, mapped_all}
 use Rattle.kf_hyper.proofs.reducing.divided.Goals as goal
 

@@ -1,5 +1,5 @@
 use Rattle.std.proofs.Common.{◌≡◌}
-use Rattle.kf_hyper.proofs.Factors.{quotient}
+use Rattle.kf_column.proofs.Factors.{quotient}
 use Rattle.kf_hyper.proofs.InPlace.{part_mapped}
 use Rattle.kf_hyper.proofs.reducing.divided.Given as goal
 

@@ -1,11 +1,11 @@
 use Rattle.std.proofs.Common.{◌≡◌, ◌<◌, ◌/◌, ◌∙◌, ℕ, List, map, ap, subst}
 use Rattle.std.proofs.Math.Nat.{mul-div_cancel_left}
-use Rattle.kf_hyper.specs.Columns.{total, IsColumn}
-use Rattle.kf_hyper.specs.declared.entry.Entry.{Entry}
-use Rattle.kf_hyper.specs.Averages.{scaled}
-use Rattle.kf_hyper.specs.Classes.{IsCommonFactor}
-use Rattle.kf_hyper.proofs.Factors.{some_factor, already_reduced}
-use Rattle.kf_hyper.proofs.Scaling.{total-scaled}
+use Rattle.kf_column.specs.Columns.{total, IsColumn}
+use Rattle.kf_column.specs.declared.entry.Entry.{Entry}
+use Rattle.kf_column.specs.Averages.{scaled}
+use Rattle.kf_column.specs.Classes.{IsCommonFactor}
+use Rattle.kf_column.proofs.Factors.{some_factor, already_reduced}
+use Rattle.kf_column.proofs.Scaling.{total-scaled}
 use Rattle.kf_hyper.proofs.reducing.reduced.Goals as goal
 
 pub returns-then-factor-eq1-clause-inner : goal.returns-then-factor-eq1-clause-inner

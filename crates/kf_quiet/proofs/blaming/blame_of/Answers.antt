@@ -1,6 +1,6 @@
 use Rattle.std.proofs.Common.{◌≡◌, ℤ, List, [], ◌∷◌, ◌++◌, ap, length, subst, sym, ◌∙◌, arith, suc, ◌+◌, refl}
 use Rattle.std.proofs.lemmas.List.{length-map}
-use Rattle.kf_hyper.specs.Hypers.{Inner}
+use Rattle.kf_column.specs.Hypers.{Inner}
 use Rattle.kf_hyper.specs.Views.{inners_of}
 use Rattle.kf_frac.specs.Parts.{IsFraction}
 use Rattle.kf_core.specs.Programs.{ProgramTree}

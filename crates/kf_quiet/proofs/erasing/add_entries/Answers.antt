@@ -1,6 +1,6 @@
 use Rattle.std.proofs.Common.{◌^◌, ◌∙◌, ◌==◌, ap, arith, get_or, unwrap_or, if◌then◌else◌}
 use Rattle.std.proofs.lemmas.List.Sums.{sum_by_more, sum_by_more_le}
-use Rattle.kf_hyper.specs.declared.entry.Entry.{Entry}
+use Rattle.kf_column.specs.declared.entry.Entry.{Entry}
 use Rattle.kf_hyper.proofs.Summing.{before_fits, gains, stays_positive, stays_below}
 use Rattle.kf_quiet.proofs.erasing.add_entries.Goals as goal
 

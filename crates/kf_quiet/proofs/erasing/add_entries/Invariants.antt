@@ -1,6 +1,6 @@
 use Rattle.std.proofs.Common.{ℕ, take}
-use Rattle.kf_hyper.specs.Columns.{weight_at, total}
-use Rattle.kf_hyper.specs.Shapes.{IsBelow}
+use Rattle.kf_column.specs.Columns.{weight_at, total}
+use Rattle.kf_column.specs.Shapes.{IsBelow}
 use Rattle.kf_hyper.specs.Sums.{summed, ArePositive, Gains}
 use Rattle.kf_quiet.proofs.erasing.add_entries.Given as goal
 

@@ -1,7 +1,7 @@
 use Rattle.std.proofs.Common.{All, ap, sym, subst, ◌∙◌}
 use Rattle.kf_value.specs.Numbers.{target_size}
 use Rattle.kf_core.specs.Views.{program_tree}
-use Rattle.kf_hyper.specs.Shapes.{IsBelow}
+use Rattle.kf_column.specs.Shapes.{IsBelow}
 use Rattle.kf_hyper.specs.Views.{inners_of}
 use Rattle.kf_quiet.proofs.AboutTarget.{is_finished}
 use Rattle.kf_core.proofs.Numbering.{slots_within, slots_distinct, target_size_is}

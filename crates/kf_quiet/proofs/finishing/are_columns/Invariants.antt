@@ -1,5 +1,5 @@
 use Rattle.std.specs.List.{AllWithin}
-use Rattle.kf_hyper.specs.Columns.{IsColumn}
+use Rattle.kf_column.specs.Columns.{IsColumn}
 use Rattle.kf_quiet.proofs.finishing.are_columns.Given as goal
 
 abbrev pub invariant-loop-column : goal.invariant-loop-column

@@ -1,6 +1,6 @@
 use Rattle.std.proofs.Common.{◌≡◌, All, take}
-use Rattle.kf_hyper.specs.Joint.{mass}
-use Rattle.kf_hyper.specs.Shapes.{IsBelow}
+use Rattle.kf_column.specs.Joint.{mass}
+use Rattle.kf_column.specs.Shapes.{IsBelow}
 use Rattle.kf_core.specs.Pushing.{AreBehind}
 use Rattle.kf_quiet.specs.Meanings.{runs_between, store_count}
 use Rattle.kf_quiet.specs.Quiet.{hushed}

@@ -1,8 +1,8 @@
 use Rattle.std.proofs.Common.{◌≡◌, List, [], ◌∷◌, ap, subst, ◌∙◌, arith}
-use Rattle.kf_hyper.specs.declared.entry.Entry.{Entry}
-use Rattle.kf_hyper.specs.Columns.{IsColumn}
-use Rattle.kf_hyper.specs.Joint.{Joint, mass}
-use Rattle.kf_hyper.proofs.Scaling.{total_positive}
+use Rattle.kf_column.specs.declared.entry.Entry.{Entry}
+use Rattle.kf_column.specs.Columns.{IsColumn}
+use Rattle.kf_column.specs.Joint.{Joint, mass}
+use Rattle.kf_column.proofs.Scaling.{total_positive}
 use Rattle.kf_core.specs.Ready.{IsPushed}
 use Rattle.kf_quiet.specs.Meanings.{runs_between}
 use Rattle.kf_quiet.proofs.QuietRuns.{sum_behind}

@@ -1,6 +1,6 @@
 use Rattle.std.proofs.Common.{◌≡◌, List, ap, length, subst, sym, ◌∙◌, arith}
 use Rattle.std.proofs.lemmas.List.{length-map}
-use Rattle.kf_hyper.specs.declared.entry.Entry.{Entry}
+use Rattle.kf_column.specs.declared.entry.Entry.{Entry}
 use Rattle.kf_hyper.specs.Views.{inners_of}
 use Rattle.kf_core.specs.Programs.{ProgramTree}
 use Rattle.kf_core.specs.Ready.{IsPushed}

@@ -1,4 +1,4 @@
-use Rattle.kf_hyper.proofs.Factors.{factor_none, factor_more, factor_all}
+use Rattle.kf_column.proofs.Factors.{factor_none, factor_more, factor_all}
 use Rattle.kf_refine.proofs.kept.common_factor.Goals as goal
 
 pub loop-entry-init : goal.loop-entry-init

@@ -1,5 +1,5 @@
 use Rattle.std.proofs.Common.{take}
-use Rattle.kf_hyper.specs.Classes.{IsCommonFactor}
+use Rattle.kf_column.specs.Classes.{IsCommonFactor}
 use Rattle.kf_refine.proofs.kept.common_factor.Given as goal
 
 abbrev pub invariant-loop-entry : goal.invariant-loop-entry

@@ -1,6 +1,6 @@
 use Rattle.std.proofs.Common.{◌∙◌, ap, map}
 use Rattle.std.proofs.lemmas.List.{take_all}
-use Rattle.kf_hyper.proofs.Factors.{quotient, some_factor, reduced_is}
+use Rattle.kf_column.proofs.Factors.{quotient, some_factor, reduced_is}
 use Rattle.kf_refine.proofs.kept.reduced.Goals as goal
 
 pub nonzero_div-entry : goal.nonzero_div-entry

@@ -1,5 +1,5 @@
 use Rattle.std.proofs.Common.{◌≡◌, map, take}
-use Rattle.kf_hyper.proofs.Factors.{quotient}
+use Rattle.kf_column.proofs.Factors.{quotient}
 use Rattle.kf_refine.proofs.kept.reduced.Given as goal
 
 abbrev pub invariant-loop-entry : goal.invariant-loop-entry

@@ -1,6 +1,6 @@
 use Rattle.std.proofs.Common.{◌∙◌, sym, subst}
-use Rattle.kf_hyper.specs.Columns.{IsColumn}
-use Rattle.kf_hyper.specs.Classes.{IsReduced}
+use Rattle.kf_column.specs.Columns.{IsColumn}
+use Rattle.kf_column.specs.Classes.{IsReduced}
 use Rattle.std.specs.Map.{keys_of}
 use Rattle.kf_refine.proofs.Members.{sorted_rises}
 use Rattle.kf_refine.proofs.Walking.{walk_start, walk_end, walk_keeps, walk_drops, row_here, row_found}

@@ -5,7 +5,7 @@ use Rattle.std.proofs.lemmas.List.Elements.{recursion_from_All}
 use Rattle.kf_value.specs.Shapes.{shape_size, shape_types}
 use Rattle.kf_value.specs.Forms.{IsWellFormed}
 use Rattle.kf_value.proofs.ListLemmas.{each_at, left_step, mapped_read}
-use Rattle.kf_hyper.specs.declared.entry.Entry.{Entry}
+use Rattle.kf_column.specs.declared.entry.Entry.{Entry}
 use Rattle.kf_core.specs.Choices.{Weighted}
 use Rattle.kf_eval.specs.Choices.{weighted_items, weighted_tree}
 use Rattle.kf_run.specs.Ways.{along, moves, way_to}

@@ -1,7 +1,7 @@
 use Rattle.std.proofs.Common.{◌≡◌, ◌++◌, [], map, drop}
 use Rattle.std.specs.List.{flat_map}
 use Rattle.kf_value.specs.Shapes.{shape_size, shape_types}
-use Rattle.kf_hyper.specs.Shapes.{IsBelow}
+use Rattle.kf_column.specs.Shapes.{IsBelow}
 use Rattle.kf_eval.specs.Choices.{weighted_items, weighted_tree, weighted_trees}
 use Rattle.kf_run.specs.Ways.{along, moves}
 use Rattle.kf_run.proofs.moving.add_moves.Given as goal

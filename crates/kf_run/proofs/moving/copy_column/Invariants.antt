@@ -1,6 +1,6 @@
 use Rattle.std.proofs.Common.{[], map, take}
 use Rattle.kf_value.specs.Shapes.{shape_size}
-use Rattle.kf_hyper.specs.Shapes.{IsBelow}
+use Rattle.kf_column.specs.Shapes.{IsBelow}
 use Rattle.kf_core.specs.Runs.{copied, stay}
 use Rattle.kf_core.specs.Views.{program_tree}
 use Rattle.kf_run.specs.Ways.{IsShared, along}

@@ -1,6 +1,6 @@
 use Rattle.std.proofs.Common.{◌^◌, [], All, ◌∙◌}
 use Rattle.kf_value.specs.Shapes.{shape_size, shape_types}
-use Rattle.kf_hyper.specs.declared.entry.Entry.{Entry}
+use Rattle.kf_column.specs.declared.entry.Entry.{Entry}
 use Rattle.kf_core.specs.Runs.{assigned, silent}
 use Rattle.kf_core.specs.Views.{dx_tree}
 use Rattle.kf_quiet.specs.Following.{Takes}

@@ -1,7 +1,7 @@
 use Rattle.kf_core.specs.Views.{program_tree}
 use Rattle.kf_core.proofs.Unsquashed.{checked_again}
 use Rattle.kf_support.specs.Cleared.{program_of, turns_of}
-use Rattle.kf_hyper.proofs.Beliefs.{merged_again}
+use Rattle.kf_column.proofs.Beliefs.{merged_again}
 use Rattle.kf_run.proofs.Parts as parts
 use Rattle.kf_run.proofs.pushes.push.Goals as goal
 

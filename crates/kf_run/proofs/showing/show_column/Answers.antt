@@ -2,7 +2,7 @@ use Rattle.std.proofs.Common.{◌<◌, All, ◌∙◌, arith}
 use Rattle.std.proofs.lemmas.List.Elements.{All-from_recursion}
 use Rattle.kf_run.specs.declared.ways.Leak.{Leak}
 use Rattle.kf_value.specs.Shapes.{shape_size, shape_types}
-use Rattle.kf_hyper.specs.declared.entry.Entry.{Entry}
+use Rattle.kf_column.specs.declared.entry.Entry.{Entry}
 use Rattle.kf_core.specs.Views.{dx_tree}
 use Rattle.kf_quiet.specs.Following.{Takes}
 use Rattle.kf_run.specs.Following.{shown_to}

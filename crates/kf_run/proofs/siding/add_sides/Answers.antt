@@ -3,7 +3,7 @@ use Rattle.std.specs.List.{flat_map}
 use Rattle.std.proofs.lemmas.List.{map-append}
 use Rattle.kf_value.specs.Values.{Truth}
 use Rattle.kf_value.proofs.ListLemmas.{left_step, mapped_read}
-use Rattle.kf_hyper.specs.declared.entry.Entry.{Entry}
+use Rattle.kf_column.specs.declared.entry.Entry.{Entry}
 use Rattle.kf_eval.specs.Choices.{weighted_items, weighted_tree}
 use Rattle.kf_run.specs.Ways.{along, sides, way_to}
 use Rattle.kf_run.proofs.Making.{all_pushed, more_made, product_fits}

@@ -1,7 +1,7 @@
 use Rattle.std.proofs.Common.{◌≡◌, ◌<◌, ℕ, ◌++◌, true, false, [], ◌∷◌, map, drop}
 use Rattle.std.specs.List.{flat_map}
 use Rattle.kf_value.specs.Values.{Truth}
-use Rattle.kf_hyper.specs.Shapes.{IsBelow}
+use Rattle.kf_column.specs.Shapes.{IsBelow}
 use Rattle.kf_eval.specs.Choices.{weighted_items, weighted_tree, weighted_trees}
 use Rattle.kf_run.specs.Ways.{along, sides}
 use Rattle.kf_run.proofs.siding.add_sides.Given as goal

@@ -1,5 +1,5 @@
 use Rattle.std.proofs.Common.{List}
-use Rattle.kf_hyper.specs.declared.entry.Entry.{Entry}
+use Rattle.kf_column.specs.declared.entry.Entry.{Entry}
 use Rattle.kf_run.specs.Behind.{Behind}
 use Rattle.kf_run.proofs.Outermost.{Counted}
 use Rattle.kf_run.proofs.stages.trail.Given as goal

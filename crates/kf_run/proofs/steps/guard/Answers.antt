@@ -1,7 +1,7 @@
 use Rattle.std.proofs.Common.{◌≡◌, ℕ, List, All, ◌∙◌}
 use Rattle.kf_value.specs.Shapes.{shape_size, shape_types}
-use Rattle.kf_hyper.specs.declared.entry.Entry.{Entry}
-use Rattle.kf_hyper.specs.Shapes.{IsBelow}
+use Rattle.kf_column.specs.declared.entry.Entry.{Entry}
+use Rattle.kf_column.specs.Shapes.{IsBelow}
 use Rattle.std.proofs.Common.{true, false}
 use Rattle.kf_core.specs.Runs.{Run, tried}
 use Rattle.kf_core.specs.Views.{dx_tree}

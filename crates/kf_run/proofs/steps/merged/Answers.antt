@@ -1,6 +1,6 @@
 use Rattle.std.proofs.Common.{ap, subst, ◌∙◌}
-use Rattle.kf_hyper.specs.Joint.{Joint}
-use Rattle.kf_hyper.specs.Merged.{AreMerged}
+use Rattle.kf_column.specs.Joint.{Joint}
+use Rattle.kf_column.specs.Merged.{AreMerged}
 use Rattle.kf_run.proofs.Spread.{spread_merged}
 use Rattle.kf_run.proofs.steps.merged.Goals as goal
 

@@ -3,7 +3,7 @@ use Rattle.std.proofs.lemmas.List.{drop_all}
 use Rattle.std.specs.List.{enumerate_from}
 use Rattle.kf_value.specs.Numbers.{target_size}
 use Rattle.kf_hyper.specs.Views.{inner_at, inners_of, scale_of, target_of}
-use Rattle.kf_hyper.specs.Hypers.{Inner}
+use Rattle.kf_column.specs.Hypers.{Inner}
 use Rattle.kf_gain.specs.Views.{gain_tree}
 use Rattle.kf_attack.specs.Views.{actions_of}
 use Rattle.kf_attack.specs.declared.attack.Attack.{Attack}

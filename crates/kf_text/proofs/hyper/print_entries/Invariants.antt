@@ -1,7 +1,7 @@
 use Rattle.std.proofs.Common.{◌≡◌, ◌++◌, drop}
 use Rattle.std.specs.Prelude.{IfSome, string_bytes}
 use Rattle.std.specs.List.{flat_map}
-use Rattle.kf_hyper.specs.Columns.{total}
+use Rattle.kf_column.specs.Columns.{total}
 use Rattle.kf_hyper.specs.Views.{inner_at, target_of}
 use Rattle.kf_text.specs.Endings.{line_end}
 use Rattle.kf_text.specs.Texts.{entry_line}

@@ -1,6 +1,6 @@
 use Rattle.std.proofs.Common.{◌-◌, pos, ap, ◌∙◌, []}
 use Rattle.kf_frac.specs.Fractions.{reduced_num, reduced_den}
-use Rattle.kf_hyper.specs.Hypers.{Inner}
+use Rattle.kf_column.specs.Hypers.{Inner}
 use Rattle.kf_hyper.specs.Views.{inner_at, inners_of, scale_of}
 use Rattle.kf_text.proofs.Summaries.{last_at, some_inner}
 use Rattle.kf_text.proofs.made.last_outer.Goals as goal

@@ -3,8 +3,8 @@ use Rattle.kf_value.specs.Shapes.{shape_size, shape_sizes}
 use Rattle.kf_value.specs.Types.{product}
 use Rattle.kf_core.specs.Joint.{target_number}
 use Rattle.kf_core.specs.Views.{program_tree}
-use Rattle.kf_hyper.specs.Projection.{at_places, projected}
-use Rattle.kf_hyper.specs.Shapes.{IsBelow}
+use Rattle.kf_column.specs.Projection.{at_places, projected}
+use Rattle.kf_column.specs.Shapes.{IsBelow}
 use Rattle.kf_core.proofs.Numbering.{slots_within, slots_distinct, target_size_is, target_number_is}
 use Rattle.kf_traces.proofs.Tabling.{stores_positive, stores_some, only_pushed, alone_is_joint, alone_below, about_weights, about_below}
 use Rattle.kf_traces.proofs.columns.column.Goals as goal

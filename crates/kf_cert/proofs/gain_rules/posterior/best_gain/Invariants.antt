@@ -1,6 +1,6 @@
 use Rattle.std.proofs.Common.{◌≡◌, ◌≤◌, ◌+◌, ◌*◌, ℕ, ◌+ℤ◌, unsigned_abs, drop, length}
 use Rattle.kf_frac.specs.Fractions.{limit}
-use Rattle.kf_hyper.specs.Columns.{total}
+use Rattle.kf_column.specs.Columns.{total}
 use Rattle.kf_gain.specs.Views.{table_tree}
 use Rattle.kf_gain.specs.Vulnerabilities.{greatest, gains_of}
 use Rattle.kf_cert.specs.NamedGains.{sum_at, AreBelow, column_excess}

@@ -4,9 +4,9 @@ use Rattle.std.specs.Int.{w128}
 use Rattle.std.proofs.lemmas.Int.{to_z-of_z, fits_signed_from_abs}
 use Rattle.std.proofs.lemmas.List.{drop_all}
 use Rattle.kf_frac.specs.Fractions.{limit}
-use Rattle.kf_hyper.specs.declared.entry.Entry.{Entry}
-use Rattle.kf_hyper.specs.Columns.{total}
-use Rattle.kf_hyper.specs.Hypers.{Inner}
+use Rattle.kf_column.specs.declared.entry.Entry.{Entry}
+use Rattle.kf_column.specs.Columns.{total}
+use Rattle.kf_column.specs.Hypers.{Inner}
 use Rattle.kf_hyper.specs.Views.{inners_of, scale_of}
 use Rattle.kf_gain.specs.Gains.{GainOf, Table, TableTree}
 use Rattle.kf_gain.specs.Worth.{IsVulnerability}

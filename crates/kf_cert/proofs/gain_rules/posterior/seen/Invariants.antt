@@ -1,6 +1,6 @@
 use Rattle.std.proofs.Common.{◌≤◌, ◌*◌, sum_by, take, drop}
 use Rattle.std.specs.Prelude.{ℤ, ◌+ℤ◌, unsigned_abs}
-use Rattle.kf_hyper.specs.Hypers.{Inner}
+use Rattle.kf_column.specs.Hypers.{Inner}
 use Rattle.kf_hyper.specs.Views.{inners_of}
 use Rattle.kf_gain.specs.Gains.{Table}
 use Rattle.kf_gain.specs.Vulnerabilities.{IsPosterior}

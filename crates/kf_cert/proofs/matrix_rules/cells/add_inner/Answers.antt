@@ -1,10 +1,10 @@
 use Rattle.std.proofs.Common.{◌≡◌, ◌+◌, ◌*◌, ◌<◌, ◌^◌, List, [], sym, ◌∙◌, ap, subst, arith, get_or}
-use Rattle.kf_hyper.specs.declared.entry.Entry.{Entry}
-use Rattle.kf_hyper.specs.Columns.{total}
-use Rattle.kf_hyper.specs.Hypers.{Inner}
+use Rattle.kf_column.specs.declared.entry.Entry.{Entry}
+use Rattle.kf_column.specs.Columns.{total}
+use Rattle.kf_column.specs.Hypers.{Inner}
 use Rattle.kf_hyper.specs.Sums.{summed}
 use Rattle.kf_hyper.specs.Views.{inners_of}
-use Rattle.kf_hyper.proofs.Scaling.{product_positive}
+use Rattle.kf_column.proofs.Scaling.{product_positive}
 use Rattle.kf_cert.proofs.Inners.{sum_some, times_some, times_whole}
 use Rattle.kf_cert.proofs.Carrying.{part_fits, all_fits, part_gains}
 use Rattle.kf_cert.proofs.matrix_rules.cells.add_inner.Goals as goal

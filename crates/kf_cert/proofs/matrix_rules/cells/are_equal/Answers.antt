@@ -1,5 +1,5 @@
 use Rattle.std.proofs.Common.{sym, ◌∙◌, true≢false, arith}
-use Rattle.kf_hyper.specs.Averages.{scaled}
+use Rattle.kf_column.specs.Averages.{scaled}
 use Rattle.kf_cert.proofs.Each.{twice_mapped}
 use Rattle.kf_cert.proofs.matrix_rules.cells.are_equal.Goals as goal
 

@@ -1,5 +1,5 @@
 use Rattle.std.proofs.Common.{◌≡◌, map, take}
-use Rattle.kf_hyper.specs.Averages.{scaled}
+use Rattle.kf_column.specs.Averages.{scaled}
 use Rattle.kf_cert.proofs.matrix_rules.cells.are_equal.Given as goal
 
 abbrev pub invariant-loop-k : goal.invariant-loop-k

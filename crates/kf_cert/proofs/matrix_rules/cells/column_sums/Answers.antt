@@ -1,7 +1,7 @@
 use Rattle.std.proofs.Common.{arith, length, get_or}
 use Rattle.std.proofs.lemmas.List.{get_or_default}
 use Rattle.kf_frac.specs.Fractions.{limit}
-use Rattle.kf_hyper.specs.Columns.{total}
+use Rattle.kf_column.specs.Columns.{total}
 use Rattle.kf_hyper.specs.Sums.{summed}
 use Rattle.kf_hyper.specs.Views.{inners_of}
 use Rattle.kf_refine.specs.Views.{hyper_tree}

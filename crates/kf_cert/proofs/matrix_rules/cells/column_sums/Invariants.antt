@@ -1,5 +1,5 @@
 use Rattle.std.proofs.Common.{◌≡◌, ℕ, take}
-use Rattle.kf_hyper.specs.Columns.{weight_at, total}
+use Rattle.kf_column.specs.Columns.{weight_at, total}
 use Rattle.kf_hyper.specs.Sums.{summed, ArePositive}
 use Rattle.kf_refine.specs.Views.{hyper_tree}
 use Rattle.kf_cert.specs.Cells.{share_weight, share_total}

@@ -1,8 +1,8 @@
 use Rattle.std.proofs.Common.{◌≡◌, ◌*◌, ◌^◌, ◌<◌, ℕ, All, arith, List, [], refl, sym, ◌∙◌, ap, subst, get_or}
-use Rattle.kf_hyper.specs.declared.entry.Entry.{Entry}
-use Rattle.kf_hyper.specs.Hypers.{Inner}
+use Rattle.kf_column.specs.declared.entry.Entry.{Entry}
+use Rattle.kf_column.specs.Hypers.{Inner}
 use Rattle.kf_hyper.specs.Views.{inners_of, scale_of}
-use Rattle.kf_hyper.proofs.Scaling.{product_positive}
+use Rattle.kf_column.proofs.Scaling.{product_positive}
 use Rattle.kf_refine.specs.Refinements.{joint}
 use Rattle.kf_refine.specs.Views.{hyper_tree}
 use Rattle.kf_cert.specs.Cells.{column_weight, share_weight, total_at}

@@ -1,6 +1,6 @@
 use Rattle.std.proofs.Common.{[], ap, arith}
-use Rattle.kf_hyper.specs.Columns.{total}
-use Rattle.kf_hyper.specs.Hypers.{Inner}
+use Rattle.kf_column.specs.Columns.{total}
+use Rattle.kf_column.specs.Hypers.{Inner}
 use Rattle.kf_hyper.specs.Views.{inners_of}
 use Rattle.kf_cert.proofs.Inners.{sum_some, sum_narrow}
 use Rattle.kf_cert.proofs.matrix_rules.cells.multiple.Goals as goal

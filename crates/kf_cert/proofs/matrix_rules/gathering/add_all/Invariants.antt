@@ -1,5 +1,5 @@
 use Rattle.std.proofs.Common.{◌*◌, take}
-use Rattle.kf_hyper.specs.Columns.{weight_at, total}
+use Rattle.kf_column.specs.Columns.{weight_at, total}
 use Rattle.kf_hyper.specs.Sums.{summed, ArePositive, Gains}
 use Rattle.kf_cert.proofs.matrix_rules.gathering.add_all.Given as goal
 

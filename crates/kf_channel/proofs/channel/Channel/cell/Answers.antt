@@ -1,9 +1,9 @@
 use Rattle.std.proofs.Common.{◌≡◌, pos, [], ◌∙◌, arith, get_or}
 use Rattle.kf_frac.specs.Fractions.{reduced_num, reduced_den}
-use Rattle.kf_hyper.specs.declared.entry.Entry.{Entry}
+use Rattle.kf_column.specs.declared.entry.Entry.{Entry}
 use Rattle.kf_hyper.specs.declared.traces.TraceRow.{TraceRow}
-use Rattle.kf_hyper.specs.Columns.{weight_at}
-use Rattle.kf_hyper.specs.Traces.{Row}
+use Rattle.kf_column.specs.Columns.{weight_at}
+use Rattle.kf_column.specs.Traces.{Row}
 use Rattle.kf_channel.specs.Views.{cell_at}
 use Rattle.kf_channel.proofs.Cells.{whole_here, part_here, part_within, from_zero}
 use Rattle.kf_channel.proofs.channel.Channel.cell.Goals as goal

@@ -1,7 +1,7 @@
 use Rattle.std.proofs.Common.{List, map, sym, subst}
 use Rattle.kf_value.specs.Targets.{Item}
 use Rattle.kf_value.specs.Numbers.{target_size}
-use Rattle.kf_hyper.specs.Columns.{IsColumn}
+use Rattle.kf_column.specs.Columns.{IsColumn}
 use Rattle.kf_hyper.specs.Tables.{table_row}
 use Rattle.kf_channel.specs.Shapes.{IsChannel}
 use Rattle.kf_channel.proofs.Secrets.{channel_made, are_secrets}

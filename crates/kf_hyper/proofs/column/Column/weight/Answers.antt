@@ -1,8 +1,8 @@
 use Rattle.std.proofs.Common.{◌≡◌, ap, sym, ◌∙◌, rules, List, subst}
 use Rattle.std.proofs.lemmas.List.Sorted.{answers_always}
-use Rattle.kf_hyper.specs.declared.entry.Entry.{Entry}
-use Rattle.kf_hyper.specs.Columns.{weight_at, IsColumn}
-use Rattle.kf_hyper.proofs.Gathering.{nat_equal}
+use Rattle.kf_column.specs.declared.entry.Entry.{Entry}
+use Rattle.kf_column.specs.Columns.{weight_at, IsColumn}
+use Rattle.kf_column.proofs.Gathering.{nat_equal}
 use Rattle.kf_hyper.proofs.Searching.{searchable, weight_found, missed}
 use Rattle.kf_hyper.proofs.column.Column.weight.Goals as goal
 

@@ -1,15 +1,16 @@
 use Rattle.std.proofs.Common.{◌≡◌, ℕ, ◌==◌, ◌*◌, ◌/◌, ◌<◌, List, refl, sym, ◌∙◌, ap, subst, arith, length, get_or}
 use Rattle.std.proofs.Math.Nat.{mul_comm}
 use Rattle.std.proofs.lemmas.List.{length-map}
-use Rattle.kf_hyper.specs.declared.entry.Entry.{Entry}
+use Rattle.kf_column.specs.declared.entry.Entry.{Entry}
 use Rattle.kf_hyper.specs.declared.class.Class.{Class}
-use Rattle.kf_hyper.specs.Columns.{weight_at, total}
-use Rattle.kf_hyper.specs.Hypers.{Inner}
+use Rattle.kf_column.specs.Columns.{weight_at, total}
+use Rattle.kf_column.specs.Hypers.{Inner}
 use Rattle.kf_value.specs.Numbers.{target_size}
-use Rattle.kf_hyper.specs.Shapes.{IsBelow, inner_of}
+use Rattle.kf_column.specs.Shapes.{IsBelow}
+use Rattle.kf_hyper.specs.ClassViews.{inner_of}
 use Rattle.kf_hyper.specs.Views.{target_of}
 use Rattle.kf_hyper.specs.Sums.{ArePositive}
-use Rattle.kf_hyper.specs.Averages.{joint_weight}
+use Rattle.kf_column.specs.Averages.{joint_weight}
 use Rattle.kf_hyper.proofs.Reading.{whole_some, times_some, times_whole, values_within}
 use Rattle.kf_hyper.proofs.Averaging.{one_more, one_more_le, all_seen}
 use Rattle.kf_hyper.proofs.hyper.Hyper.average.Goals as goal

@@ -1,10 +1,11 @@
 use Rattle.std.proofs.Common.{◌≡◌, ℕ, map, sum_by, take}
-use Rattle.kf_hyper.specs.Columns.{weight_at, total}
+use Rattle.kf_column.specs.Columns.{weight_at, total}
 use Rattle.kf_value.specs.Numbers.{target_size}
-use Rattle.kf_hyper.specs.Shapes.{IsBelow, inner_of}
+use Rattle.kf_column.specs.Shapes.{IsBelow}
+use Rattle.kf_hyper.specs.ClassViews.{inner_of}
 use Rattle.kf_hyper.specs.Views.{target_of}
 use Rattle.kf_hyper.specs.Sums.{ArePositive}
-use Rattle.kf_hyper.specs.Averages.{average_weight}
+use Rattle.kf_column.specs.Averages.{average_weight}
 use Rattle.kf_hyper.proofs.hyper.Hyper.average.Given as goal
 
 abbrev pub invariant-loop-class : goal.invariant-loop-class

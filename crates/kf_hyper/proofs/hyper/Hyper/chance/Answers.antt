@@ -1,6 +1,6 @@
 use Rattle.std.proofs.Common.{◌≡◌, arith, [], length, ap, ◌∙◌, ◌<◌}
-use Rattle.kf_hyper.specs.Columns.{total}
-use Rattle.kf_hyper.specs.Hypers.{Inner}
+use Rattle.kf_column.specs.Columns.{total}
+use Rattle.kf_column.specs.Hypers.{Inner}
 use Rattle.kf_hyper.specs.Views.{inner_at}
 use Rattle.kf_hyper.proofs.Reading.{whole_some, whole_narrow, shown_here, entry_within}
 use Rattle.kf_hyper.proofs.hyper.Hyper.chance.Goals as goal

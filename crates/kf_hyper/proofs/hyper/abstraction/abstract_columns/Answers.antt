@@ -2,9 +2,9 @@ use Rattle.std.proofs.Common.{map, subst, List}
 use Rattle.kf_value.specs.Numbers.{target_size}
 use Rattle.kf_value.specs.TypeViews.{item_of}
 use Rattle.kf_hyper.specs.declared.column.Column.{Column}
-use Rattle.kf_hyper.specs.Hypers.{IsHyper}
-use Rattle.kf_hyper.specs.Shapes.{inner_of}
-use Rattle.kf_hyper.proofs.Abstraction.{hyper_made, shape_made}
+use Rattle.kf_column.specs.Hypers.{IsHyper}
+use Rattle.kf_hyper.specs.ClassViews.{inner_of}
+use Rattle.kf_hyper.proofs.Made.{hyper_made, shape_made}
 use Rattle.kf_hyper.proofs.hyper.abstraction.abstract_columns.Goals as goal
 
 pub invariant_of-result : goal.invariant_of-result

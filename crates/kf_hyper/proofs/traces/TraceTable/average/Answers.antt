@@ -1,11 +1,11 @@
 use Rattle.std.proofs.Common.{◌≡◌, ◌==◌, ◌<◌, List, sym, ◌∙◌, ap, subst, arith, length, get_or}
-use Rattle.kf_hyper.specs.declared.entry.Entry.{Entry}
+use Rattle.kf_column.specs.declared.entry.Entry.{Entry}
 use Rattle.kf_hyper.specs.declared.traces.TraceRow.{TraceRow}
 use Rattle.kf_value.specs.Numbers.{target_size}
 use Rattle.kf_value.specs.Views.{items_of}
-use Rattle.kf_hyper.specs.Columns.{weight_at, total}
-use Rattle.kf_hyper.specs.Shapes.{IsBelow}
-use Rattle.kf_hyper.specs.Traces.{Row}
+use Rattle.kf_column.specs.Columns.{weight_at, total}
+use Rattle.kf_column.specs.Shapes.{IsBelow}
+use Rattle.kf_column.specs.Traces.{Row}
 use Rattle.kf_hyper.specs.Tables.{table_row}
 use Rattle.kf_hyper.proofs.Averaging.{one_more, one_more_le, all_seen, here_too}
 use Rattle.kf_hyper.proofs.traces.TraceTable.average.Goals as goal

@@ -1,10 +1,10 @@
 use Rattle.std.proofs.Common.{◌≡◌, ℕ, map, sum_by, take}
 use Rattle.kf_value.specs.Numbers.{target_size}
 use Rattle.kf_value.specs.Views.{items_of}
-use Rattle.kf_hyper.specs.Columns.{weight_at, total}
-use Rattle.kf_hyper.specs.Shapes.{IsBelow}
+use Rattle.kf_column.specs.Columns.{weight_at, total}
+use Rattle.kf_column.specs.Shapes.{IsBelow}
 use Rattle.kf_hyper.specs.Sums.{ArePositive}
-use Rattle.kf_hyper.specs.Traces.{value_weight}
+use Rattle.kf_column.specs.Traces.{value_weight}
 use Rattle.kf_hyper.specs.Tables.{table_row}
 use Rattle.kf_hyper.proofs.traces.TraceTable.average.Given as goal
 

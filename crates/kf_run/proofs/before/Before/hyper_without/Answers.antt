@@ -1,6 +1,6 @@
 use Rattle.std.proofs.Common.{◌≡◌, ◌∷◌, ◌<◌, ℕ, List, length, sym, subst, ◌∙◌}
 use Rattle.kf_hyper.specs.Views.{inners_of}
-use Rattle.kf_hyper.specs.declared.entry.Entry.{Entry}
+use Rattle.kf_column.specs.declared.entry.Entry.{Entry}
 use Rattle.kf_core.specs.declared.program.Program.{Program}
 use Rattle.kf_core.specs.Rows.{IsHyperOf}
 use Rattle.kf_core.specs.Views.{program_tree}

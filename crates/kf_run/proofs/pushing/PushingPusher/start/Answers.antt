@@ -1,5 +1,5 @@
 use Rattle.std.proofs.Common.{ap, ◌∙◌}
-use Rattle.kf_hyper.specs.Joint.{mass}
+use Rattle.kf_column.specs.Joint.{mass}
 use Rattle.kf_run.specs.Pushings.{cleared_of}
 use Rattle.kf_run.proofs.Meant.{start_weighs}
 use Rattle.kf_run.proofs.pushing.PushingPusher.start.Goals as goal

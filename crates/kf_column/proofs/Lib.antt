@@ -1,0 +1,16 @@
+pub mod Abstraction
+pub mod AtMostOne
+pub mod Beliefs
+pub mod ClassSums
+pub mod Factors
+pub mod Gathering
+pub mod Inserting
+pub mod Numbers
+pub mod Ordered
+pub mod Posteriors
+pub mod Proportions
+pub mod Scaling
+pub mod SomeHyper
+pub mod Steps
+pub mod Weighing
+pub mod Weights

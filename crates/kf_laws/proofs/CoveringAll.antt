@@ -14,7 +14,7 @@ use Rattle.kf_prior.specs.FullSources.{full_source}
 use Rattle.kf_prior.specs.Laws.{CarriesForAllPriors, HasHyper, IsFull, SeparatesAtUniform}
 use Rattle.kf_prior.specs.Priors.{IsPosteriorAt, initial_count}
 use Rattle.kf_quiet.specs.Laws.{QuietLeaksNoMore}
-use Rattle.kf_quiet.specs.Quiet.{quiet_joint}
+use Rattle.kf_silent.specs.Quiet.{quiet_joint}
 use Rattle.kf_refine.specs.Refinements.{HyperTree}
 use Rattle.kf_refine.specs.Verdicts.{VerdictTree, Yes, No, IsVerdict, Proves}
 use Rattle.kf_text.specs.Texts.{hyper_text}

@@ -54,7 +54,7 @@ use Rattle.kf_load.specs.Texts.{File, Fault, Text, bad_text, token_fault, syntax
 use Rattle.kf_prior.specs.FullSources.{full_source}
 use Rattle.kf_quiet.specs.Blames.{BlameTree}
 use Rattle.kf_quiet.specs.Laws.{OnlyOneBlames}
-use Rattle.kf_quiet.specs.Quiet.{quiet_joint}
+use Rattle.kf_silent.specs.Quiet.{quiet_joint}
 use Rattle.kf_run.specs.Laws.{OnlyOneTrail}
 use Rattle.kf_words.specs.Jobs.{IsInRange}
 use Rattle.kf_words.specs.Laws.{TasksInRange}

@@ -33,9 +33,9 @@ use Rattle.kf_core.specs.SupportLaws.{CommonScaleIsLeast, ScalesArePositive}
 use Rattle.kf_core.proofs.Measures.{Measure}
 use Rattle.kf_core.proofs.Stores.{length-stores}
 use Rattle.kf_core.proofs.Sums.{adds, adds_mapped, sum_is}
-use Rattle.kf_quiet.proofs.CellsFrom.{IsRowOf, rows_told}
-use Rattle.kf_quiet.proofs.Gathers.{trace_hold}
-use Rattle.kf_quiet.proofs.RowMass.{rows_mass}
+use Rattle.kf_push.proofs.CellsFrom.{IsRowOf, rows_told}
+use Rattle.kf_push.proofs.Gathers.{trace_hold}
+use Rattle.kf_push.proofs.RowMass.{rows_mass}
 use Rattle.kf_refine.specs.Refinements.{HyperTree}
 use Rattle.kf_refine.specs.Views.{IsProper}
 use Rattle.kf_top.specs.Answer.{IsHyperTree}

@@ -22,12 +22,12 @@ use Rattle.kf_core.specs.Joint.{Cell, weight_of}
 use Rattle.kf_core.specs.Rows.{AreRowsOf, IsHyperOf}
 use Rattle.kf_core.specs.Scale.{scale_of}
 use Rattle.kf_core.proofs.Sums.{adds, adds_mapped, adds_same, each_is, sum_is}
-use Rattle.kf_quiet.proofs.CellWeights.{adds_times}
-use Rattle.kf_quiet.proofs.Gathers.{adds_swap}
+use Rattle.kf_push.proofs.CellWeights.{adds_times}
+use Rattle.kf_push.proofs.Gathers.{adds_swap}
 use Rattle.kf_silent.specs.Laws.{LeftOfTraces, retraced}
 use Rattle.kf_silent.specs.Silent.{silent_joint}
-use Rattle.kf_silent.proofs.Refining.{cond_adds, leads, leads_once, rows_weigh}
-use Rattle.kf_silent.proofs.Worths.{in_one}
+use Rattle.kf_quiet.proofs.Refining.{cond_adds, leads, leads_once, rows_weigh}
+use Rattle.kf_quiet.proofs.Worths.{in_one}
 use Rattle.kf_refine.specs.Laws.{Refines}
 use Rattle.kf_refine.proofs.Matrices.{matrix_of, matrix_over, matrix_shaped}
 use Rattle.kf_refine.proofs.Spreading.{total-list}

@@ -34,7 +34,7 @@ use Rattle.kf_make.specs.Making.{make_source}
 use Rattle.kf_prior.specs.FullSources.{full_source}
 use Rattle.kf_prior.specs.Laws.{FullIsBuilt}
 use Rattle.kf_quiet.specs.Laws.{SomeBlames}
-use Rattle.kf_quiet.specs.Quiet.{quiet_joint}
+use Rattle.kf_silent.specs.Quiet.{quiet_joint}
 use Rattle.kf_run.specs.Laws.{SomeTrail}
 use Rattle.kf_refine.specs.Refinements.{HyperTree}
 use Rattle.kf_refine.specs.Verdicts.{VerdictTree, IsVerdict}

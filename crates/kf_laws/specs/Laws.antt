@@ -12,7 +12,7 @@ use Rattle.kf_gain.specs.Vulnerabilities.{IsPosterior}
 use Rattle.kf_gain.specs.Worth.{NoBetter}
 use Rattle.kf_order.specs.Channels.{IsNotNegative}
 use Rattle.kf_prior.specs.Priors.{IsPosteriorAt, initial_count}
-use Rattle.kf_quiet.specs.Quiet.{quiet_joint}
+use Rattle.kf_silent.specs.Quiet.{quiet_joint}
 use Rattle.kf_refine.specs.Verdicts.{No}
 use Rattle.kf_report.specs.Reports.{Leakage, IsLeakage}
 use Rattle.kf_text.specs.CapacityTexts.{capacity_text}

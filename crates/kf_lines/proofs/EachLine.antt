@@ -22,7 +22,7 @@ use Rattle.kf_lines.proofs.Walking.{block_end, block_parts, left_sites}
 use Rattle.kf_load.specs.Views.{program_in}
 use Rattle.kf_run.specs.Before.{IsBefore, cleared_before, place_before}
 use Rattle.kf_run.specs.declared.before.Before.{Before}
-use Rattle.kf_silent.specs.Laws.{SilentWidth}
+use Rattle.kf_quiet.specs.SilentLaws.{SilentWidth}
 use Rattle.kf_silent.specs.Silent.{Path, only, silent_joint}
 use Rattle.kf_support.specs.Cleared.{program_of, turns_of, whole_scale}
 use Rattle.kf_support.specs.declared.cleared.Cleared.{Cleared}

@@ -22,8 +22,8 @@ use crate::summary::{Line, LineList, Summary};
 use kf_ast::Stmt;
 use kf_gain::{Gain, GainFault, posterior};
 use kf_hyper::Hyper;
+use kf_quiet::silent_gain_laws;
 use kf_run::Before;
-use kf_silent::silent_hypers;
 use kf_support::Cleared;
 use kf_value::Mem;
 use std::alloc::Global;
@@ -50,7 +50,7 @@ fn line_of(alloc: Global, before: &Before<'_>, site: &Site, g: &Gain) -> Result<
     requires narrow { IsNarrowIn (cleared_before before.now) (gain_tree g.now) }
     ensures { IfOk result (IsLineIn (cleared_before before.now) (gain_tree g.now) (under (place_before before.now) (site_of site.now))) }
 {
-    silent_hypers();
+    silent_gain_laws();
     let hyper = before.hyper_without(alloc, site.path.as_slice())?;
     match summary_of(alloc, &hyper, g) {
         Ok(left) => Ok(Line { at: site.at, left }),

@@ -26,8 +26,8 @@ use Rattle.kf_core.specs.Scale.{scale_of}
 use Rattle.kf_core.specs.Sts.{sts}
 use Rattle.kf_core.specs.SupportLaws.{CommonScaleIsLeast, ProgramAgrees, RunsChain, ScalesArePositive}
 use Rattle.kf_core.proofs.Stores.{length-stores}
-use Rattle.kf_quiet.proofs.Carrying.{Matrix, Runner, behind_columns, pushed_columns, some_behind, some_pushed}
-use Rattle.kf_quiet.proofs.Programs.{begun_rows, program_hyper, start_made, whole_on_first}
+use Rattle.kf_push.proofs.Carrying.{Matrix, Runner, behind_columns, pushed_columns, some_behind, some_pushed}
+use Rattle.kf_push.proofs.Programs.{begun_rows, program_hyper, start_made, whole_on_first}
 use Rattle.kf_meaning.specs.Trails.{AreLast, HasAll, LastCountBounds, LastCountIsMet}
 use Rattle.kf_meaning.proofs.Counting.{at_least_columns, at_most_columns}
 use Rattle.kf_meaning.proofs.Renumbered.{Become, become_long, moved_columns, still_apart}

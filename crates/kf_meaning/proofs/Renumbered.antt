@@ -19,9 +19,9 @@ use Rattle.kf_core.specs.Pushing.{carried_cells}
 use Rattle.kf_core.specs.Rows.{AreRowsOf}
 use Rattle.kf_core.specs.Runs.{stay}
 use Rattle.kf_core.proofs.Sums.{adds, sum_is}
-use Rattle.kf_quiet.proofs.Beginning.{SilentCells, one_silent_row}
-use Rattle.kf_quiet.proofs.Carrying.{Matrix, Runner}
-use Rattle.kf_quiet.proofs.CellWeights.{at_both, trace_weight_is, weighs, weight_is}
+use Rattle.kf_push.proofs.Beginning.{SilentCells, one_silent_row}
+use Rattle.kf_push.proofs.Carrying.{Matrix, Runner}
+use Rattle.kf_push.proofs.CellWeights.{at_both, trace_weight_is, weighs, weight_is}
 
 whole_weight : (w : ℕ) → 1 * w / 1 ≡ w
 whole_weight w = ap (λ n. n / 1) (one-mul w) ∙ div-one w

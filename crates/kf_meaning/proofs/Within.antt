@@ -23,8 +23,8 @@ use Rattle.kf_core.specs.Rows.{AreRowsOf}
 use Rattle.kf_core.specs.Runs.{Halted, LoopBound, Run, Tried, all_runs, assigned, branched, chain, choice_run, declared, guarded, joined, leaks, looped, moved, onward, place, replaced, runs, shown, silent, stay, stopped, store_number, tried}
 use Rattle.kf_core.specs.Sts.{StTree, StTrees, Skip, Assign, Observe, If, While, no_sts, more_sts}
 use Rattle.kf_core.proofs.Sums.{adds}
-use Rattle.kf_quiet.proofs.Carrying.{Matrix}
-use Rattle.kf_quiet.proofs.CellWeights.{at_both, weighs, weight_is}
+use Rattle.kf_push.proofs.Carrying.{Matrix}
+use Rattle.kf_push.proofs.CellWeights.{at_both, weighs, weight_is}
 
 -- what has a number is a store
 pub numbered : (ts : List TypeTree) (s : List ValueTree) (m : ℕ) → store_number ts s ≡ Some m → m < length (stores ts)

@@ -12,7 +12,7 @@ use Rattle.std.proofs.lemmas.List.Sums.{sum_by-cons}
 use borrow.Author.Differences.{up, down}
 use lib.ListN.{get_or-map}
 use lib.Seq.{map-set}
-use Rattle.kf_silent.proofs.Worths.{worth}
+use Rattle.kf_quiet.proofs.Worths.{worth}
 
 module _ {X Y : Type 0} (f : X → Y) where
   exchanged : (xs : List X) (i j : ℕ) → map f (swap xs i j) ≡ swap (map f xs) i j

@@ -13,7 +13,7 @@ use Rattle.kf_gain.specs.Gains.{GainOf, TableTree}
 use Rattle.kf_gain.specs.Laws.{HasActions}
 use Rattle.kf_gain.specs.Worth.{IsVulnerability}
 use Rattle.kf_gain.proofs.Measures.{one, some}
-use Rattle.kf_silent.proofs.Worths.{posterior_worth, worth}
+use Rattle.kf_quiet.proofs.Worths.{posterior_worth, worth}
 use Rattle.kf_order.specs.Channels.{HyperIsWorthColumns, IsWorth}
 use Rattle.kf_order.proofs.Worths.{inners_worth, some_actions}
 

@@ -32,7 +32,7 @@ use Rattle.kf_channel.specs.Channels.{AreSecrets}
 use Rattle.kf_core.specs.Joint.{Cell}
 use Rattle.kf_core.specs.Rows.{AreRowsOf, IsHyperOf}
 use Rattle.kf_core.proofs.OneTable.{one_table}
-use Rattle.kf_silent.proofs.Worths.{posterior_worth, worth}
+use Rattle.kf_quiet.proofs.Worths.{posterior_worth, worth}
 use Rattle.kf_order.specs.Channels.{CapacityIsLeaked, IsNotNegative, IsWorth, LeakageIsBounded}
 use Rattle.kf_order.proofs.Worths.{inners_worth, some_actions}
 use Rattle.kf_order.proofs.Cells.{cell_weighs, over_some}

@@ -28,7 +28,7 @@ use Rattle.kf_gain.specs.Worth.{IsVulnerability}
 use Rattle.kf_gain.proofs.Measures.{some}
 use Rattle.kf_gain.proofs.Reports.{some_report}
 use Rattle.kf_capacity.specs.Grids.{ChannelTree}
-use Rattle.kf_silent.proofs.Worths.{posterior_worth, worth}
+use Rattle.kf_quiet.proofs.Worths.{posterior_worth, worth}
 use Rattle.kf_simplex.proofs.Signs.{product_monotone, product_strict}
 use Rattle.kf_order.specs.Channels.{IsWorth}
 use Rattle.kf_order.specs.Structure.{HaveOneMatrix, IsStructural}

@@ -9,7 +9,7 @@ use Rattle.kf_gain.specs.Vulnerabilities.{IsPosterior}
 use Rattle.kf_column.specs.Hypers.{Inner}
 use Rattle.kf_quiet.specs.Blames.{AreBlames, BlameTree, IsBlame}
 use Rattle.kf_quiet.specs.Laws.{OnlyOneBlames, SomeBlames, SomeQuiet}
-use Rattle.kf_quiet.specs.Quiet.{quiet_joint}
+use Rattle.kf_silent.specs.Quiet.{quiet_joint}
 use Rattle.kf_quiet.proofs.Blames.{AreFirst, first_all, first_more, first_one}
 
 module _ (hypers : HypersExist) where

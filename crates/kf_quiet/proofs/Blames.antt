@@ -5,7 +5,7 @@ use Rattle.std.proofs.lemmas.List.{length-append}
 use Rattle.std.proofs.lemmas.Option.{slice_get_within}
 use Rattle.kf_core.specs.Joint.{joint_of}
 use Rattle.kf_core.specs.Programs.{ProgramTree}
-use Rattle.kf_quiet.specs.Quiet.{quiet_joint}
+use Rattle.kf_silent.specs.Quiet.{quiet_joint}
 use Rattle.kf_quiet.specs.Blames.{AreBlames, BlameTree, IsBlame}
 use Rattle.kf_quiet.specs.Views.{ShowBlames, ShowsBlame}
 use Rattle.kf_quiet.specs.declared.blame.Blame.{Blame}

@@ -26,13 +26,13 @@ use Rattle.kf_core.proofs.Sums.{adds, adds_mapped, adds_nothing, adds_same, each
 use Rattle.kf_gain.specs.Gains.{GainOf, TableTree}
 use Rattle.kf_gain.specs.Vulnerabilities.{IsPosterior}
 use Rattle.kf_gain.specs.Worth.{IsVulnerability, NoBetter}
-use Rattle.kf_quiet.proofs.CellWeights.{Trace, at_both, at_trace, weighs, weight_is, trace_weight_is}
-use Rattle.kf_quiet.proofs.CellsFrom.{IsRowOf, cell_trace, cond_some, each_of, each_unmap, positive_part, rows_told, traces}
-use Rattle.kf_quiet.proofs.Gathers.{adds_swap}
+use Rattle.kf_push.proofs.CellWeights.{Trace, at_both, at_trace, weighs, weight_is, trace_weight_is}
+use Rattle.kf_push.proofs.CellsFrom.{IsRowOf, cell_trace, cond_some, each_of, each_unmap, positive_part, rows_told, traces}
+use Rattle.kf_push.proofs.Gathers.{adds_swap}
 use Rattle.kf_quiet.proofs.HushRuns.{turned}
 use Rattle.kf_quiet.proofs.HushWorth.{IsShare, IsWithin, all_shared, class_share, posterior_is, posterior_within, shares, sum_within}
-use Rattle.kf_quiet.proofs.Members.{in_map}
-use Rattle.kf_quiet.proofs.RowMass.{cell_once, once}
+use Rattle.kf_push.proofs.Members.{in_map}
+use Rattle.kf_push.proofs.RowMass.{cell_once, once}
 
 -- ---- sums
 

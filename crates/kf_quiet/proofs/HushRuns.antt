@@ -16,13 +16,13 @@ use Rattle.kf_core.specs.Scale.{scale_of}
 use Rattle.kf_core.specs.Sts.{StTree, sts}
 use Rattle.kf_core.specs.SupportLaws.{RunsChain}
 use Rattle.kf_core.proofs.Stores.{lists_decide}
-use Rattle.kf_quiet.specs.Quiet.{hushed, quiet_runs, quiet_joint}
-use Rattle.kf_quiet.proofs.CellWeights.{Trace}
-use Rattle.kf_quiet.proofs.CellsFrom.{each_in}
-use Rattle.kf_quiet.proofs.Declaring.{declared_silent}
-use Rattle.kf_quiet.proofs.Members.{ending}
-use Rattle.kf_quiet.proofs.Splitting.{Splits, block_splits}
-use Rattle.kf_quiet.proofs.TracesJoined.{same_front}
+use Rattle.kf_silent.specs.Quiet.{hushed, quiet_runs, quiet_joint}
+use Rattle.kf_push.proofs.CellWeights.{Trace}
+use Rattle.kf_push.proofs.CellsFrom.{each_in}
+use Rattle.kf_push.proofs.Declaring.{declared_silent}
+use Rattle.kf_push.proofs.Members.{ending}
+use Rattle.kf_push.proofs.Splitting.{Splits, block_splits}
+use Rattle.kf_push.proofs.TracesJoined.{same_front}
 
 -- ---- what is left of a trace
 

@@ -14,7 +14,7 @@ use Rattle.kf_gain.specs.Worth.{NoBetter}
 use Rattle.kf_gain.proofs.Measures.{some}
 use Rattle.kf_quiet.specs.Laws.{NoBlamePasses, QuietLeaksNoMore}
 use Rattle.kf_quiet.specs.Blames.{BlameTree}
-use Rattle.kf_quiet.proofs.CellWeights.{Trace}
+use Rattle.kf_push.proofs.CellWeights.{Trace}
 use Rattle.kf_quiet.proofs.HushRows.{turned_within}
 use Rattle.kf_quiet.proofs.HushRuns.{quiet_is, turned}
 

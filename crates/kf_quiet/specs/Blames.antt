@@ -6,7 +6,7 @@ use Rattle.kf_core.specs.Rows.{IsHyperOf}
 use Rattle.kf_column.specs.Hypers.{Inner}
 use Rattle.kf_gain.specs.Gains.{Bayes}
 use Rattle.kf_gain.specs.Vulnerabilities.{IsPosterior}
-use Rattle.kf_quiet.specs.Quiet.{quiet_joint}
+use Rattle.kf_silent.specs.Quiet.{quiet_joint}
 
 -- how many inners a hyper has, and its posterior Bayes vulnerability over the scale
 pub record BlameTree : Type 0 where

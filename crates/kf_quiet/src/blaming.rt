@@ -10,13 +10,13 @@ ghost use Rattle.kf_gain.specs.Vulnerabilities.{IsPosterior};
 ghost use Rattle.kf_quiet.specs.Blames.{BlameTree, AreBlames};
 ghost use Rattle.kf_quiet.specs.Views.{ShowBlames};
 
-use crate::finishing::about_target;
 use crate::quiet::quiet_hyper;
-use crate::{Blame, BlameList, Pusher};
+use crate::{Blame, BlameList};
 use kf_core::{choice_laws, run_laws};
 use kf_frac::Frac;
 use kf_gain::{Gain, GainFault, posterior};
 use kf_hyper::Hyper;
+use kf_push::{Pusher, about_target};
 use kf_value::Mem;
 use std::alloc::Global;
 

@@ -3,16 +3,11 @@
 
 mod blame;
 mod blaming;
-mod erasing;
-mod finishing;
 mod laws;
-mod pusher;
 mod quiet;
 
 pub use blame::{Blame, BlameList};
 pub use blaming::blame_of;
-pub use erasing::erase;
-pub use finishing::{about_target, are_columns};
-pub use laws::{blame_laws, merge_law, quiet_laws};
-pub use pusher::Pusher;
+pub use kf_push::{Pusher, merge_law};
+pub use laws::{blame_laws, quiet_laws, silent_gain_laws};
 pub use quiet::quiet_hyper;

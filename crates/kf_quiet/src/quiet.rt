@@ -8,14 +8,12 @@ ghost use Rattle.kf_core.specs.Pushing.{AreBehind};
 ghost use Rattle.kf_core.specs.Ready.{IsReady};
 ghost use Rattle.kf_core.specs.Rows.{IsHyperOf};
 ghost use Rattle.kf_hyper.specs.Views.{inners_of, scale_of, target_of};
-ghost use Rattle.kf_quiet.specs.Meanings.{runs_between, store_count};
-ghost use Rattle.kf_quiet.specs.Quiet.{hushed, quiet_joint};
+ghost use Rattle.kf_push.specs.Meanings.{runs_between, store_count};
+ghost use Rattle.kf_silent.specs.Quiet.{hushed, quiet_joint};
 
-use crate::Pusher;
-use crate::erasing::{alone, sum_of};
-use crate::finishing::{about_target, are_columns};
 use kf_core::{choice_laws, run_laws};
 use kf_hyper::{Column, ColumnList, Columns, Hyper};
+use kf_push::{Pusher, about_target, alone, are_columns, sum_of};
 use kf_value::Mem;
 use std::alloc::Global;
 

@@ -13,8 +13,8 @@ use Rattle.kf_core.proofs.SoundParts.{sound_first}
 use Rattle.kf_core.proofs.WeightKept.{all_keep, keeps}
 use Rattle.kf_eval.specs.Kinds.{shape_kinds}
 use Rattle.kf_run.specs.Going.{CanGo, HasGone}
-use Rattle.kf_quiet.proofs.Carrying.{Runner, pushed_again}
-use Rattle.kf_quiet.proofs.Statements.{blocks_split, runs_split}
+use Rattle.kf_push.proofs.Carrying.{Runner, pushed_again}
+use Rattle.kf_push.proofs.Statements.{blocks_split, runs_split}
 use Rattle.kf_run.proofs.Onward.{Carries, RunsOn, on_can, on_end, on_start, on_step}
 
 module _ (shape : Shape) (turns : ℕ) where

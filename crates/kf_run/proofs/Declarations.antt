@@ -20,10 +20,10 @@ use Rattle.kf_core.specs.Support.{program_pass}
 use Rattle.kf_core.specs.SupportLaws.{BlockAgrees, CommonScaleIsLeast, ProgramAgrees, RunsChain, ScalesArePositive}
 use Rattle.kf_core.specs.Views.{dx_items, dx_tree, program_tree}
 use Rattle.kf_core.proofs.FirstStore.{first_store_there}
-use Rattle.kf_quiet.specs.Following.{Goes}
-use Rattle.kf_quiet.proofs.Carrying.{Matrix}
-use Rattle.kf_quiet.proofs.Programs.{whole_on_first, declared_goes, declared_more, declared_none, start_goes, start_made}
-use Rattle.kf_quiet.proofs.Statements.{goes_ready}
+use Rattle.kf_push.specs.Following.{Goes}
+use Rattle.kf_push.proofs.Carrying.{Matrix}
+use Rattle.kf_push.proofs.Programs.{whole_on_first, declared_goes, declared_more, declared_none, start_goes, start_made}
+use Rattle.kf_push.proofs.Statements.{goes_ready}
 
 -- these columns are what stands behind the first declarations, over the program's scale
 pub record AreDeclared (program : Program) (turns i : ℕ) (now : Joint) : Type 0 where

@@ -17,9 +17,9 @@ use Rattle.kf_core.proofs.Filled.{Filled}
 use Rattle.kf_core.proofs.Solid.{dist_filled}
 use Rattle.kf_core.proofs.SoundParts.{if_guard, no_sound, tree-Assign, tree-If, tree-Observe, tree-Skip, tree-While, yes_sound}
 use Rattle.kf_eval.specs.Kinds.{shape_kinds}
-use Rattle.kf_quiet.specs.Following.{Goes, observed}
-use Rattle.kf_quiet.specs.Quiet.{hushed}
-use Rattle.kf_quiet.proofs.Carrying.{Runner}
+use Rattle.kf_push.specs.Following.{Goes, observed}
+use Rattle.kf_silent.specs.Quiet.{hushed}
+use Rattle.kf_push.proofs.Carrying.{Runner}
 use Rattle.kf_silent.specs.Silent.{Path, within}
 use Rattle.kf_run.specs.Following.{shown_to}
 use Rattle.kf_run.specs.Going.{CanGo, HasGone}

@@ -15,10 +15,10 @@ use Rattle.kf_core.proofs.Solid.{all_solid}
 use Rattle.kf_core.proofs.Unsquashed.{checked_again}
 use Rattle.kf_support.specs.declared.cleared.Cleared.{Cleared}
 use Rattle.kf_support.specs.Cleared.{program_of, turns_of, whole_scale}
-use Rattle.kf_quiet.specs.Meanings.{IsMeaning}
-use Rattle.kf_quiet.proofs.Carrying.{Matrix}
-use Rattle.kf_quiet.proofs.Programs.{start_mass}
-use Rattle.kf_quiet.proofs.Weighing.{later_solid, part_mass}
+use Rattle.kf_push.specs.Meanings.{IsMeaning}
+use Rattle.kf_push.proofs.Carrying.{Matrix}
+use Rattle.kf_push.proofs.Programs.{start_mass}
+use Rattle.kf_push.proofs.Weighing.{later_solid, part_mass}
 
 module _ (c : Cleared) where
   abbrev p : ProgramTree

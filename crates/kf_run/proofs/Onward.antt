@@ -11,13 +11,13 @@ use Rattle.kf_core.specs.Runs.{Tried, chain, guarded, stay}
 use Rattle.kf_core.proofs.Filled.{Filled}
 use Rattle.kf_core.proofs.Measures.{Full}
 use Rattle.kf_core.proofs.WeightKept.{Keeps}
-use Rattle.kf_quiet.specs.Following.{Goes, observed, side}
-use Rattle.kf_quiet.specs.Merging.{SplitsOnce}
+use Rattle.kf_push.specs.Following.{Goes, observed, side}
+use Rattle.kf_push.specs.Merging.{SplitsOnce}
 use Rattle.kf_run.specs.Going.{CanGo, HasGone}
 use Rattle.kf_column.proofs.Beliefs.{merged_below}
-use Rattle.kf_quiet.proofs.Carrying.{Runner, Matrix, goes_behind, pushed_chain, pushed_columns, pushed_stay}
-use Rattle.kf_quiet.proofs.Readying.{mass_kept}
-use Rattle.kf_quiet.proofs.Statements.{goes_first, goes_guard, goes_left, goes_taken, pushed_guarded}
+use Rattle.kf_push.proofs.Carrying.{Runner, Matrix, goes_behind, pushed_chain, pushed_columns, pushed_stay}
+use Rattle.kf_push.proofs.Readying.{mass_kept}
+use Rattle.kf_push.proofs.Statements.{goes_first, goes_guard, goes_left, goes_taken, pushed_guarded}
 
 -- the weight of two lists of columns
 pub mass_both : (xs ys : Matrix) → mass (xs ++ ys) ≡ mass xs + mass ys

@@ -29,14 +29,14 @@ use Rattle.kf_core.specs.ChoiceLaws.{ChoicesAreShares}
 use Rattle.kf_core.specs.SupportLaws.{CommonScaleIsLeast, ProgramAgrees, RunsChain, ScalesArePositive}
 use Rattle.kf_core.proofs.Filled.{all_full}
 use Rattle.kf_core.proofs.Solid.{all_solid}
-use Rattle.kf_quiet.specs.Following.{Goes}
-use Rattle.kf_quiet.specs.Meanings.{AreApart, IsFinished, IsMeaning, Meaning, runs_between, store_count}
+use Rattle.kf_push.specs.Following.{Goes}
+use Rattle.kf_push.specs.Meanings.{AreApart, IsFinished, IsMeaning, Meaning, runs_between, store_count}
 use Rattle.kf_column.proofs.Beliefs.{merged_columns, merged_distinct, merged_has, merged_weights, some_merged}
-use Rattle.kf_quiet.proofs.Carrying.{Matrix, Runner, pushed_again, pushed_chain, pushed_columns, pushed_stay}
+use Rattle.kf_push.proofs.Carrying.{Matrix, Runner, pushed_again, pushed_chain, pushed_columns, pushed_stay}
 use Rattle.kf_run.specs.Behind.{Behind, front}
 use Rattle.kf_run.proofs.Parts.{part, sound_behind}
-use Rattle.kf_quiet.proofs.Programs.{begun_rows, program_hyper, start_goes}
-use Rattle.kf_quiet.proofs.Statements.{blocks_split, goes_first}
+use Rattle.kf_push.proofs.Programs.{begun_rows, program_hyper, start_goes}
+use Rattle.kf_push.proofs.Statements.{blocks_split, goes_first}
 
 -- ---- one column
 

@@ -17,8 +17,8 @@ use Rattle.kf_core.specs.Runs.{Run, Tried, joined, branched, choice_run, shown, 
 use Rattle.kf_core.specs.Ready.{IsPushed}
 use Rattle.kf_core.proofs.Filled.{Filled}
 use Rattle.kf_core.proofs.Sums.{adds, adds_joined, sum_is, each_is}
-use Rattle.kf_quiet.specs.Following.{Goes, Takes, observed, side}
-use Rattle.kf_quiet.proofs.Carrying.{Matrix, pushed_mass}
+use Rattle.kf_push.specs.Following.{Goes, Takes, observed, side}
+use Rattle.kf_push.proofs.Carrying.{Matrix, pushed_mass}
 use Rattle.kf_run.proofs.Sharing.{its_cells}
 
 -- the weight of the cells of these runs

@@ -20,14 +20,14 @@ use Rattle.kf_core.proofs.Measures.{Full}
 use Rattle.kf_core.proofs.SoundParts.{sound_first, whole_sound}
 use Rattle.kf_eval.specs.Kinds.{shape_kinds}
 use Rattle.kf_value.specs.Kinds.{KindTree}
-use Rattle.kf_quiet.specs.Following.{Goes}
+use Rattle.kf_push.specs.Following.{Goes}
 use Rattle.kf_run.specs.Going.{CanGo, HasGone}
 use Rattle.kf_run.specs.Silence.{silent_at}
 use Rattle.kf_column.proofs.Beliefs.{merged_below, merged_columns, merged_mass}
 use Rattle.kf_run.proofs.Blocks.{block, block_full, single_can, single_gone}
 use Rattle.kf_run.proofs.Silencing as silencing
-use Rattle.kf_quiet.proofs.Carrying.{Matrix, Runner, goes_behind, goes_merged, pushed_merged}
-use Rattle.kf_quiet.proofs.Statements.{goes_first, goes_ready, ready_goes}
+use Rattle.kf_push.proofs.Carrying.{Matrix, Runner, goes_behind, goes_merged, pushed_merged}
+use Rattle.kf_push.proofs.Statements.{goes_first, goes_ready, ready_goes}
 
 -- what holds of so many and of the next one
 pub all_more : {X : Type 0} (P : X → Type 0) (xs ys : List X) (i : ℕ) (x : X) → ys ≡ xs → i < length ys → x ≡ get_or ys i x → P x → All P (take i xs)

@@ -30,7 +30,7 @@ use Rattle.kf_core.proofs.Sums.{adds, adds_joined, second_positive, sum_is}
 use Rattle.kf_eval.specs.Choices.{weighted_trees}
 use Rattle.kf_eval.specs.declared.choice.Choice.{Choice}
 use Rattle.kf_support.specs.Moves.{store_behind}
-use Rattle.kf_quiet.specs.Following.{Takes, observed, side}
+use Rattle.kf_push.specs.Following.{Takes, observed, side}
 use Rattle.kf_eval.specs.Memos.{IsChosen, IsKeptAt, kept}
 use Rattle.kf_eval.specs.declared.memo.Memo.{Memo}
 use Rattle.kf_run.specs.Following.{shown_to}

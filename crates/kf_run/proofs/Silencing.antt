@@ -24,14 +24,14 @@ use Rattle.kf_core.proofs.Measures.{RunsWithin, Trace, run_value, runs_value}
 use Rattle.kf_core.proofs.SoundParts.{sound_first}
 use Rattle.kf_core.proofs.WeightKept.{Keeps, all_weight}
 use Rattle.kf_eval.specs.Kinds.{shape_kinds}
-use Rattle.kf_quiet.specs.Erased.{IsErased}
-use Rattle.kf_quiet.specs.Following.{Takes}
-use Rattle.kf_quiet.specs.Merging.{SplitsOnce}
-use Rattle.kf_quiet.specs.Quiet.{hushed}
-use Rattle.kf_quiet.proofs.Carrying.{Runner, Matrix, behind_columns, none_behind, pushed_stay}
-use Rattle.kf_quiet.proofs.QuietBlock.{behind_more}
-use Rattle.kf_quiet.proofs.QuietRuns.{goes_alike, sum_behind}
-use Rattle.kf_quiet.proofs.Splitting.{splits_once}
+use Rattle.kf_push.specs.Erased.{IsErased}
+use Rattle.kf_push.specs.Following.{Takes}
+use Rattle.kf_push.specs.Merging.{SplitsOnce}
+use Rattle.kf_silent.specs.Quiet.{hushed}
+use Rattle.kf_push.proofs.Carrying.{Runner, Matrix, behind_columns, none_behind, pushed_stay}
+use Rattle.kf_silent.proofs.QuietBlock.{behind_more}
+use Rattle.kf_silent.proofs.QuietRuns.{goes_alike, sum_behind}
+use Rattle.kf_push.proofs.Splitting.{splits_once}
 use Rattle.kf_silent.specs.Silent.{Path, all_silent_runs, only, silent_runs, within}
 use Rattle.kf_silent.proofs.Hushing.{SameHushed, block_hushed, statement_hushed}
 use Rattle.kf_silent.proofs.Ranges.{block_seen, silent_hushed, statement_seen}

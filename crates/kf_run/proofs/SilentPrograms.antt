@@ -21,11 +21,11 @@ use Rattle.kf_core.specs.SupportLaws.{BlockAgrees, CommonScaleIsLeast, ProgramAg
 use Rattle.kf_core.specs.Views.{program_tree, st_items, st_tree}
 use Rattle.kf_core.proofs.SoundParts.{whole_sound}
 use Rattle.kf_eval.specs.Kinds.{shape_kinds}
-use Rattle.kf_quiet.specs.Following.{Goes}
-use Rattle.kf_quiet.specs.Meanings.{IsFinished, IsMeaning}
-use Rattle.kf_quiet.proofs.Carrying.{Runner, pushed_again, pushed_chain, pushed_columns}
-use Rattle.kf_quiet.proofs.Programs.{start_along}
-use Rattle.kf_quiet.proofs.Statements.{blocks_split, goes_first, ready_goes}
+use Rattle.kf_push.specs.Following.{Goes}
+use Rattle.kf_push.specs.Meanings.{IsFinished, IsMeaning}
+use Rattle.kf_push.proofs.Carrying.{Runner, pushed_again, pushed_chain, pushed_columns}
+use Rattle.kf_push.proofs.Programs.{start_along}
+use Rattle.kf_push.proofs.Statements.{blocks_split, goes_first, ready_goes}
 use Rattle.kf_silent.specs.Silent.{Path, all_silent_runs, only, silent_joint, within}
 use Rattle.kf_silent.proofs.Ranges.{block_seen, statement_seen}
 use Rattle.kf_silent.proofs.SilentGoes.{block_goes, blocks_chain, silent_hyper, silent_whole}

@@ -19,7 +19,7 @@ use Rattle.kf_core.specs.Pushing.{carried_cells}
 use Rattle.kf_core.specs.Ready.{IsPushed}
 use Rattle.kf_core.specs.Rows.{AreRowsOf}
 use Rattle.kf_core.specs.Runs.{Run}
-use Rattle.kf_quiet.proofs.Carrying.{behind_columns}
+use Rattle.kf_push.proofs.Carrying.{behind_columns}
 use Rattle.kf_run.specs.Spreading.{AreSpread}
 use Rattle.kf_run.specs.Ways.{HasRows}
 

@@ -11,7 +11,7 @@ use Rattle.kf_core.specs.Runs.{all_runs, declared, copied}
 use Rattle.kf_core.specs.Scale.{scale_of}
 use Rattle.kf_core.specs.Sts.{sts}
 use Rattle.kf_run.specs.Laws.{SomeTrail, OnlyOneTrail}
-use Rattle.kf_quiet.proofs.Carrying.{Runner, Matrix, some_behind, one_behind, behind_columns}
+use Rattle.kf_push.proofs.Carrying.{Runner, Matrix, some_behind, one_behind, behind_columns}
 
 module _ (some_hyper : SomeHyper) (from : Runner) (columns : Matrix) where
   some_beliefs : (count : ℕ) × HasBeliefs from columns count

@@ -7,12 +7,12 @@ use Rattle.kf_column.specs.Merged.{AreMerged}
 use Rattle.kf_column.specs.Shapes.{IsBelow}
 use Rattle.kf_core.specs.Runs.{LoopBound, Tried, chain, looped, stay, stopped}
 use Rattle.kf_core.proofs.Filled.{Filled, chain_full, looped_full}
-use Rattle.kf_quiet.specs.Following.{Goes, observed, side}
+use Rattle.kf_push.specs.Following.{Goes, observed, side}
 use Rattle.kf_run.specs.Going.{CanGo, HasGone}
 use Rattle.kf_column.proofs.Beliefs.{merged_again, merged_below, merged_columns, merged_mass, merged_none}
 use Rattle.kf_run.proofs.Onward.{AreSides, Carries, carried_mass, mass_both}
-use Rattle.kf_quiet.proofs.Carrying.{Runner, Matrix, pushed_columns}
-use Rattle.kf_quiet.proofs.Statements.{ComesTo, all_turned, goes_body, goes_guard, goes_next, turned, turned_last, turned_none}
+use Rattle.kf_push.proofs.Carrying.{Runner, Matrix, pushed_columns}
+use Rattle.kf_push.proofs.Statements.{ComesTo, all_turned, goes_body, goes_guard, goes_next, turned, turned_last, turned_none}
 
 module _ (size : ℕ) (guard : ℕ → Tried) (filled : (n : ℕ) → Filled (guard n)) (at turns : ℕ) (body : Runner) (carries : Carries body) where
   -- the loop with so many turns to come

@@ -6,7 +6,7 @@ use Rattle.kf_core.specs.declared.program.Program.{Program}
 use Rattle.kf_core.specs.Views.{program_tree}
 use Rattle.kf_support.specs.declared.cleared.Cleared.{Cleared}
 use Rattle.kf_support.specs.Cleared.{program_of, turns_of, whole_scale}
-use Rattle.kf_quiet.specs.Meanings.{Meaning}
+use Rattle.kf_push.specs.Meanings.{Meaning}
 use Rattle.kf_run.specs.Behind.{Behind}
 use Rattle.kf_run.specs.declared.before.Before.{Before}
 

@@ -6,7 +6,7 @@ use Rattle.kf_column.specs.Shapes.{IsBelow}
 use Rattle.kf_core.specs.Ready.{IsPushed, IsReady, IsStart}
 use Rattle.kf_core.specs.Runs.{Run, all_runs}
 use Rattle.kf_core.specs.Sts.{sts}
-use Rattle.kf_quiet.specs.Meanings.{Meaning, store_count}
+use Rattle.kf_push.specs.Meanings.{Meaning, store_count}
 
 -- a meaning's runs of the first statements, so many
 abbrev pub front : Meaning → ℕ → ℕ → List Run

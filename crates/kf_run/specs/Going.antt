@@ -5,7 +5,7 @@ use Rattle.kf_column.specs.Joint.{Joint, mass}
 use Rattle.kf_column.specs.Shapes.{IsBelow}
 use Rattle.kf_core.specs.Ready.{IsPushed}
 use Rattle.kf_core.specs.Runs.{Run}
-use Rattle.kf_quiet.specs.Following.{Goes}
+use Rattle.kf_push.specs.Following.{Goes}
 
 -- columns of so many stores, whose weights go whole along the runs
 pub record CanGo (from : ℕ → List Run) (size : ℕ) (now : Joint) : Type 0 where

@@ -7,7 +7,7 @@ ghost use Rattle.kf_core.specs.Rows.{IsHyperOf};
 ghost use Rattle.kf_core.specs.Views.{program_tree};
 ghost use Rattle.kf_support.specs.Cleared.{program_of, turns_of, whole_scale};
 ghost use Rattle.kf_silent.specs.Silent.{only, silent_joint};
-ghost use Rattle.kf_quiet.specs.Meanings.{IsMeaning};
+ghost use Rattle.kf_push.specs.Meanings.{IsMeaning};
 ghost use Rattle.kf_run.specs.Before.{IsBefore, cleared_before, meant, place_before};
 ghost use Rattle.kf_run.specs.Behind.{Behind};
 
@@ -15,7 +15,7 @@ use crate::pushes::{push_all, push_one};
 use crate::stages::Stages;
 use kf_core::{Program, choice_laws, run_laws};
 use kf_hyper::{Columns, Hyper};
-use kf_quiet::about_target;
+use kf_push::about_target;
 use kf_support::Cleared;
 use kf_value::Mem;
 use std::alloc::Global;

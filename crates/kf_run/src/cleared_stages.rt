@@ -8,7 +8,7 @@ use crate::stages::Stages;
 use crate::starting::start;
 use kf_core::{choice_laws, run_laws};
 use kf_hyper::{Columns, Hyper};
-use kf_quiet::{about_target, are_columns};
+use kf_push::{about_target, are_columns};
 use kf_support::Cleared;
 use kf_value::Mem;
 use std::alloc::Global;

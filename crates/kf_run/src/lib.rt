@@ -20,7 +20,7 @@ mod ways;
 
 pub use before::Before;
 pub use kf_hyper::CountList;
-pub use kf_quiet::merge_law;
+pub use kf_push::merge_law;
 pub use laws::trail_laws;
 pub use pushes::push;
 pub use pushing::Pushing;

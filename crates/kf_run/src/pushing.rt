@@ -9,7 +9,7 @@ use crate::pushes::push;
 use crate::starting::start;
 use kf_core::{Program, choice_laws, run_laws};
 use kf_hyper::Columns;
-use kf_quiet::{Pusher, are_columns};
+use kf_push::{Pusher, are_columns};
 use kf_support::Cleared;
 use kf_value::Mem;
 use std::alloc::Global;

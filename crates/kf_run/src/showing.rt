@@ -12,7 +12,7 @@ ghost use Rattle.kf_core.specs.Views.{dx_tree};
 ghost use Rattle.kf_eval.specs.Choices.{weighted_trees};
 ghost use Rattle.kf_eval.specs.Kinds.{shape_kinds};
 ghost use Rattle.kf_eval.specs.Memos.{IsMemoOf};
-ghost use Rattle.kf_quiet.specs.Following.{Takes};
+ghost use Rattle.kf_push.specs.Following.{Takes};
 ghost use Rattle.kf_run.specs.Following.{shown_to};
 ghost use Rattle.kf_run.specs.Ways.{Adds, HasRows, leaked, shows};
 

@@ -13,7 +13,7 @@ ghost use Rattle.kf_core.specs.Views.{dx_tree};
 ghost use Rattle.kf_eval.specs.Choices.{weighted_trees};
 ghost use Rattle.kf_eval.specs.Kinds.{shape_kinds};
 ghost use Rattle.kf_eval.specs.Memos.{IsMemoOf};
-ghost use Rattle.kf_quiet.specs.Following.{Takes, observed, side};
+ghost use Rattle.kf_push.specs.Following.{Takes, observed, side};
 ghost use Rattle.kf_run.specs.Ways.{Adds, HasRows, along, sides};
 
 use crate::choosing::{chosen_in, share_of};

@@ -14,7 +14,7 @@ ghost use Rattle.kf_core.specs.Rows.{IsHyperOf};
 ghost use Rattle.kf_core.specs.Runs.{all_runs};
 ghost use Rattle.kf_core.specs.Sts.{sts};
 ghost use Rattle.kf_core.specs.Views.{program_tree};
-ghost use Rattle.kf_quiet.specs.Meanings.{Meaning, IsMeaning, AreApart, IsFinished, runs_between, store_count};
+ghost use Rattle.kf_push.specs.Meanings.{Meaning, IsMeaning, AreApart, IsFinished, runs_between, store_count};
 
 use kf_core::{choice_laws, run_laws};
 use kf_hyper::{Columns, CountList, Hyper};

@@ -12,7 +12,7 @@ ghost use Rattle.kf_core.specs.Runs.{Run, assigned, copied, leaks, silent, stay,
 ghost use Rattle.kf_core.specs.Views.{dx_tree, program_tree};
 ghost use Rattle.kf_eval.specs.Kinds.{shape_kinds};
 ghost use Rattle.kf_eval.specs.Memos.{IsMemoOf};
-ghost use Rattle.kf_quiet.specs.Following.{Goes, observed, side};
+ghost use Rattle.kf_push.specs.Following.{Goes, observed, side};
 ghost use Rattle.kf_run.specs.Following.{shown_to};
 ghost use Rattle.kf_run.specs.Spreading.{AreSpread};
 

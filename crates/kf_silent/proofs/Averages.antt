@@ -1,4 +1,4 @@
--- What silent statements leave out are traces alone: what all inners give to a value together stays, and so does the width of a gain.
+-- What silent statements leave out are traces alone: what all inners give to a value together stays.
 use Rattle.std.proofs.Common.{◌≡◌, ℕ, ◌==◌, Bool, cond, List, map, Result, Ok, Err, refl, sym, ap, ◌∙◌}
 use Rattle.std.proofs.lemmas.List.Elements.{All-map}
 use Rattle.kf_column.specs.declared.entry.Entry.{Entry}
@@ -15,9 +15,9 @@ use Rattle.kf_core.specs.Runs.{Run, Halted, all_runs, copied, declared, program_
 use Rattle.kf_core.specs.Scale.{scale_of}
 use Rattle.kf_core.specs.Sts.{sts}
 use Rattle.kf_core.proofs.Sums.{adds, adds_flat, adds_mapped, each_is, sum_is}
-use Rattle.kf_quiet.specs.Quiet.{hush, hushed}
-use Rattle.kf_quiet.proofs.RowMass.{rows_at}
-use Rattle.kf_silent.specs.Laws.{OneSilent, SilentSameAverage, SilentWidth, SomeSilent}
+use Rattle.kf_silent.specs.Quiet.{hush, hushed}
+use Rattle.kf_push.proofs.RowMass.{rows_at}
+use Rattle.kf_silent.specs.Laws.{OneSilent, SilentSameAverage, SomeSilent}
 use Rattle.kf_silent.specs.Silent.{Path, all_silent_runs, silent_joint, silent_program_runs}
 use Rattle.kf_silent.proofs.Hushing.{block_hushed, chain_hushed}
 
@@ -64,28 +64,6 @@ same_average silent turns p all left of_all of_left x =
     average_is (silent_joint silent turns p) left x of_left
     ∙ same_given (target_number p) (scale_of turns p) x (silent_program_runs silent turns p) (program_runs turns p) (program_hushed silent turns p)
     ∙ sym (average_is (joint_of turns p) all x of_all)
-
-pub same_width : SilentWidth
-same_width silent turns p g all left m of_all of_left = (
-  λ w. record {
-    average = w.average;
-    is_average = record {
-      ascending = w.is_average.ascending;
-      positive = w.is_average.positive;
-      weights = λ x. w.is_average.weights x ∙ sym (same_average silent turns p all left of_all of_left x);
-    };
-    is = w.is;
-  },
-  λ w. record {
-    average = w.average;
-    is_average = record {
-      ascending = w.is_average.ascending;
-      positive = w.is_average.positive;
-      weights = λ x. w.is_average.weights x ∙ same_average silent turns p all left of_all of_left x;
-    };
-    is = w.is;
-  },
-)
 
 pub some_silent : HypersExist → SomeSilent
 some_silent exist silent turns p = exist (silent_joint silent turns p)

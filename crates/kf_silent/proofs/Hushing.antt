@@ -8,9 +8,9 @@ use Rattle.kf_value.specs.Values.{ValueTree, truth}
 use Rattle.kf_core.specs.Choices.{Weighted, total}
 use Rattle.kf_core.specs.Runs.{Run, Tried, all_runs, assigned, branched, chain, choice_run, guarded, joined, leaks, looped, place, runs, shown, stay, tried}
 use Rattle.kf_core.specs.Sts.{StTree, StTrees, Skip, Assign, Observe, If, While, no_sts, more_sts}
-use Rattle.kf_quiet.specs.Quiet.{hush, hushed}
-use Rattle.kf_quiet.proofs.Carrying.{Runner}
-use Rattle.kf_quiet.proofs.QuietRuns.{hushed_chain, hushed_twice}
+use Rattle.kf_silent.specs.Quiet.{hush, hushed}
+use Rattle.kf_push.proofs.Carrying.{Runner}
+use Rattle.kf_silent.proofs.QuietRuns.{hushed_chain, hushed_twice}
 use Rattle.kf_silent.specs.Silent.{Path, all_silent_runs, silent_runs, unless_silent, within}
 
 -- ---- choices

@@ -8,12 +8,12 @@ use Rattle.kf_value.specs.Values.{ValueTree, truth}
 use Rattle.kf_column.proofs.AtMostOne.{In}
 use Rattle.kf_core.specs.Choices.{Weighted, total}
 use Rattle.kf_core.specs.Runs.{Run, Halted, Tried, LoopBound, branched, chain, choice_run, guarded, joined, looped, onward, shown, stay, stopped}
-use Rattle.kf_quiet.specs.Quiet.{hushed}
-use Rattle.kf_quiet.proofs.Carrying.{Runner}
-use Rattle.kf_quiet.proofs.CellWeights.{Trace}
-use Rattle.kf_quiet.proofs.QuietRuns.{hushed_splits}
-use Rattle.kf_quiet.proofs.Splitting.{Splits, stay_splits, stopped_splits}
-use Rattle.kf_quiet.proofs.TracesJoined.{same_front}
+use Rattle.kf_silent.specs.Quiet.{hushed}
+use Rattle.kf_push.proofs.Carrying.{Runner}
+use Rattle.kf_push.proofs.CellWeights.{Trace}
+use Rattle.kf_silent.proofs.QuietRuns.{hushed_splits}
+use Rattle.kf_push.proofs.Splitting.{Splits, stay_splits, stopped_splits}
+use Rattle.kf_push.proofs.TracesJoined.{same_front}
 use Rattle.kf_silent.proofs.Hushing.{SameHushed}
 
 -- a trace, and what is left of it

@@ -7,7 +7,7 @@ pub mod SilentGoes
 pub mod Leaving
 pub mod SilentLeads
 pub mod Retracing
-pub mod Worths
-pub mod Refining
 pub mod OnePath
 pub mod SilentStatement
+pub mod QuietRuns
+pub mod QuietBlock

@@ -8,8 +8,8 @@ use Rattle.kf_core.specs.Joint.{Cell, cell_of, cells, target_number}
 use Rattle.kf_core.specs.Runs.{Run, Halted}
 use Rattle.kf_core.specs.Scale.{scale_of}
 use Rattle.kf_core.proofs.Stores.{lists_decide}
-use Rattle.kf_quiet.proofs.CellWeights.{Trace}
-use Rattle.kf_quiet.proofs.Members.{ending}
+use Rattle.kf_push.proofs.CellWeights.{Trace}
+use Rattle.kf_push.proofs.Members.{ending}
 use Rattle.kf_silent.specs.Laws.{LeftOfTraces, retraced}
 use Rattle.kf_silent.specs.Silent.{silent_joint, silent_program_runs}
 use Rattle.kf_silent.proofs.Leaving.{AreLike, Decides, Left, zip_append}

@@ -16,12 +16,12 @@ use Rattle.kf_core.specs.Sts.{StTree, StTrees, sts}
 use Rattle.kf_core.specs.Support.{program_pass}
 use Rattle.kf_core.specs.SupportLaws.{CommonScaleIsLeast, ProgramAgrees, RunsChain, ScalesArePositive}
 use Rattle.kf_core.proofs.Measures.{Full}
-use Rattle.kf_quiet.specs.Following.{Goes}
-use Rattle.kf_quiet.specs.Quiet.{hushed}
-use Rattle.kf_quiet.proofs.Carrying.{Matrix, Runner}
-use Rattle.kf_quiet.proofs.Programs.{begins, runs_hyper, whole_goes, whole_on_first}
-use Rattle.kf_quiet.proofs.QuietRuns.{goes_alike, hushed_full}
-use Rattle.kf_quiet.proofs.Splitting.{splits_once}
+use Rattle.kf_push.specs.Following.{Goes}
+use Rattle.kf_silent.specs.Quiet.{hushed}
+use Rattle.kf_push.proofs.Carrying.{Matrix, Runner}
+use Rattle.kf_push.proofs.Programs.{begins, runs_hyper, whole_goes, whole_on_first}
+use Rattle.kf_silent.proofs.QuietRuns.{goes_alike, hushed_full}
+use Rattle.kf_push.proofs.Splitting.{splits_once}
 use Rattle.kf_silent.specs.Laws.{NoSilentTraceGoesOn}
 use Rattle.kf_silent.specs.Silent.{Path, all_silent_runs, silent_joint, silent_runs, within}
 use Rattle.kf_silent.proofs.Chaining.{chain_chain, stay_chain}

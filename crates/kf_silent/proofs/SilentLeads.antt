@@ -5,11 +5,11 @@ use Rattle.kf_core.specs.Dxs.{DxTree}
 use Rattle.kf_core.specs.Programs.{ProgramTree}
 use Rattle.kf_core.specs.Runs.{Run, assigned, branched, chain, copied, declared, guarded, leaks, looped, place, shown, stay, tried}
 use Rattle.kf_core.specs.Sts.{StTree, StTrees, Skip, Assign, Observe, If, While, no_sts, more_sts, sts}
-use Rattle.kf_quiet.proofs.Carrying.{Runner}
-use Rattle.kf_quiet.proofs.CellsFrom.{each_in}
-use Rattle.kf_quiet.proofs.CellWeights.{Trace}
-use Rattle.kf_quiet.proofs.Declaring.{declared_silent}
-use Rattle.kf_quiet.proofs.Splitting.{Splits, assigned_splits, guarded_splits, looped_splits, shown_splits, stay_splits}
+use Rattle.kf_push.proofs.Carrying.{Runner}
+use Rattle.kf_push.proofs.CellsFrom.{each_in}
+use Rattle.kf_push.proofs.CellWeights.{Trace}
+use Rattle.kf_push.proofs.Declaring.{declared_silent}
+use Rattle.kf_push.proofs.Splitting.{Splits, assigned_splits, guarded_splits, looped_splits, shown_splits, stay_splits}
 use Rattle.kf_silent.specs.Laws.{AreSilentToo, IsSilentAmong, IsSilentWithin}
 use Rattle.kf_silent.specs.Silent.{Path, IsAmong, IsWithin, all_silent_runs, silent_runs, within}
 use Rattle.kf_silent.proofs.Hushing.{SameHushed, block_hushed, guarded_hushed, looped_hushed}

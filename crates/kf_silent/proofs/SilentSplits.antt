@@ -4,10 +4,10 @@ use Rattle.std.specs.Prelude.{if◌then◌else◌}
 use Rattle.kf_value.specs.Types.{TypeTree}
 use Rattle.kf_core.specs.Runs.{assigned, branched, guarded, leaks, looped, place, shown, stay, tried}
 use Rattle.kf_core.specs.Sts.{StTree, StTrees, Skip, Assign, Observe, If, While, no_sts, more_sts}
-use Rattle.kf_quiet.specs.Quiet.{hushed}
-use Rattle.kf_quiet.proofs.Carrying.{Runner}
-use Rattle.kf_quiet.proofs.QuietRuns.{hushed_splits}
-use Rattle.kf_quiet.proofs.Splitting.{Splits, assigned_splits, chain_splits, guarded_splits, looped_splits, shown_splits, stay_splits}
+use Rattle.kf_silent.specs.Quiet.{hushed}
+use Rattle.kf_push.proofs.Carrying.{Runner}
+use Rattle.kf_silent.proofs.QuietRuns.{hushed_splits}
+use Rattle.kf_push.proofs.Splitting.{Splits, assigned_splits, chain_splits, guarded_splits, looped_splits, shown_splits, stay_splits}
 use Rattle.kf_silent.specs.Silent.{Path, all_silent_runs, silent_runs, unless_silent, within}
 
 module _ (from : Runner) (splits : Splits from) where

@@ -15,13 +15,13 @@ use Rattle.kf_core.specs.SupportLaws.{CommonScaleIsLeast, ProgramAgrees, RunsCha
 use Rattle.kf_core.proofs.Filled.{all_full}
 use Rattle.kf_core.proofs.Measures.{Full}
 use Rattle.kf_core.proofs.Solid.{all_solid}
-use Rattle.kf_quiet.specs.Following.{Goes}
-use Rattle.kf_quiet.specs.Meanings.{IsFinished, IsMeaning, Meaning}
-use Rattle.kf_quiet.proofs.Carrying.{Matrix, Runner, goes_behind, pushed_chain, pushed_columns}
-use Rattle.kf_quiet.proofs.Programs.{start_along, start_goes}
-use Rattle.kf_quiet.proofs.Splitting.{block_splits, splits_once}
-use Rattle.kf_quiet.proofs.Statements.{goes_first}
-use Rattle.kf_quiet.proofs.Weighing.{later_solid}
+use Rattle.kf_push.specs.Following.{Goes}
+use Rattle.kf_push.specs.Meanings.{IsFinished, IsMeaning, Meaning}
+use Rattle.kf_push.proofs.Carrying.{Matrix, Runner, goes_behind, pushed_chain, pushed_columns}
+use Rattle.kf_push.proofs.Programs.{start_along, start_goes}
+use Rattle.kf_push.proofs.Splitting.{block_splits, splits_once}
+use Rattle.kf_push.proofs.Statements.{goes_first}
+use Rattle.kf_push.proofs.Weighing.{later_solid}
 use Rattle.kf_silent.specs.Silent.{Path, all_silent_runs, silent_joint, silent_runs, within}
 use Rattle.kf_silent.proofs.OnePath.{IsAt, one_parts}
 use Rattle.kf_silent.proofs.SilentGoes.{silent_hyper, silent_whole}

@@ -1,5 +1,5 @@
 -- For bodies: laws of silent statements.
-use Rattle.std.specs.Prelude.{◌≡◌, ◌↔◌, ℕ, suc, ◌≤◌, ◌<◌, ◌⊎◌, ℤ, Bool, true, false, List, [], ◌∷◌, map}
+use Rattle.std.specs.Prelude.{◌≡◌, ℕ, suc, ◌≤◌, ◌<◌, ◌⊎◌, Bool, true, false, List, [], ◌∷◌, map}
 use Rattle.kf_value.specs.Types.{TypeTree}
 use Rattle.kf_value.specs.Values.{ValueTree}
 use Rattle.kf_column.specs.Averages.{average_weight}
@@ -8,11 +8,8 @@ use Rattle.kf_core.specs.Joint.{Cell, joint_of}
 use Rattle.kf_core.specs.Programs.{ProgramTree}
 use Rattle.kf_core.specs.Rows.{IsHyperOf}
 use Rattle.kf_core.specs.Sts.{StTree, sts}
-use Rattle.kf_gain.specs.Gains.{GainOf, TableTree}
-use Rattle.kf_gain.specs.Vulnerabilities.{IsPosterior, IsWidth}
-use Rattle.kf_gain.specs.Worth.{NoBetter}
-use Rattle.kf_quiet.specs.Merging.{SplitsOnce}
-use Rattle.kf_quiet.specs.Quiet.{quiet_joint}
+use Rattle.kf_push.specs.Merging.{SplitsOnce}
+use Rattle.kf_silent.specs.Quiet.{quiet_joint}
 use Rattle.kf_silent.specs.Silent.{Path, IsPath, all_silent_runs, only, silent_joint, within}
 
 -- the set has each outermost statement with a place in this range, and nothing that stands outside of the range
@@ -65,18 +62,6 @@ abbrev pub LeftOfTraces : Type 0
 LeftOfTraces = (silent more : Path → Bool) (turns : ℕ) (p : ProgramTree) → AreSilentToo p silent more
     → (f : List ValueTree → List ValueTree) × (silent_joint more turns p ≡ retraced f (silent_joint silent turns p))
 
--- whatever the adversary wants, no more is leaked where more is silent
-abbrev pub SilentLeaksNoMore : Type 0
-SilentLeaksNoMore = (silent more : Path → Bool) (turns : ℕ) (p : ProgramTree) (g : GainOf TableTree) (all left : List Inner) (y z : ℤ)
-    → AreSilentToo p silent more → IsHyperOf (silent_joint silent turns p) all → IsHyperOf (silent_joint more turns p) left
-    → IsPosterior g left y → IsPosterior g all z → NoBetter g y z
-
--- so no silent statement leaves more than the whole program leaks
-abbrev pub NoneLeaksMore : Type 0
-NoneLeaksMore = (silent : Path → Bool) (turns : ℕ) (p : ProgramTree) (g : GainOf TableTree) (all left : List Inner) (y z : ℤ)
-    → IsHyperOf (joint_of turns p) all → IsHyperOf (silent_joint silent turns p) left
-    → IsPosterior g left y → IsPosterior g all z → NoBetter g y z
-
 -- every program has a hyper with any statements silent
 abbrev pub SomeSilent : Type 0
 SomeSilent = (silent : Path → Bool) (turns : ℕ) (p : ProgramTree) → (inners : List Inner) × IsHyperOf (silent_joint silent turns p) inners
@@ -91,8 +76,3 @@ abbrev pub SilentSameAverage : Type 0
 SilentSameAverage = (silent : Path → Bool) (turns : ℕ) (p : ProgramTree) (all left : List Inner)
     → IsHyperOf (joint_of turns p) all → IsHyperOf (silent_joint silent turns p) left
     → (x : ℕ) → average_weight left x ≡ average_weight all x
-
--- so a gain is as wide on the one hyper as on the other
-abbrev pub SilentWidth : Type 0
-SilentWidth = (silent : Path → Bool) (turns : ℕ) (p : ProgramTree) (g : GainOf TableTree) (all left : List Inner) (m : ℕ)
-    → IsHyperOf (joint_of turns p) all → IsHyperOf (silent_joint silent turns p) left → IsWidth g all m ↔ IsWidth g left m

@@ -1,4 +1,5 @@
 -- Believed
+pub mod Quiet
 pub mod Silent
 -- For bodies
 pub mod Laws

@@ -7,7 +7,7 @@ use Rattle.kf_core.specs.Programs.{ProgramTree}
 use Rattle.kf_core.specs.Runs.{Run, assigned, branched, chain, copied, declared, guarded, leaks, looped, place, shown, stay, tried}
 use Rattle.kf_core.specs.Scale.{scale_of}
 use Rattle.kf_core.specs.Sts.{StTree, StTrees, Skip, Assign, Observe, If, While, no_sts, more_sts, sts}
-use Rattle.kf_quiet.specs.Quiet.{hushed}
+use Rattle.kf_silent.specs.Quiet.{hushed}
 
 -- where a statement stands: its place among the outermost statements, counted from 0; where it stands within that one, the block that is
 -- entered there, 0 or for `else` 1; its place in it, and so on

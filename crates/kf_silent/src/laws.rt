@@ -1,16 +1,4 @@
-ghost use Rattle.kf_silent.specs.Laws.{
-  LeftOfTraces,
-  NoSilentTraceGoesOn,
-  NoneLeaksMore,
-  NothingIsSilent,
-  OneIsQuiet,
-  OneSilent,
-  SilentIsQuiet,
-  SilentLeaksNoMore,
-  SilentSameAverage,
-  SilentWidth,
-  SomeSilent,
-};
+ghost use Rattle.kf_silent.specs.Laws.{LeftOfTraces, NoSilentTraceGoesOn, NothingIsSilent, OneIsQuiet, OneSilent, SilentIsQuiet, SilentSameAverage, SomeSilent};
 
 use kf_core::joint_laws;
 
@@ -25,16 +13,12 @@ pub fn silent_laws()
     ensures left { LeftOfTraces }
 {}
 
-/// Laws of silent hypers: every program has exactly one, whichever statements are silent; what is known before anything is seen is that of
-/// the whole program, and so a gain is as wide. Whatever the adversary wants, no more is leaked where more is silent. It does nothing when
-/// it runs.
+/// Laws of silent hypers: every program has exactly one, whichever statements are silent, and what is known before anything is seen is that of
+/// the whole program. It does nothing when it runs.
 pub fn silent_hypers()
     ensures some { SomeSilent }
     ensures only { OneSilent }
     ensures average { SilentSameAverage }
-    ensures width { SilentWidth }
-    ensures no_more { SilentLeaksNoMore }
-    ensures none_more { NoneLeaksMore }
 {
     joint_laws();
 }

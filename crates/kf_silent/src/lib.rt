@@ -1,4 +1,4 @@
-//! What would leak if statements anywhere in a program showed nothing: definitions and their laws.
+//! Programs in which a block, or statements anywhere, show nothing: definitions and their laws.
 #![tactic(auto)]
 
 mod laws;

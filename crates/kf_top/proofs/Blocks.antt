@@ -6,7 +6,7 @@ use Rattle.kf_hyper.specs.Views.{inners_of, scale_of, target_of}
 use Rattle.kf_hyper.specs.declared.hyper.Hyper.{Hyper}
 use Rattle.kf_load.specs.Views.{program_in}
 use Rattle.kf_quiet.specs.Blames.{BlameTree, AreBlames}
-use Rattle.kf_quiet.specs.Quiet.{quiet_joint}
+use Rattle.kf_silent.specs.Quiet.{quiet_joint}
 use Rattle.kf_support.specs.Cleared.{turns_of, whole_scale}
 use Rattle.kf_support.specs.declared.cleared.Cleared.{Cleared}
 use Rattle.kf_text.specs.BlameTexts.{blame_text}

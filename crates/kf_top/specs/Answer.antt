@@ -31,7 +31,7 @@ use Rattle.kf_load.specs.Steps.{Refused, Step, After, Gives, refusal}
 use Rattle.kf_load.specs.Texts.{File, TypedOf, cleared, source_of}
 use Rattle.kf_make.specs.Making.{make_source}
 use Rattle.kf_quiet.specs.Blames.{BlameTree, AreBlames}
-use Rattle.kf_quiet.specs.Quiet.{quiet_joint}
+use Rattle.kf_silent.specs.Quiet.{quiet_joint}
 use Rattle.kf_refine.specs.Refinements.{HyperTree}
 use Rattle.kf_refine.specs.Verdicts.{VerdictTree, Yes, No, IsVerdict, Proves}
 use Rattle.kf_refine.specs.declared.verdict.RefineError.{RefineError}

@@ -4,7 +4,7 @@ ghost use Rattle.std.specs.Prelude.{◌≤◌, ◌<◌, length, IfErr};
 ghost use Rattle.kf_core.specs.Scale.{scale_of};
 ghost use Rattle.kf_load.specs.Views.{program_in};
 ghost use Rattle.kf_support.specs.Cleared.{turns_of};
-ghost use Rattle.kf_quiet.specs.Quiet.{quiet_joint};
+ghost use Rattle.kf_silent.specs.Quiet.{quiet_joint};
 ghost use Rattle.kf_top.specs.Answer.{BlameOf, HyperOf};
 ghost use Rattle.kf_top.specs.Stops.{Answers, IsOwn};
 ghost use Rattle.kf_top.specs.Views.{shown};

@@ -4,7 +4,7 @@ ghost use Rattle.kf_column.specs.Columns.{IsColumn};
 
 use crate::tests::*;
 use kf_hyper::{Column, ColumnList, Columns, Entry, EntryList};
-use kf_quiet::erase;
+use kf_push::erase;
 use std::alloc::AllocError;
 use std::fmt::Write;
 

@@ -20,5 +20,5 @@ pub unreachable-requires : goal.unreachable-requires
 unreachable-requires c =
     let before = c.args.before.now in
     let hyper = c.in_ok-hyper.hyper in
-    never_wide (cleared_before before) (gain_tree c.args.g.now) c.silent_hypers.ensures.width c.requires.narrow (place_before before ∷ c.as_slice.result.now) (inners_of hyper)
+    never_wide (cleared_before before) (gain_tree c.args.g.now) c.silent_gain_laws.ensures.width c.requires.narrow (place_before before ∷ c.as_slice.result.now) (inners_of hyper)
     c.in_ok-hyper.ensures.hyper (scale_of hyper) c.in_ok-hyper.ensures.scale (c.in-Err-Wide.ensures.wide (ap Err c.in-Err-Wide.field-0-is))

@@ -6,7 +6,7 @@ use Rattle.kf_frac.specs.Parts.{IsFraction}
 use Rattle.kf_core.specs.Programs.{ProgramTree}
 use Rattle.kf_core.specs.Views.{st_items, st_tree}
 use Rattle.kf_quiet.specs.Blames.{BlameTree, IsBlame}
-use Rattle.kf_quiet.specs.Quiet.{quiet_joint}
+use Rattle.kf_silent.specs.Quiet.{quiet_joint}
 use Rattle.kf_quiet.specs.Views.{ShowBlames}
 use Rattle.kf_quiet.specs.declared.blame.Blame.{Blame}
 use Rattle.kf_quiet.proofs.Blames.{AreFirst, first_all, first_more, first_one, show_more}

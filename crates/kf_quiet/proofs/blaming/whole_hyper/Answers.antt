@@ -4,10 +4,10 @@ use Rattle.kf_hyper.specs.Views.{inners_of}
 use Rattle.kf_core.specs.Programs.{ProgramTree}
 use Rattle.kf_core.specs.Ready.{IsPushed}
 use Rattle.kf_core.specs.Views.{st_items, st_tree}
-use Rattle.kf_quiet.specs.Meanings.{IsFinished, runs_between}
-use Rattle.kf_quiet.proofs.Carrying.{Matrix, Runner}
-use Rattle.kf_quiet.proofs.Programs.{program_hyper}
-use Rattle.kf_quiet.proofs.QuietBlock.{rest_is}
+use Rattle.kf_push.specs.Meanings.{IsFinished, runs_between}
+use Rattle.kf_push.proofs.Carrying.{Matrix, Runner}
+use Rattle.kf_push.proofs.Programs.{program_hyper}
+use Rattle.kf_silent.proofs.QuietBlock.{rest_is}
 use Rattle.kf_quiet.proofs.blaming.whole_hyper.Goals as goal
 
 pub returns-clause-hyper : goal.returns-clause-hyper

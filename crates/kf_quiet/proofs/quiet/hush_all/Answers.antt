@@ -9,9 +9,9 @@ use Rattle.kf_column.specs.Shapes.{IsBelow}
 use Rattle.kf_core.specs.Pushing.{AreBehind}
 use Rattle.kf_core.specs.Ready.{IsReady}
 use Rattle.kf_core.specs.Runs.{Run}
-use Rattle.kf_quiet.specs.Meanings.{runs_between, store_count}
-use Rattle.kf_quiet.specs.Quiet.{hushed}
-use Rattle.kf_quiet.proofs.QuietBlock.{behind_more, ready_one}
+use Rattle.kf_push.specs.Meanings.{runs_between, store_count}
+use Rattle.kf_silent.specs.Quiet.{hushed}
+use Rattle.kf_silent.proofs.QuietBlock.{behind_more, ready_one}
 use Rattle.kf_quiet.proofs.quiet.hush_all.Goals as goal
 
 abbrev Matrix : Type 0

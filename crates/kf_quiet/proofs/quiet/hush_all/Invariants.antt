@@ -2,8 +2,8 @@ use Rattle.std.proofs.Common.{◌≡◌, All, take}
 use Rattle.kf_column.specs.Joint.{mass}
 use Rattle.kf_column.specs.Shapes.{IsBelow}
 use Rattle.kf_core.specs.Pushing.{AreBehind}
-use Rattle.kf_quiet.specs.Meanings.{runs_between, store_count}
-use Rattle.kf_quiet.specs.Quiet.{hushed}
+use Rattle.kf_push.specs.Meanings.{runs_between, store_count}
+use Rattle.kf_silent.specs.Quiet.{hushed}
 use Rattle.kf_quiet.proofs.quiet.hush_all.Given as goal
 
 abbrev pub invariant-loop-column : goal.invariant-loop-column

@@ -4,8 +4,8 @@ use Rattle.kf_column.specs.Columns.{IsColumn}
 use Rattle.kf_column.specs.Joint.{Joint, mass}
 use Rattle.kf_column.proofs.Scaling.{total_positive}
 use Rattle.kf_core.specs.Ready.{IsPushed}
-use Rattle.kf_quiet.specs.Meanings.{runs_between}
-use Rattle.kf_quiet.proofs.QuietRuns.{sum_behind}
+use Rattle.kf_push.specs.Meanings.{runs_between}
+use Rattle.kf_silent.proofs.QuietRuns.{sum_behind}
 use Rattle.kf_quiet.proofs.quiet.hush_one.Goals as goal
 
 abbrev Matrix : Type 0

@@ -5,8 +5,8 @@ use Rattle.kf_hyper.specs.Views.{inners_of}
 use Rattle.kf_core.specs.Programs.{ProgramTree}
 use Rattle.kf_core.specs.Ready.{IsPushed}
 use Rattle.kf_core.specs.Views.{st_items, st_tree}
-use Rattle.kf_quiet.specs.Meanings.{IsFinished, runs_between}
-use Rattle.kf_quiet.proofs.QuietBlock.{quiet_finished, rest_ready}
+use Rattle.kf_push.specs.Meanings.{IsFinished, runs_between}
+use Rattle.kf_silent.proofs.QuietBlock.{quiet_finished, rest_ready}
 use Rattle.kf_quiet.proofs.quiet.quiet_hyper.Goals as goal
 
 abbrev Matrix : Type 0

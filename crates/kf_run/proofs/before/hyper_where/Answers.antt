@@ -1,5 +1,5 @@
 use Rattle.kf_hyper.specs.Views.{inners_of}
-use Rattle.kf_quiet.proofs.Carrying.{pushed_again}
+use Rattle.kf_push.proofs.Carrying.{pushed_again}
 use Rattle.kf_run.proofs.SilentPrograms as silent
 use Rattle.kf_run.proofs.before.hyper_where.Goals as goal
 

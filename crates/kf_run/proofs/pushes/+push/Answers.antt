@@ -14,10 +14,10 @@ use Rattle.kf_core.specs.Views.{dx_tree, st_tree, st_items}
 use Rattle.kf_core.proofs.Solid.{dist_filled}
 use Rattle.kf_core.proofs.SoundParts as sound
 use Rattle.kf_eval.specs.Kinds.{shape_kinds}
-use Rattle.kf_quiet.specs.Erased.{IsErased}
-use Rattle.kf_quiet.specs.Following.{Goes, side}
-use Rattle.kf_quiet.specs.Quiet.{hushed}
-use Rattle.kf_quiet.proofs.Carrying.{Runner, Matrix, pushed_again, pushed_stay}
+use Rattle.kf_push.specs.Erased.{IsErased}
+use Rattle.kf_push.specs.Following.{Goes, side}
+use Rattle.kf_silent.specs.Quiet.{hushed}
+use Rattle.kf_push.proofs.Carrying.{Runner, Matrix, pushed_again, pushed_stay}
 use Rattle.kf_silent.specs.Silent.{within}
 use Rattle.kf_run.specs.Going.{CanGo, HasGone}
 use Rattle.kf_run.specs.Silence.{silent_at}

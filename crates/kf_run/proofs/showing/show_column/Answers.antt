@@ -4,7 +4,7 @@ use Rattle.kf_run.specs.declared.ways.Leak.{Leak}
 use Rattle.kf_value.specs.Shapes.{shape_size, shape_types}
 use Rattle.kf_column.specs.declared.entry.Entry.{Entry}
 use Rattle.kf_core.specs.Views.{dx_tree}
-use Rattle.kf_quiet.specs.Following.{Takes}
+use Rattle.kf_push.specs.Following.{Takes}
 use Rattle.kf_run.specs.Following.{shown_to}
 use Rattle.kf_run.proofs.Sharing.{at_entry, leaks_positive, shared_all, shared_next}
 use Rattle.kf_run.proofs.showing.show_column.Goals as goal

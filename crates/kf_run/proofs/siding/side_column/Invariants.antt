@@ -4,7 +4,7 @@ use Rattle.kf_value.specs.Values.{Truth}
 use Rattle.kf_column.specs.Shapes.{IsBelow}
 use Rattle.kf_core.specs.Runs.{tried}
 use Rattle.kf_core.specs.Views.{dx_tree}
-use Rattle.kf_quiet.specs.Following.{side}
+use Rattle.kf_push.specs.Following.{side}
 use Rattle.kf_eval.specs.Memos.{IsMemoOf}
 use Rattle.kf_run.specs.Ways.{IsShared, along}
 use Rattle.kf_run.proofs.siding.side_column.Given as goal

@@ -6,7 +6,7 @@ use Rattle.kf_core.specs.Choices.{total}
 use Rattle.kf_core.specs.Runs.{shown, stay, tried}
 use Rattle.kf_core.specs.Views.{dx_tree}
 use Rattle.kf_eval.specs.Choices.{weighted_trees}
-use Rattle.kf_quiet.specs.Following.{side}
+use Rattle.kf_push.specs.Following.{side}
 use Rattle.kf_run.specs.Ways.{IsShared, sides}
 use Rattle.kf_run.proofs.Sharing.{chosen_at, clear, share_fits, sides_divide, sides_shared}
 use Rattle.kf_run.proofs.siding.side_entry.Goals as goal

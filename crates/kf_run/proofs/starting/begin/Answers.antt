@@ -2,7 +2,7 @@ use Rattle.std.proofs.Common.{◌<◌, ℕ, sym, subst, arith}
 use Rattle.kf_core.specs.Views.{program_tree}
 use Rattle.kf_core.proofs.SoundParts.{decl_kinded}
 use Rattle.kf_run.proofs.Declarations.{declared_first, declaration_goes, declaration_done, begun_at_start, begun_ready}
-use Rattle.kf_quiet.proofs.Programs.{whole_some}
+use Rattle.kf_push.proofs.Programs.{whole_some}
 use Rattle.kf_run.proofs.starting.begin.Goals as goal
 
 pub first-requires-clause-some : goal.first-requires-clause-some

@@ -4,7 +4,7 @@ use Rattle.kf_value.specs.Shapes.{shape_types}
 use Rattle.kf_core.specs.Ready.{IsPushed}
 use Rattle.kf_core.specs.Runs.{assigned, leaks}
 use Rattle.kf_core.specs.Views.{dx_tree}
-use Rattle.kf_quiet.specs.Following.{Goes}
+use Rattle.kf_push.specs.Following.{Goes}
 use Rattle.kf_run.proofs.steps.assignment.Goals as goal
 
 pub show-requires-clause-goes : goal.show-requires-clause-goes

@@ -6,7 +6,7 @@ use Rattle.std.proofs.Common.{true, false}
 use Rattle.kf_core.specs.Runs.{Run, tried}
 use Rattle.kf_core.specs.Views.{dx_tree}
 use Rattle.kf_core.proofs.Solid.{dist_filled}
-use Rattle.kf_quiet.specs.Following.{Takes, observed, side}
+use Rattle.kf_push.specs.Following.{Takes, observed, side}
 use Rattle.kf_run.proofs.Parting.{both_mass}
 use Rattle.kf_run.proofs.Spread.{column_fits, column_has, spread_all, spread_joint, spread_more, spread_none}
 use Rattle.kf_run.proofs.steps.guard.Goals as goal

@@ -2,7 +2,7 @@ use Rattle.std.proofs.Common.{true, false, take}
 use Rattle.kf_value.specs.Shapes.{shape_size, shape_types}
 use Rattle.kf_core.specs.Runs.{tried}
 use Rattle.kf_core.specs.Views.{dx_tree}
-use Rattle.kf_quiet.specs.Following.{side}
+use Rattle.kf_push.specs.Following.{side}
 use Rattle.kf_eval.specs.Memos.{IsMemoOf}
 use Rattle.kf_run.specs.Spreading.{AreSpread}
 use Rattle.kf_run.proofs.steps.guard.Given as goal

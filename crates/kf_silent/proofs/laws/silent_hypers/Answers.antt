@@ -1,13 +1,5 @@
-use Rattle.kf_silent.proofs.Averages.{one_silent, same_average, same_width, some_silent}
-use Rattle.kf_silent.proofs.Refining.{leaks_no_more, none_leaks_more}
+use Rattle.kf_silent.proofs.Averages.{one_silent, same_average, some_silent}
 use Rattle.kf_silent.proofs.laws.silent_hypers.Goals as goal
 
 pub returns : goal.returns
-returns c = record {
-  some = some_silent c.joint_laws.ensures.hyper;
-  only = one_silent c.joint_laws.ensures.one_hyper;
-  average = same_average;
-  width = same_width;
-  no_more = leaks_no_more;
-  none_more = none_leaks_more;
-}
+returns c = record { some = some_silent c.joint_laws.ensures.hyper; only = one_silent c.joint_laws.ensures.one_hyper; average = same_average }

@@ -38,8 +38,8 @@ use Rattle.kf_simplex.specs.declared.outcome.Outcome.TheVariants as outcome
 use Rattle.kf_simplex.proofs.Signs.{product_monotone, cancel_le}
 use Rattle.kf_refine.specs.Equations.{cells_of}
 use Rattle.kf_refine.specs.Refinements.{HyperTree, Fraction, count}
-use Rattle.kf_refine.specs.Shapes.{IsWritable, IsWritableAction}
-use Rattle.kf_refine.specs.Verdicts.{No, Runs, IsMatrixOf, IsTableOf, IsActionOf, action_at, multiplier}
+use Rattle.kf_cert.specs.Shapes.{IsWritable, IsWritableAction}
+use Rattle.kf_refine.specs.Verdicts.{VerdictTree, Yes, No, IsVerdict, Runs, IsMatrixOf, IsTableOf, IsActionOf, action_at, multiplier}
 use Rattle.kf_refine.specs.Views.{IsProper}
 use Rattle.kf_refine.proofs.Spreading.{pair_below}
 use Rattle.kf_cert.specs.Views.{IsLowest, IsPrintable, IsPrintableMatrix}
@@ -258,7 +258,7 @@ module _ (a b : HyperTree) (pivots : ℕ) (ys : List ℤ) (t : TableTree) (is_a 
 
   -- ---- so it can be written
 
-  writable : IsWritable a.target (No t)
+  pub writable : IsWritable a.target (No t)
   writable = All-from_get_or (IsWritableAction a.target) t.actions (record { name = []; gains = [] }) each
     where
       each : (j : ℕ) → j < length t.actions → IsWritableAction a.target (action_at t.actions j)
@@ -287,3 +287,8 @@ module _ (a b : HyperTree) (pivots : ℕ) (ys : List ℤ) (t : TableTree) (is_a 
 
   pub table_printable : All (λ z. pos 0 ≤ℤ z) (gains_of t) → IsPrintable a.target (No t)
   table_printable none_negative = (shaped none_negative, writable)
+
+-- what the run answers can be written
+pub verdicts_writable : (a b : HyperTree) (pivots : ℕ) (v : VerdictTree) → IsProper a → IsProper b → IsVerdict a b pivots (Ok v) → IsWritable a.target v
+verdicts_writable a b pivots (Yes rows) is_a is_b is = tt
+verdicts_writable a b pivots (No t) is_a is_b (multipliers, run, table) = writable a b pivots multipliers t is_a is_b run table

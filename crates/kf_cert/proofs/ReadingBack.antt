@@ -14,7 +14,7 @@ use Rattle.kf_json.proofs.Viewing.{json_read}
 use Rattle.kf_gain.specs.declared.table.Action.{Action}
 use Rattle.kf_gain.specs.declared.table.GainEntry.{GainEntry}
 use Rattle.kf_gain.specs.Gains.{TableTree}
-use Rattle.kf_refine.specs.Shapes.{IsWritable, IsWritableAction}
+use Rattle.kf_cert.specs.Shapes.{IsWritable, IsWritableAction}
 use Rattle.kf_refine.specs.Verdicts.{VerdictTree}
 use Rattle.kf_refine.specs.Verdicts as verdict
 use Rattle.kf_cert.specs.Certificates.{CertTree, EntryTree, NamedTree, cert_in}

@@ -16,7 +16,7 @@ use Rattle.kf_gain.specs.declared.table.GainEntry.{GainEntry}
 use Rattle.kf_gain.specs.Gains.{TableTree}
 use Rattle.kf_gain.specs.Shapes.{IsTableShape}
 use Rattle.kf_refine.specs.Refinements.{Fraction}
-use Rattle.kf_refine.specs.Shapes.{IsWritable, IsWritableAction}
+use Rattle.kf_cert.specs.Shapes.{IsWritable, IsWritableAction}
 use Rattle.kf_refine.specs.Verdicts.{VerdictTree}
 use Rattle.kf_refine.specs.Verdicts as verdict
 use Rattle.kf_cert.specs.Numbers.{whole_said}

@@ -5,7 +5,7 @@ use Rattle.std.proofs.lemmas.List.Elements.{All-nil, All-cons}
 use Rattle.kf_frac.specs.declared.frac.Frac.{Frac}
 use Rattle.kf_frac.proofs.LowestTerms.{reduced_num_same, reduced_den_same}
 use Rattle.kf_value.specs.Targets.{Item}
-use Rattle.kf_refine.specs.Shapes.{IsWritable}
+use Rattle.kf_cert.specs.Shapes.{IsWritable}
 use Rattle.kf_refine.specs.Views.{fraction_of, verdict_tree}
 use Rattle.kf_refine.specs.declared.verdict.Verdict.{Verdict}
 use Rattle.kf_refine.specs.declared.verdict.Verdict.TheVariants as verdict

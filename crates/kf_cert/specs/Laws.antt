@@ -9,6 +9,7 @@ use Rattle.kf_refine.specs.Views.{IsProper}
 use Rattle.kf_cert.specs.Certificates.{CertTree, Yes, Named, No, NamedTable, NamedTree, cert_of, matrix_of}
 use Rattle.kf_cert.specs.CertTexts.{cert_text, named_of}
 use Rattle.kf_cert.specs.Marks.{IsMarked, IsSeparating, NamesValues, denominator, width}
+use Rattle.kf_cert.specs.Shapes.{IsWritable}
 use Rattle.kf_cert.specs.Views.{read_back, IsLowest, IsPrintable, IsSound}
 use Rattle.kf_cert.specs.declared.mark.Mark.{Mark}
 use Rattle.kf_cert.specs.declared.mark.Mark.TheVariants.{Accepted}
@@ -51,6 +52,10 @@ SomeMark = (a b : HyperTree) (c : CertTree) → IsProper a → IsProper b → a.
 -- and only one
 abbrev pub OneMark : Type 0
 OneMark = (a b : HyperTree) (c : CertTree) (r q : Result Mark CheckError) → IsMarked a b c r → IsMarked a b c q → r ≡ q
+
+-- what the run answers can be written
+abbrev pub VerdictsWritable : Type 0
+VerdictsWritable = (a b : HyperTree) (pivots : ℕ) (v : VerdictTree) → IsProper a → IsProper b → IsVerdict a b pivots (Ok v) → IsWritable a.target v
 
 -- what is written of a verdict is read back
 abbrev pub ReadsBack : Type 0

@@ -11,3 +11,4 @@ pub mod Naming
 pub mod Reading
 pub mod Rows
 pub mod Views
+pub mod Shapes

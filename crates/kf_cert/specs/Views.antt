@@ -7,7 +7,7 @@ use Rattle.kf_gain.specs.Shapes.{IsTableShape}
 use Rattle.kf_refine.specs.Refinements.{Fraction}
 use Rattle.kf_refine.specs.Verdicts.{VerdictTree}
 use Rattle.kf_refine.specs.Verdicts as verdict
-use Rattle.kf_refine.specs.Shapes.{IsWritable}
+use Rattle.kf_cert.specs.Shapes.{IsWritable}
 use Rattle.kf_refine.specs.Views.{fraction_of, matrix_tree}
 use Rattle.kf_cert.specs.Certificates.{CertTree, Yes, Named, No, EntryTree, NamedTable, NamedTree, is_in_order}
 use Rattle.kf_cert.specs.CertTexts.{named_of, widest}

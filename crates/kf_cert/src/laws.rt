@@ -1,6 +1,6 @@
 //! Laws of the definitions, each a clause of a function that does nothing.
 
-ghost use Rattle.kf_cert.specs.Laws.{AcceptedShows, CarryingAccepted, NamedAccepted, NamesAll, OneMark, ReadSound, ReadsBack, SeparatingAccepted, SomeMark, WrittenAccepted};
+ghost use Rattle.kf_cert.specs.Laws.{AcceptedShows, CarryingAccepted, NamedAccepted, NamesAll, OneMark, ReadSound, ReadsBack, SeparatingAccepted, SomeMark, VerdictsWritable, WrittenAccepted};
 
 use kf_value::text_laws;
 
@@ -11,6 +11,7 @@ pub fn cert_laws()
     ensures carrying { CarryingAccepted }
     ensures named { NamedAccepted }
     ensures separating { SeparatingAccepted }
+    ensures writable { VerdictsWritable }
     ensures reads_back { ReadsBack }
     ensures written { WrittenAccepted }
     ensures read_sound { ReadSound }

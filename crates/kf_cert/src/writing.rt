@@ -8,7 +8,7 @@ ghost use Rattle.kf_value.specs.Targets.{target_value_text};
 ghost use Rattle.kf_value.specs.Views.{items_of};
 ghost use Rattle.kf_frac.specs.Views.{num_of};
 ghost use Rattle.kf_gain.specs.Views.{table_tree};
-ghost use Rattle.kf_refine.specs.Shapes.{IsWritable, IsWritableAction};
+ghost use Rattle.kf_cert.specs.Shapes.{IsWritable, IsWritableAction};
 ghost use Rattle.kf_refine.specs.Views.{fraction_of, matrix_tree, verdict_tree};
 ghost use Rattle.kf_cert.specs.Certificates.{cert_of};
 ghost use Rattle.kf_cert.specs.CertTexts.{action_data, cert_data, cert_text, entry_data, gain_data, named_data, named_of, no_data, row_entries, rows_entries, widest as widest_of};

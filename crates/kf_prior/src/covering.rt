@@ -3,7 +3,6 @@
 ghost use Rattle.std.specs.Prelude.{◌≡◌, ◌≢◌, ◌*◌, ◌+◌, ◌≤◌, ℕ, List, length, Err, IfOk, IfErr};
 ghost use Rattle.kf_value.specs.Numbers.{target_size};
 ghost use Rattle.kf_hyper.specs.Views.{target_of};
-ghost use Rattle.kf_refine.specs.Shapes.{IsWritable};
 ghost use Rattle.kf_refine.specs.Verdicts.{IsVerdict, Proves};
 ghost use Rattle.kf_refine.specs.Views.{hyper_tree, verdict_tree};
 ghost use Rattle.kf_prior.specs.Covering.{HoldsAtEachPrior};
@@ -29,7 +28,6 @@ pub fn covers(
     ensures at_each_prior { IfOk result (λ v. HoldsAtEachPrior stores (hyper_tree a.now) (hyper_tree b.now) (verdict_tree v)) }
     ensures is { IfOk result (λ v. IsVerdict (hyper_tree a.now) (hyper_tree b.now) pivots (Ok (verdict_tree v))) }
     ensures proves { IfOk result (λ v. Proves (hyper_tree a.now) (hyper_tree b.now) (verdict_tree v)) }
-    ensures writable { IfOk result (λ v. IsWritable (target_of a.now) (verdict_tree v)) }
     ensures err { IfErr result (λ e. e ≢ error.Mem → IsVerdict (hyper_tree a.now) (hyper_tree b.now) pivots (Err e)) }
 {
     refine(alloc, a, b, pivots)

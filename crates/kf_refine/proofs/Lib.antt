@@ -28,4 +28,3 @@ pub mod Tabling
 pub mod Totals
 pub mod VerdictParts
 mod Walking
-pub mod Writable

@@ -6,5 +6,4 @@ pub mod Verdicts
 pub mod Built
 pub mod Laws
 pub mod Rows
-pub mod Shapes
 pub mod Views

@@ -7,7 +7,6 @@ ghost use Rattle.kf_simplex.specs.Views.{linear};
 ghost use Rattle.kf_refine.specs.declared.verdict.RefineError.TheVariants as error;
 ghost use Rattle.kf_refine.specs.Equations.{AreEquations, AreKept, cells_of};
 ghost use Rattle.kf_refine.specs.Refinements.{count};
-ghost use Rattle.kf_refine.specs.Shapes.{IsWritable};
 ghost use Rattle.kf_refine.specs.Verdicts.{IsVerdict, Proves};
 ghost use Rattle.kf_refine.specs.Views.{hyper_tree, verdict_tree};
 
@@ -35,7 +34,6 @@ const MOST_CELLS: u128 = 4_000_000;
 pub fn refine(alloc: Global, a: &Hyper, b: &Hyper, pivots: u32) -> Result<Verdict, RefineError>
     ensures is { IfOk result (λ v. IsVerdict (hyper_tree a.now) (hyper_tree b.now) pivots (Ok (verdict_tree v))) }
     ensures proves { IfOk result (λ v. Proves (hyper_tree a.now) (hyper_tree b.now) (verdict_tree v)) }
-    ensures writable { IfOk result (λ v. IsWritable (target_of a.now) (verdict_tree v)) }
     ensures err { IfErr result (λ e. e ≢ error.Mem → IsVerdict (hyper_tree a.now) (hyper_tree b.now) pivots (Err e)) }
     ensures enough { (kept : List ℕ) → AreKept (hyper_tree a.now) (hyper_tree b.now) kept
         → ways (count (hyper_tree a.now) * count (hyper_tree b.now) + (length kept * count (hyper_tree b.now) + count (hyper_tree a.now)))
@@ -50,7 +48,6 @@ pub fn refine(alloc: Global, a: &Hyper, b: &Hyper, pivots: u32) -> Result<Verdic
 // The same, without what the laws say of it.
 fn decide(alloc: Global, a: &Hyper, b: &Hyper, pivots: u32) -> Result<Verdict, RefineError>
     ensures is { IfOk result (λ v. IsVerdict (hyper_tree a.now) (hyper_tree b.now) pivots (Ok (verdict_tree v))) }
-    ensures writable { IfOk result (λ v. IsWritable (target_of a.now) (verdict_tree v)) }
     ensures err { IfErr result (λ e. e ≢ error.Mem → IsVerdict (hyper_tree a.now) (hyper_tree b.now) pivots (Err e)) }
 {
     if !same_target(a.target(), b.target()) {
@@ -79,7 +76,6 @@ fn run(
     requires few { cells_of (length kept.now) (count (hyper_tree a.now)) (count (hyper_tree b.now)) ≤ 4000000 }
     requires equations { (e : AreEquations (hyper_tree a.now) (hyper_tree b.now) (linear system.now)) × (e.values ≡ kept.now) }
     ensures is { IfOk result (λ v. IsVerdict (hyper_tree a.now) (hyper_tree b.now) pivots (Ok (verdict_tree v))) }
-    ensures writable { IfOk result (λ v. IsWritable (target_of a.now) (verdict_tree v)) }
     ensures err { IfErr result (λ e. e ≢ error.Mem → IsVerdict (hyper_tree a.now) (hyper_tree b.now) pivots (Err e)) }
 {
     match solve(alloc, system, pivots) {

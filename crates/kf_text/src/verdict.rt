@@ -3,7 +3,7 @@ ghost use Rattle.std.specs.Fmt.{signed_decimal};
 ghost use Rattle.kf_value.specs.Numbers.{target_size};
 ghost use Rattle.kf_value.specs.Views.{items_of};
 ghost use Rattle.kf_gain.specs.Views.{table_tree};
-ghost use Rattle.kf_refine.specs.Shapes.{IsWritable, IsWritableAction};
+ghost use Rattle.kf_cert.specs.Shapes.{IsWritable, IsWritableAction};
 ghost use Rattle.kf_refine.specs.Verdicts.{Yes, No};
 ghost use Rattle.kf_refine.specs.Views.{fraction_of, matrix_tree, verdict_tree};
 ghost use Rattle.kf_text.specs.Texts.{line};

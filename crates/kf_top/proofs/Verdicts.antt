@@ -9,7 +9,6 @@ use Rattle.kf_hyper.specs.Views.{inners_of, scale_of, target_of}
 use Rattle.kf_hyper.specs.declared.hyper.Hyper.{Hyper}
 use Rattle.kf_load.specs.Views.{program_in}
 use Rattle.kf_refine.specs.Refinements.{HyperTree}
-use Rattle.kf_refine.specs.Shapes.{IsWritable}
 use Rattle.kf_refine.specs.Verdicts.{IsVerdict, Proves, VerdictTree}
 use Rattle.kf_refine.specs.Views.{hyper_tree, verdict_tree}
 use Rattle.kf_refine.specs.declared.verdict.Verdict.{Verdict}
@@ -21,6 +20,7 @@ use Rattle.kf_cert.specs.Marks.{IsMarked}
 use Rattle.kf_cert.specs.declared.mark.Mark.{Mark}
 use Rattle.kf_cert.specs.declared.mark.CheckError.{CheckError}
 use Rattle.kf_cert.specs.declared.mark.CheckError.TheVariants as check
+use Rattle.kf_cert.proofs.Printable.{verdicts_writable}
 use Rattle.kf_text.specs.VerdictTexts.{verdict_text}
 use Rattle.kf_support.specs.Cleared.{turns_of, whole_scale}
 use Rattle.kf_support.specs.declared.cleared.Cleared.{Cleared}
@@ -58,9 +58,13 @@ its_verdict hypers given v same is = subst (λ (t : Result Verdict RefineError).
 pub is_verdict_on : (hypers : Hypers) (given : Result Verdict RefineError)
     → IfOk given (λ v. IsVerdict (hyper_tree hypers.a) (hyper_tree hypers.b) most_pivots (Ok (verdict_tree v)))
     → IfOk given (λ v. Proves (hyper_tree hypers.a) (hyper_tree hypers.b) (verdict_tree v))
-    → IfOk given (λ v. IsWritable (target_of hypers.a) (verdict_tree v)) → IfOk given (IsVerdictOn hypers)
-is_verdict_on hypers (Ok v) is proves writable = record { is = is; proves = proves; writable = writable }
-is_verdict_on hypers (Err e) is proves writable = tt
+    → IfOk given (IsVerdictOn hypers)
+is_verdict_on hypers (Ok v) is proves = record {
+  is = is;
+  proves = proves;
+  writable = verdicts_writable (hyper_tree hypers.a) (hyper_tree hypers.b) most_pivots (verdict_tree v) hypers.a.shape hypers.b.shape is;
+}
+is_verdict_on hypers (Err e) is proves = tt
 
 -- the verdict on the hypers of two programs is that on them
 pub on_hypers : (json : Bool) (turns : ℕ) (p q : ProgramTree) (a b : HyperTree) → AreHypers turns p q a b → (r : Result Done Stop)

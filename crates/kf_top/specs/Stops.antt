@@ -13,7 +13,7 @@ use Rattle.kf_prior.specs.FullSources.{full_source}
 use Rattle.kf_load.specs.declared.refusal.Refusal.TheVariants as load_refusal
 use Rattle.kf_load.specs.declared.refusal.Stop as load_code
 use Rattle.kf_load.specs.declared.refusal.Stop.TheVariants as load_stop
-use Rattle.kf_refine.specs.Shapes.{IsWritable}
+use Rattle.kf_cert.specs.Shapes.{IsWritable}
 use Rattle.kf_refine.specs.Verdicts.{IsVerdict, Proves}
 use Rattle.kf_refine.specs.Views.{hyper_tree, verdict_tree}
 use Rattle.kf_refine.specs.declared.verdict.Verdict.{Verdict}

@@ -8,7 +8,7 @@ ghost use Rattle.kf_cert.specs.Views.{cert_tree, IsSound};
 ghost use Rattle.kf_load.specs.Steps.{After, Gives};
 ghost use Rattle.kf_load.specs.Views.{program_in};
 ghost use Rattle.kf_refine.specs.Refinements.{HyperTree};
-ghost use Rattle.kf_refine.specs.Shapes.{IsWritable};
+ghost use Rattle.kf_cert.specs.Shapes.{IsWritable};
 ghost use Rattle.kf_refine.specs.Verdicts.{IsVerdict};
 ghost use Rattle.kf_refine.specs.Views.{hyper_tree, verdict_tree};
 ghost use Rattle.kf_refine.specs.declared.verdict.RefineError.TheVariants as errors;

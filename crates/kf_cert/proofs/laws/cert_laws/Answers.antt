@@ -1,6 +1,7 @@
 use Rattle.kf_cert.proofs.Accepting.{accepted_shows, carrying_accepted, named_accepted, separating_accepted}
 use Rattle.kf_cert.proofs.Formed.{read_sound}
 use Rattle.kf_cert.proofs.NamedRows.{names_all}
+use Rattle.kf_cert.proofs.Printable.{verdicts_writable}
 use Rattle.kf_cert.proofs.Proclaiming.{written}
 use Rattle.kf_cert.proofs.ReadingBack.{reads_back}
 use Rattle.kf_cert.proofs.laws.cert_laws.Goals as goal
@@ -16,6 +17,9 @@ returns-clause-named c = named_accepted
 
 pub returns-clause-separating : goal.returns-clause-separating
 returns-clause-separating c = separating_accepted
+
+pub returns-clause-writable : goal.returns-clause-writable
+returns-clause-writable c = verdicts_writable
 
 pub returns-clause-reads_back : goal.returns-clause-reads_back
 returns-clause-reads_back c = reads_back

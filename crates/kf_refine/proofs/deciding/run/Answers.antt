@@ -1,8 +1,7 @@
-use Rattle.std.proofs.Common.{sym, arith}
+use Rattle.std.proofs.Common.{sym}
 use Rattle.kf_simplex.specs.Views.{linear}
 use Rattle.kf_refine.proofs.Multiplying.{some_inner, some_multiplier, some_place}
 use Rattle.kf_refine.proofs.VerdictParts.{matrix_of, run_of, table_of}
-use Rattle.kf_refine.proofs.Writable.{writable_table}
 use Rattle.kf_refine.specs.Views.{hyper_tree}
 use Rattle.kf_refine.proofs.deciding.run.Goals as goal
 
@@ -29,11 +28,6 @@ returns-in_ok-table-in-Ok-Multipliers-clause-is c =
       run.0,
       table_of _ c.args.kept.now _ _ _ _ (sym run.1) c.count-in-Ok-Multipliers.ensures c.in_ok-table-in-Ok-Multipliers.ensures,
     )
-
-pub returns-in_ok-table-in-Ok-Multipliers-clause-writable : goal.returns-in_ok-table-in-Ok-Multipliers-clause-writable
-returns-in_ok-table-in-Ok-Multipliers-clause-writable c =
-    writable_table (hyper_tree c.args.a.now) (hyper_tree c.args.b.now) c.args.kept.now c.count-in-Ok-Multipliers.result c.in-Ok-Multipliers.multipliers _
-    (omega arith) c.requires.targets c.args.a.now.shape c.args.b.now.shape c.requires.kept c.in_ok-table-in-Ok-Multipliers.ensures
 
 pub returns-in-Err-Wide-clause-err : goal.returns-in-Err-Wide-clause-err
 returns-in-Err-Wide-clause-err c = λ other.

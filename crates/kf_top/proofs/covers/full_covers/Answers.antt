@@ -37,7 +37,7 @@ covers-verdict-requires-clause-second c =
     ap target_size (same ∙ c.in_ok-hypers.ensures.first.target) ∙ c.full_laws.ensures.square p c.requires.first ∙ (λ i. stores i * stores i)
 
 pub printed_verdict-requires-clause-ok : goal.printed_verdict-requires-clause-ok
-printed_verdict-requires-clause-ok c = is_verdict_on c.in_ok-hypers.hypers c.covers-verdict.result c.covers-verdict.ensures.is c.covers-verdict.ensures.proves c.covers-verdict.ensures.writable
+printed_verdict-requires-clause-ok c = is_verdict_on c.in_ok-hypers.hypers c.covers-verdict.result c.covers-verdict.ensures.is c.covers-verdict.ensures.proves
 
 pub returns-clause-answer : goal.returns-clause-answer
 returns-clause-answer c =

@@ -6,7 +6,7 @@ use Rattle.kf_top.proofs.verdict.refine.Goals as goal
 
 pub printed_verdict-requires-clause-ok : goal.printed_verdict-requires-clause-ok
 printed_verdict-requires-clause-ok c =
-    is_verdict_on c.in_ok-hypers.hypers c.refine-verdict.result c.refine-verdict.ensures.is c.refine-verdict.ensures.proves c.refine-verdict.ensures.writable
+    is_verdict_on c.in_ok-hypers.hypers c.refine-verdict.result c.refine-verdict.ensures.is c.refine-verdict.ensures.proves
 
 pub returns-clause-answer : goal.returns-clause-answer
 returns-clause-answer c =

@@ -9,7 +9,7 @@ ghost use Rattle.kf_attack.specs.Inners.{IsShownBest, cost_of};
 ghost use Rattle.kf_attack.specs.Views.{ShowsValue};
 
 use crate::fractions::fraction;
-use crate::ranking::ranked;
+use crate::guess_order::ranked;
 use crate::{Attack, Best, WeighedValue, WeighedValueList};
 use kf_frac::share;
 use kf_hyper::Entry;

@@ -2,18 +2,18 @@
 #![tactic(auto)]
 
 mod attack;
-mod attacking;
+mod best;
 mod fractions;
+mod guess_order;
 mod guesses;
 mod law;
-mod ranking;
+mod least_tries;
 mod reach;
-mod reaching;
 mod scores;
 mod tries;
 
 pub use attack::{Attack, AttackList, Best, Score, ScoreList, WeighedValue, WeighedValueList};
-pub use attacking::attack_of;
+pub use best::attack_of;
 pub use law::{attack_laws, reach_laws};
+pub use least_tries::reach_of;
 pub use reach::Reach;
-pub use reaching::reach_of;

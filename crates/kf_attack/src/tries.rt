@@ -5,7 +5,7 @@ ghost use Rattle.kf_column.specs.Columns.{total};
 ghost use Rattle.kf_hyper.specs.Views.{entry_at, inner_at, inners_of, scale_of};
 ghost use Rattle.kf_attack.specs.Positions.{AreGains};
 
-use crate::ranking::ranked;
+use crate::guess_order::ranked;
 use kf_hyper::{Entry, Hyper};
 use kf_value::Mem;
 use std::alloc::Global;

@@ -2,28 +2,28 @@
 #![tactic(auto)]
 
 mod capacities;
-mod cascading;
-mod choosing;
+mod channel_grid;
 mod column;
 mod error;
 mod grid;
 mod law;
-mod making;
 mod multiples;
-mod pairing;
+mod pairs;
 mod places;
 mod product;
 mod secrets;
+mod series;
 mod values;
+mod visible_choice;
 
 pub use capacities::capacity;
-pub use cascading::cascade;
-pub use choosing::choice;
+pub use channel_grid::grid_of;
 pub use error::{CascadeFault, ChoiceFault, GridFault, ParallelFault};
 pub use grid::Grid;
 pub use law::{capacity_laws, composition_laws, grid_laws};
-pub use making::grid_of;
-pub use pairing::parallel;
+pub use pairs::parallel;
+pub use series::cascade;
+pub use visible_choice::choice;
 
 /// The greatest number that a grid may hold.
 const LIMIT: u128 = i128::MAX as u128;

@@ -3,11 +3,11 @@
 #![tactic(auto)]
 
 mod cases;
-mod comparing;
+mod comparison;
 mod content;
 mod errors;
 mod keys;
-mod running;
+mod runs;
 mod tally;
 
 use crate::tally::Tally;
@@ -22,7 +22,7 @@ fn run_all(rt: &(impl Env + Files + Print + AllocGlobal)) -> io::Result<Tally> {
     let mut tally = Tally::new();
     for name in env::args(rt)?.skip(1) {
         match read_whole(rt.alloc(), &mut files, name.as_str()) {
-            Ok(bytes) => comparing::try_file(rt, name.as_str(), &bytes, &mut tally)?,
+            Ok(bytes) => comparison::try_file(rt, name.as_str(), &bytes, &mut tally)?,
             Err(_) => {
                 tally.count(false);
                 println!(rt; "{name}: the file can't be read")?;

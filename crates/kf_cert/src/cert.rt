@@ -166,7 +166,7 @@ pub enum CertError {
 }
 
 impl From<JsonError> for CertError {
-    ghost use Rattle.kf_json.specs.declared.parsing.JsonError.TheVariants as json;
+    ghost use Rattle.kf_json.specs.declared.parser.JsonError.TheVariants as json;
     ghost use Rattle.kf_cert.specs.declared.cert.CertError.TheVariants as broken;
 
     ghost from_gives = { λ found e. elim found [ json.Malformed ↦ e ≡ broken.Json | json.Mem ↦ e ≡ broken.Mem ] };

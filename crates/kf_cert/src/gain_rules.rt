@@ -15,7 +15,7 @@ ghost use Rattle.kf_refine.specs.Views.{hyper_tree};
 ghost use Rattle.kf_value.specs.Targets.{Item};
 
 mod excess;
-mod numbering;
+mod numbers;
 mod posterior;
 mod sums;
 
@@ -23,7 +23,7 @@ use crate::{CertGain, CheckError, Mark, Rule};
 use kf_frac::{Frac, cmp};
 use kf_gain::{Action, ActionList, Gain, GainFault, GainTable};
 use kf_hyper::Hyper;
-use numbering::actions;
+use numbers::actions;
 use posterior::posterior;
 use std::alloc::Global;
 use std::cmp::Ordering;

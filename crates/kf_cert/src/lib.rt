@@ -2,7 +2,7 @@
 #![tactic(auto)]
 
 mod cert;
-mod checking;
+mod checker;
 mod forms;
 mod gain_rules;
 mod laws;
@@ -10,15 +10,15 @@ mod mark;
 mod matrix_rules;
 mod numerals;
 mod places;
-mod reading;
-mod writing;
+mod reader;
+mod writer;
 
 pub use cert::{
     Cert, CertAction, CertActionList, CertEntry, CertEntryList, CertError, CertGain, NamedEntry,
     NamedEntryList, NamedMatrix,
 };
-pub use checking::check_cert;
+pub use checker::check_cert;
 pub use laws::{cert_laws, mark_laws};
 pub use mark::{CheckError, Mark, Rule};
-pub use reading::read_cert;
-pub use writing::write_cert;
+pub use reader::read_cert;
+pub use writer::write_cert;

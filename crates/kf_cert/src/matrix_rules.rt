@@ -10,10 +10,10 @@ ghost use Rattle.kf_refine.specs.Refinements.{IsShaped};
 ghost use Rattle.kf_refine.specs.Views.{hyper_tree, matrix_tree, fraction_of};
 
 mod cells;
-mod gathering;
 mod row_entries;
 mod shares;
 mod sums;
+mod weights;
 
 use crate::{CheckError, Mark, NamedEntry, NamedMatrix, Rule};
 use cells::carries;

@@ -22,7 +22,7 @@ pub struct Channel {
     pub ghost channel: { IsChannel (target_size (map item_of target.items)) (map table_row rows) secrets } by { Prim.hlevel props },
 }
 
-mod making;
+mod of_table;
 mod readers;
 
-pub use making::channel_of;
+pub use of_table::channel_of;

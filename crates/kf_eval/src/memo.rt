@@ -14,8 +14,8 @@ ghost use Rattle.kf_eval.specs.Memos.{IsChosen, number_in};
 ghost use Rattle.kf_eval.specs.Reads.{span};
 
 use crate::choice::{Choice, ChoiceError, Weighted};
-use crate::choosing::choices_in;
-use crate::reading::slots_read;
+use crate::outcomes::choices_in;
+use crate::read_slots::slots_read;
 use kf_core::{Dx, choice_laws};
 use kf_value::{Mem, Shape, store_laws};
 use std::alloc::Global;

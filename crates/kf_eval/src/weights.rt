@@ -19,7 +19,7 @@ ghost use Rattle.kf_eval.specs.Kinds.{IsKinded, shape_kinds};
 
 use crate::choice::{ChoiceError, Weighted};
 use crate::evaluation::eval;
-use crate::gathering::{add, in_lowest_terms};
+use crate::weighted::{add, in_lowest_terms};
 use kf_core::{DxCase, Ex};
 use kf_value::{Shape, Value};
 use std::alloc::Global;

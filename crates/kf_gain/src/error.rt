@@ -23,7 +23,7 @@ pub enum TableError {
 
 impl From<JsonError> for TableError {
     ghost use Rattle.std.specs.Prelude.{◌≡◌};
-    ghost use Rattle.kf_json.specs.declared.parsing.JsonError.TheVariants as json;
+    ghost use Rattle.kf_json.specs.declared.parser.JsonError.TheVariants as json;
     ghost use Rattle.kf_gain.specs.declared.error.TableError.TheVariants as broken;
 
     ghost from_gives = { λ found e. elim found [ json.Malformed ↦ e ≡ broken.Json | json.Mem ↦ e ≡ broken.Mem ] };

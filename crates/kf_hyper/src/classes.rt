@@ -12,7 +12,7 @@ ghost use Rattle.kf_hyper.specs.ClassViews.{class_of};
 
 use crate::Column;
 use crate::class::Class;
-use crate::reducing::reduced;
+use crate::reduction::reduced;
 use kf_value::Mem;
 use std::alloc::Global;
 use std::cmp::Ordering;

@@ -7,7 +7,7 @@ ghost use Rattle.kf_column.specs.Shapes.{IsBelow};
 ghost use Rattle.kf_column.specs.Joint.{mass};
 ghost use Rattle.kf_column.specs.Projection.{at_places, projected as projected_store, weight_through};
 
-use crate::adding::gathered;
+use crate::unsorted::gathered;
 use crate::{Column, ColumnList, Columns, Entry};
 use kf_value::{Mem, Shape, SlotList};
 use std::alloc::Global;

@@ -5,7 +5,7 @@ ghost use Rattle.kf_value.specs.TypeViews.{item_of};
 ghost use Rattle.kf_hyper.specs.Tables.{IsTable, table_row};
 
 use crate::Column;
-use crate::adding::{gathered, push_times};
+use crate::unsorted::{gathered, push_times};
 use kf_value::{Mem, Target, ValueList};
 use std::alloc::Global;
 use std::marker::Model;

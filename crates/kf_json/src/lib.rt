@@ -2,11 +2,11 @@
 #![tactic(auto)]
 
 mod names;
-mod parsing;
+mod parser;
 mod texts;
 mod values;
 
 pub use names::is_name;
-pub use parsing::{JsonError, parse};
+pub use parser::{JsonError, parse};
 pub use texts::are_distinct;
 pub use values::{has_keys, is_list, is_text, is_the_text, members, text, whole, whole_or_zero};

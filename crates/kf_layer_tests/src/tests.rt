@@ -5,14 +5,14 @@ ghost use Rattle.kf_core.specs.Checked.{IsChecked};
 ghost use Rattle.kf_check.specs.Laws.{IsWellBuilt};
 
 mod choices;
+mod erasure;
 mod full_sources;
-mod lexing;
-mod making;
+mod lexer;
+mod make;
 mod memos;
 mod operators;
-mod parsing;
+mod parser;
 mod programs;
-mod quieting;
 mod values;
 
 use kf_ast::Source;

@@ -2,9 +2,9 @@
 #![tactic(auto)]
 
 mod laws;
-mod making;
+mod source;
 mod unrefused;
 
 pub use laws::made_laws;
-pub use making::make_source;
+pub use source::make_source;
 pub use unrefused::made;

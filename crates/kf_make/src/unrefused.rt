@@ -7,7 +7,7 @@ ghost use Rattle.kf_support.specs.Cleared.{program_of, turns_of};
 ghost use Rattle.kf_make.specs.Made.{made_program};
 
 use crate::laws::made_laws;
-use crate::making::make_source;
+use crate::source::make_source;
 use kf_check::type_laws;
 use kf_lex::one_reading;
 use kf_load::{Stop, Text, cleared_text, text_of_bytes};

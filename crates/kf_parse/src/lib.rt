@@ -11,7 +11,7 @@ mod exprs;
 mod kept;
 mod laws;
 mod operators;
-mod parsing;
+mod parser;
 mod sources;
 mod stmts;
 mod stop;
@@ -19,4 +19,4 @@ mod types;
 
 pub use errors::ParseError;
 pub use laws::{grammar, operator_tokens, refusals};
-pub use parsing::parse;
+pub use parser::parse;

@@ -11,7 +11,7 @@ ghost use Rattle.kf_prior.specs.Priors.{initial_count};
 ghost use Rattle.kf_prior.specs.declared.error.FullError.TheVariants as error;
 
 use crate::FullError;
-use crate::declaring::{full_decls, full_target};
+use crate::declarations::{full_decls, full_target};
 use kf_ast::Source;
 use kf_check::type_laws;
 use kf_core::Program;

@@ -1,12 +1,12 @@
 //! Columns pushed through a program's outermost statements, the law that merging them commutes with running, and what stands at the end.
 #![tactic(auto)]
 
-mod erasing;
-mod finishing;
+mod end;
+mod erasure;
 mod laws;
 mod pusher;
 
-pub use erasing::{alone, erase, sum_of};
-pub use finishing::{about_target, are_columns};
+pub use end::{about_target, are_columns};
+pub use erasure::{alone, erase, sum_of};
 pub use laws::merge_law;
 pub use pusher::Pusher;

@@ -2,12 +2,12 @@
 #![tactic(auto)]
 
 mod blame;
-mod blaming;
 mod laws;
 mod quiet;
+mod statements;
 
 pub use blame::{Blame, BlameList};
-pub use blaming::blame_of;
 pub use kf_push::{Pusher, merge_law};
 pub use laws::{blame_laws, quiet_laws, silent_gain_laws};
 pub use quiet::quiet_hyper;
+pub use statements::blame_of;

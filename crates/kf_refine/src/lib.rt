@@ -2,7 +2,7 @@
 #![tactic(auto)]
 
 mod cells;
-mod deciding;
+mod decision;
 mod equations;
 mod kept;
 mod laws;
@@ -11,6 +11,6 @@ mod multipliers;
 mod scalings;
 mod verdict;
 
-pub use deciding::refine;
+pub use decision::refine;
 pub use laws::{one_verdict, refine_laws, verdict_laws};
 pub use verdict::{FracRowList, Matrix, RefineError, Verdict};

@@ -16,7 +16,7 @@ use Rattle.kf_column.specs.declared.entry.Entry.{Entry}
 use Rattle.kf_column.specs.Traces.{trace_order}
 use Rattle.kf_run.specs.Groups.{AreGroupsOf, Ascend, value_in, ways_in}
 use Rattle.kf_run.specs.Ways.{Way, along}
-use Rattle.kf_run.specs.declared.grouping.Group.{Group}
+use Rattle.kf_run.specs.declared.leak_groups.Group.{Group}
 
 -- ---- a list with one element changed, or one more
 

@@ -5,7 +5,7 @@ use Rattle.std.specs.declared.cmp.Ordering.TheVariants.{Less}
 use Rattle.kf_value.specs.Values.{ValueTree, order}
 use Rattle.kf_value.specs.Views.{value_tree}
 use Rattle.kf_run.specs.Ways.{Way, along}
-use Rattle.kf_run.specs.declared.grouping.Group.{Group}
+use Rattle.kf_run.specs.declared.leak_groups.Group.{Group}
 
 -- the value of a group, and the ways of its leaks
 abbrev pub value_in : Group → ValueTree

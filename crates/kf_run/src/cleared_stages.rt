@@ -3,9 +3,9 @@
 ghost use Rattle.kf_core.specs.Views.{program_tree};
 ghost use Rattle.kf_support.specs.Cleared.{program_of, turns_of, whole_scale};
 
+use crate::first_columns::start;
 use crate::pushes::push_at;
 use crate::stages::Stages;
-use crate::starting::start;
 use kf_core::{choice_laws, run_laws};
 use kf_hyper::{Columns, Hyper};
 use kf_push::{about_target, are_columns};

@@ -1,28 +1,28 @@
 //! A cleared program run on whole hypers: columns of one posterior are added up behind each statement.
 #![tactic(auto)]
 
+mod assigned;
 mod before;
-mod choosing;
+mod choices;
 mod cleared_stages;
-mod grouping;
+mod column_spread;
+mod first_columns;
+mod guards;
 mod laws;
-mod moving;
+mod leak_groups;
+mod observation;
+mod pusher;
 mod pushes;
-mod pushing;
-mod showing;
-mod siding;
 mod silence;
-mod spreading;
 mod stages;
-mod starting;
 mod steps;
 mod ways;
 
 pub use before::Before;
+pub use first_columns::start;
 pub use kf_hyper::CountList;
 pub use kf_push::merge_law;
 pub use laws::trail_laws;
+pub use pusher::Pushing;
 pub use pushes::push;
-pub use pushing::Pushing;
 pub use stages::{Stages, hyper_of, trail};
-pub use starting::start;

@@ -16,9 +16,9 @@ ghost use Rattle.kf_push.specs.Following.{Goes, observed, side};
 ghost use Rattle.kf_run.specs.Following.{shown_to};
 ghost use Rattle.kf_run.specs.Spreading.{AreSpread};
 
-use crate::moving::{copy_column, move_column};
-use crate::showing::show_column;
-use crate::siding::side_column;
+use crate::assigned::{copy_column, move_column};
+use crate::guards::side_column;
+use crate::observation::show_column;
 use kf_core::{Dx, Program};
 use kf_eval::Memo;
 use kf_hyper::{Column, ColumnList, Columns, merge_owned};

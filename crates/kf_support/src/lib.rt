@@ -2,16 +2,16 @@
 #![tactic(auto)]
 
 mod cleared;
-mod clearing;
 mod faults;
 mod laws;
 mod moves;
 mod passes;
 mod steps;
+mod support;
 mod ways;
 
 pub use cleared::Cleared;
-pub use clearing::clear;
 pub use faults::{Halt, RunFault};
 pub use moves::{copied_store, moved, store_behind};
 pub use steps::chosen_in;
+pub use support::clear;

@@ -10,8 +10,8 @@ ghost use Rattle.kf_hyper.specs.Sums.{summed, ArePositive, Gains};
 ghost use Rattle.kf_hyper.specs.Views.{inners_of, inner_at, scale_of};
 ghost use Rattle.kf_refine.specs.Views.{hyper_tree};
 
-use super::gathering::{add_all, entries_of};
 use super::shares::{Share, in_column};
+use super::weights::{add_all, entries_of};
 use kf_frac::Product;
 use kf_hyper::{Entry, Hyper};
 use kf_value::Mem;

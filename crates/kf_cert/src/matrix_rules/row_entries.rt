@@ -6,7 +6,7 @@ ghost use Rattle.kf_cert.specs.Rows.{row_tree, rows_tree};
 ghost use Rattle.kf_cert.specs.Views.{entry_tree};
 
 use crate::NamedEntry;
-use crate::writing::is_zero;
+use crate::writer::is_zero;
 use kf_frac::Frac;
 use kf_simplex::FracList;
 use kf_value::Mem;

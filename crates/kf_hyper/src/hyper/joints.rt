@@ -7,7 +7,7 @@ ghost use Rattle.kf_hyper.specs.Views.{inners_of, inner_at, scale_of, target_of}
 
 use super::Hyper;
 use crate::Column;
-use crate::adding::{gathered, push_times};
+use crate::unsorted::{gathered, push_times};
 use kf_frac::quotient;
 use kf_value::Mem;
 use std::alloc::Global;

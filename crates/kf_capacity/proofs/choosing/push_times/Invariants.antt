@@ -1,6 +1,0 @@
-use Rattle.std.proofs.Common.{◌≡◌, ◌++◌, map, drop}
-use Rattle.kf_capacity.specs.Compositions.{times}
-use Rattle.kf_capacity.proofs.choosing.push_times.Given as goal
-
-abbrev pub invariant-loop-column : goal.invariant-loop-column
-invariant-loop-column l = l.made.items ++ map (times l.factor) (drop l.column-index l.columns) ≡ l.initial.made.items ++ map (times l.factor) l.columns

@@ -1,6 +1,0 @@
-use Rattle.std.proofs.Common.{◌≡◌, ◌++◌}
-use Rattle.kf_hyper.specs.Sums.{summed}
-use Rattle.kf_cert.proofs.matrix_rules.gathering.entries_of.Given as goal
-
-abbrev pub invariant-loop-value : goal.invariant-loop-value
-invariant-loop-value l = l.entries.items ++ summed l.value-iterator ≡ summed l.fn.sums.entries

@@ -1,0 +1,34 @@
+use Rattle.std.proofs.Common.{map}
+use Rattle.kf_refine.specs.Views.{fraction_of}
+use Rattle.kf_cert.specs.Certificates.{row_said}
+use Rattle.kf_cert.specs.Reading.{reads_row}
+use Rattle.std.proofs.Common.{◌∙◌, ap, codes}
+use Rattle.std.proofs.lemmas.Result.{err_from_is_err_and}
+use Rattle.serde_json.specs.View.{view}
+use Rattle.kf_json.specs.Json.{members}
+use Rattle.kf_json.proofs.Viewing.{seen_at}
+use Rattle.kf_cert.proofs.Gathered.{gathers_first, gathers_more, gathers_all, gathers_fails}
+use Rattle.kf_cert.proofs.reader.content.matrix.Goals as goal
+
+pub loop-value-init : goal.loop-value-init
+loop-value-init c = gathers_first row_said (map fraction_of) reads_row c.members-value-items.result.now _ c.new-made.ensures.items
+
+pub returns-in_err-row-clause-err : goal.returns-in_err-row-clause-err
+returns-in_err-row-clause-err c =
+    let p = err_from_is_err_and c.from_residual.result c.from_residual.ensures.1 in
+    rw p.1
+    (gathers_fails row_said (map fraction_of) reads_row c.members-value-items.result.now c.loop-value.value-index c.loop-value.made.items c.loop-value.invariant _ (c.members-value-items.ensures ∙ ap members (seen_at (codes "matrix") (view c.args.cert.now) _ c.get.ensures))
+    c.value-item.result _ _ c.loop-value-test.true c.value-item.is p.2 (λ other. c.in_err-row.ensures.err other))
+
+pub loop-value-preserved : goal.loop-value-preserved
+loop-value-preserved c =
+    gathers_more row_said (map fraction_of) reads_row c.members-value-items.result.now c.loop-value.value-index c.loop-value.made.items c.loop-value.invariant
+    c.value-item.result _ _ c.loop-value-test.true c.value-item.is c.in_ok-row.ensures.ok c.in_ok-row.ensures.reads c.in_ok-push.ensures.items
+
+pub returns-clause-ok : goal.returns-clause-ok
+returns-clause-ok c =
+    ap (map (map fraction_of)) c.new.ensures ∙ (gathers_all row_said (map fraction_of) reads_row c.members-value-items.result.now c.loop-value.value-index c.loop-value.made.items c.loop-value.invariant _ (c.members-value-items.ensures ∙ ap members (seen_at (codes "matrix") (view c.args.cert.now) _ c.get.ensures)) c.loop-value-test.false).0
+
+pub returns-clause-reads : goal.returns-clause-reads
+returns-clause-reads c =
+    (gathers_all row_said (map fraction_of) reads_row c.members-value-items.result.now c.loop-value.value-index c.loop-value.made.items c.loop-value.invariant _ (c.members-value-items.ensures ∙ ap members (seen_at (codes "matrix") (view c.args.cert.now) _ c.get.ensures)) c.loop-value-test.false).1

@@ -1,5 +1,0 @@
-use Rattle.std.proofs.Common.{◌≡◌, map, take}
-use Rattle.kf_run.proofs.spreading.entries_of.Given as goal
-
-abbrev pub invariant-loop-leak : goal.invariant-loop-leak
-invariant-loop-leak l = l.entries.items ≡ map (λ m. record { value = m.to; weight = m.weight }) (take l.leak-index l.leaks)

@@ -14,32 +14,9 @@ use Rattle.kf_words.specs.Jobs.{HasTurns}
 use Rattle.kf_words.specs.Laws.{TasksInRange}
 use Rattle.kf_words.specs.Numbers.{around, block_of, in_range, is_numeral, number_of, numeral_of, pair_of, probability_of, ratio_of, threshold_of}
 use Rattle.kf_words.specs.Task.{Command, Cascade, Parallel, Choice, Hyper, Traces, Channel, Trail, Capacity, Compose, Leak, Attack, Reach, Make, Refine, Check, Covers, Quiet, Blame, Task, CommandRow, but_last, check_row, commands, files_only, first_of, last_of, make_row, observations_of, on_files, options_fit, others_of, refine_row, row_of, row_task, task_of_arguments, task_of_values, turns_of, with_gain, with_pair}
+use Rattle.kf_words.proofs.Numerals.{both}
+use Rattle.kf_words.proofs.TaskRanges.{given, mapped, passed, tested}
 use Rattle.kf_meaning.specs.Tasks.{EachTaskCanBeAsked, IsFor, IsGain}
-
--- ---- what an option holds
-
-given : {X Y : Type 0} (next : X → Option Y) (o : Option X) (y : Y) → option_and_then next o ≡ Some y → (x : X) × (o ≡ Some x) × (next x ≡ Some y)
-given next None y is = absurd (cc)
-given next (Some x) y is = (x, refl, is)
-
-mapped : {X Y : Type 0} (f : X → Y) (o : Option X) (y : Y) → option_map f o ≡ Some y → (x : X) × (o ≡ Some x) × (f x ≡ y)
-mapped f None y is = absurd (cc)
-mapped f (Some x) y is = (x, refl, (cc))
-
-tested : {Y : Type 0} (b : Bool) (o : Option Y) (y : Y) → (if b then o else None) ≡ Some y → (b ≡ true) × (o ≡ Some y)
-tested true o y is = (refl, is)
-tested false o y is = absurd (cc)
-
-passed : {X : Type 0} (b : Bool) (x y : X) (P : X → Type 0) → (if b then Some x else None) ≡ Some y → (b ≡ true → P x) → P y
-passed b x y P is has =
-    let t = tested b (Some x) y is in
-    let same : x ≡ y = cc in
-    subst P same (has t.0)
-
-both : (a b : Bool) → (a && b) ≡ true → (a ≡ true) × (b ≡ true)
-both true true h = (refl, refl)
-both true false h = absurd (true≢false (sym h))
-both false b h = absurd (true≢false (sym h))
 
 -- ---- numbers
 

@@ -20,33 +20,20 @@ use Rattle.kf_gain.specs.Worth.{IsVulnerability, NoBetter}
 use Rattle.kf_gain.proofs.Adding.{ArePairs, averaged, the_average, totals}
 use Rattle.kf_gain.proofs.Losing.{nothing_is_lost}
 use Rattle.kf_gain.proofs.Measures.{one, scales}
+use Rattle.kf_quiet.proofs.Worths.{no_better_both, nothing_better}
 use Rattle.kf_simplex.specs.Base.{total}
 use Rattle.kf_simplex.proofs.Sums.{total-ext, total-scale, total-scale_right, total-swap}
 
 -- ---- no better
 
 module _ (g : GainOf TableTree) where
-  by_gain : (P : GainOf TableTree → Type 0) → P Bayes → ((k : ℕ) → P (Tries k)) → P Guessing → ((t : TableTree) → P (Table t)) → (h : GainOf TableTree) → P h
-  by_gain P b k s t Bayes = b
-  by_gain P b k s t (Tries n) = k n
-  by_gain P b k s t Guessing = s
-  by_gain P b k s t (Table u) = t u
-
-  no_better_both : (a b c d : ℤ) → NoBetter g a b → NoBetter g c d → NoBetter g (a +ℤ c) (b +ℤ d)
-  no_better_both a b c d =
-      by_gain (λ h. NoBetter h a b → NoBetter h c d → NoBetter h (a +ℤ c) (b +ℤ d)) (λ p q. omega (arith, ints, p, q)) (λ k p q. omega (arith, ints, p, q))
-      (λ p q. omega (arith, ints, p, q)) (λ t p q. omega (arith, ints, p, q)) g
-
-  nothing_better : NoBetter g (pos 0) (pos 0)
-  nothing_better = by_gain (λ h. NoBetter h (pos 0) (pos 0)) (omega (arith, ints)) (λ k. omega (arith, ints)) (omega (arith, ints)) (λ t. omega (arith, ints)) g
-
   pub of_nothing : (y z : ℤ) → y ≡ pos 0 → z ≡ pos 0 → NoBetter g y z
-  of_nothing y z no_y no_z = subst (λ (u : ℤ). NoBetter g u z) (sym no_y) (subst (NoBetter g (pos 0)) (sym no_z) nothing_better)
+  of_nothing y z no_y no_z = subst (λ (u : ℤ). NoBetter g u z) (sym no_y) (subst (NoBetter g (pos 0)) (sym no_z) (nothing_better g))
 
   total_no_better : (n : ℕ) (f h : ℕ → ℤ) → ((k : ℕ) → k < n → NoBetter g (f k) (h k)) → NoBetter g (total n f) (total n h)
-  total_no_better zero f h each = nothing_better
+  total_no_better zero f h each = nothing_better g
   total_no_better (suc n) f h each =
-      no_better_both (total n f) (total n h) (f n) (h n) (total_no_better n f h (λ (k : ℕ) (l : k < n). each k (omega arith))) (each n (omega arith))
+      no_better_both g (total n f) (total n h) (f n) (h n) (total_no_better n f h (λ (k : ℕ) (l : k < n). each k (omega arith))) (each n (omega arith))
 
 -- a number that isn't negative
 as_natural : (z : ℤ) → pos 0 ≤ℤ z → z ≡ pos (unsigned_abs z)

@@ -76,18 +76,18 @@ worth_same f h (x ∷ xs) e = let here = e.0 in let others = worth_same f h xs e
 -- ---- no better
 
 module _ (g : GainOf TableTree) where
-  by_gain : (P : GainOf TableTree → Type 0) → P Bayes → ((k : ℕ) → P (Tries k)) → P Guessing → ((t : TableTree) → P (Table t)) → (h : GainOf TableTree) → P h
+  pub by_gain : (P : GainOf TableTree → Type 0) → P Bayes → ((k : ℕ) → P (Tries k)) → P Guessing → ((t : TableTree) → P (Table t)) → (h : GainOf TableTree) → P h
   by_gain P b k s t Bayes = b
   by_gain P b k s t (Tries n) = k n
   by_gain P b k s t Guessing = s
   by_gain P b k s t (Table u) = t u
 
-  no_better_both : (a b c d : ℤ) → NoBetter g a b → NoBetter g c d → NoBetter g (a +ℤ c) (b +ℤ d)
+  pub no_better_both : (a b c d : ℤ) → NoBetter g a b → NoBetter g c d → NoBetter g (a +ℤ c) (b +ℤ d)
   no_better_both a b c d =
       by_gain (λ h. NoBetter h a b → NoBetter h c d → NoBetter h (a +ℤ c) (b +ℤ d)) (λ p q. omega (arith, ints, p, q)) (λ k p q. omega (arith, ints, p, q))
       (λ p q. omega (arith, ints, p, q)) (λ t p q. omega (arith, ints, p, q)) g
 
-  nothing_better : NoBetter g (pos 0) (pos 0)
+  pub nothing_better : NoBetter g (pos 0) (pos 0)
   nothing_better = by_gain (λ h. NoBetter h (pos 0) (pos 0)) (omega (arith, ints)) (λ k. omega (arith, ints)) (omega (arith, ints)) (λ t. omega (arith, ints)) g
 
   all_no_better : {Y : Type 0} (f h : Y → ℤ) (ys : List Y) → Each (λ y. NoBetter g (f y) (h y)) ys → NoBetter g (worth f ys) (worth h ys)

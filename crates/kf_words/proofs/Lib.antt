@@ -1,5 +1,5 @@
 mod GainNames
 mod Matches
-mod Numerals
+pub mod Numerals
 mod TableRows
-mod TaskRanges
+pub mod TaskRanges

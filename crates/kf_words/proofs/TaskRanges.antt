@@ -14,22 +14,22 @@ use Rattle.kf_words.proofs.Numerals.{both}
 
 -- ---- what an option holds
 
-given : {X Y : Type 0} (next : X → Option Y) (o : Option X) (y : Y) → option_and_then next o ≡ Some y → (x : X) × (o ≡ Some x) × (next x ≡ Some y)
+pub given : {X Y : Type 0} (next : X → Option Y) (o : Option X) (y : Y) → option_and_then next o ≡ Some y → (x : X) × (o ≡ Some x) × (next x ≡ Some y)
 given next None y is = absurd (cc)
 given next (Some x) y is = (x, refl, is)
 
-mapped : {X Y : Type 0} (f : X → Y) (o : Option X) (y : Y) → option_map f o ≡ Some y → (x : X) × (o ≡ Some x) × (f x ≡ y)
+pub mapped : {X Y : Type 0} (f : X → Y) (o : Option X) (y : Y) → option_map f o ≡ Some y → (x : X) × (o ≡ Some x) × (f x ≡ y)
 mapped f None y is = absurd (cc)
 mapped f (Some x) y is = (x, refl, (cc))
 
-tested : {Y : Type 0} (b : Bool) (o : Option Y) (y : Y) → (if b then o else None) ≡ Some y → (b ≡ true) × (o ≡ Some y)
+pub tested : {Y : Type 0} (b : Bool) (o : Option Y) (y : Y) → (if b then o else None) ≡ Some y → (b ≡ true) × (o ≡ Some y)
 tested true o y is = (refl, is)
 tested false o y is = absurd (cc)
 
 -- ---- numbers
 
 -- a number that passed its test
-passed : {X : Type 0} (b : Bool) (x y : X) (P : X → Type 0) → (if b then Some x else None) ≡ Some y → (b ≡ true → P x) → P y
+pub passed : {X : Type 0} (b : Bool) (x y : X) (P : X → Type 0) → (if b then Some x else None) ≡ Some y → (b ≡ true → P x) → P y
 passed b x y P is has =
     let t = tested b (Some x) y is in
     let same : x ≡ y = cc in

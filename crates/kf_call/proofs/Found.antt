@@ -1,5 +1,5 @@
 -- What a read gives of a file that is there.
-use Rattle.std.proofs.Common.{◌≡◌, ◌≢◌, ℕ, ◌<◌, ◌≤◌, inr, Bool, Result, Ok, Err, IfOk, IsErr, List, [], length, position, None, Some, Option, refl, sym, ◌∙◌, subst, ⊎_elim, slice_get, arith}
+use Rattle.std.proofs.Common.{◌≡◌, ◌≢◌, ℕ, ◌<◌, inr, Bool, Result, Ok, Err, IfOk, IsErr, List, [], length, position, None, Some, Option, refl, sym, ◌∙◌, subst, ⊎_elim, arith}
 use Rattle.std.proofs.lemmas.Bool.Decides.{nat_tests}
 use Rattle.std.proofs.lemmas.List.Folds.{find_at}
 use Rattle.std.proofs.lemmas.Option.{slice_get_cases}

@@ -1,5 +1,5 @@
 -- For bodies: the rules on the entries of a matrix, and the entries as whole numbers over their one denominator.
-use Rattle.std.specs.Prelude.{◌≡◌, ℕ, ◌*◌, ◌/◌, ◌<◌, ◌==◌, All, ℤ, pos, ◌≤ℤ◌, unsigned_abs, List, map, sum_by, if◌then◌else◌}
+use Rattle.std.specs.Prelude.{◌≡◌, ℕ, ◌*◌, ◌/◌, ◌<◌, ◌==◌, All, pos, ◌≤ℤ◌, unsigned_abs, List, map, sum_by, if◌then◌else◌}
 use Rattle.kf_frac.specs.declared.frac.Frac.{Frac}
 use Rattle.kf_refine.specs.Refinements.{HyperTree, Fraction, count}
 use Rattle.kf_refine.specs.Views.{fraction_of}

@@ -5,7 +5,7 @@ use Rattle.kf_value.specs.declared.ty.TyFault.{TyFault}
 use Rattle.kf_value.specs.Numbers.{target_size}
 use Rattle.kf_value.specs.Sizes.{HasSize, fault_of, size_of}
 use Rattle.kf_value.specs.Targets.{Item}
-use Rattle.kf_value.specs.Types.{TypeTree, count, product}
+use Rattle.kf_value.specs.Types.{TypeTree, count}
 use Rattle.kf_value.proofs.ListLemmas.{each_append, each_at, each_map}
 use Rattle.kf_ast.specs.Names.{name}
 use Rattle.kf_ast.specs.Sources.{DeclTree, declared, ItemTree, SourceTree}

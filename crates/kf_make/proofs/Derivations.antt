@@ -15,7 +15,7 @@ use Rattle.kf_ast.specs.Dists.{Choose, UniformRange, dist_at}
 use Rattle.kf_ast.specs.Sources.{DeclTree, declared}
 use Rattle.kf_ast.specs.Stmts.{StmtTree, Observe, stmt_at}
 use Rattle.kf_parse.specs.Operators.{IsBetween}
-use Rattle.kf_parse.specs.Grammar.{IsName, IsNumber, IsSign, IsWord, named, E, Operand, Case, Dist}
+use Rattle.kf_parse.specs.Grammar.{IsName, IsNumber, IsWord, E, Operand}
 use Rattle.kf_parse.specs.Grammar as g
 use Rattle.kf_parse.specs.Programs.{Declaration, IsProgram, Statement, Statements}
 use Rattle.kf_parse.specs.Programs as p

@@ -1,5 +1,5 @@
 -- Whatever task words ask for is one that can be asked for by words of its own.
-use Rattle.std.proofs.Common.{◌≡◌, ℕ, suc, ◌+◌, ◌<◌, ◌≤◌, ◌^◌, ◌==◌, ◌&&◌, nat_le, leb-true, true≢false, Bool, true, false, List, [], ◌∷◌, length, drop, find, nat_eq, codes, Option, None, Some, refl, sym, subst, arith, if◌then◌else◌, option_map, option_and_then}
+use Rattle.std.proofs.Common.{◌≡◌, ℕ, suc, ◌+◌, ◌<◌, ◌≤◌, ◌^◌, ◌==◌, ◌&&◌, nat_le, leb-true, Bool, true, false, List, [], ◌∷◌, length, drop, find, nat_eq, codes, Option, None, Some, refl, subst, arith, if◌then◌else◌, option_map, option_and_then}
 use Rattle.std.specs.Char.{is_ascii_digit, digit_value}
 use Rattle.std.specs.List.{list_all, starts_with, AllByRecursion as Every}
 use Rattle.std.specs.Str.{bytes_eq}

@@ -2,7 +2,7 @@
 use Rattle.std.proofs.Common.{◌≡◌, ℕ, zero, suc, ◌*◌, ◌/◌, ◌<◌, List, [], ◌∷◌, map, sum_by, ⊎_elim}
 use Rattle.std.proofs.Common.{refl, sym, ap, subst, ◌∙◌, arith}
 use Rattle.std.specs.Prelude.{unsigned_abs}
-use Rattle.std.proofs.Math.IntN.{ℤ, pos, ◌+ℤ◌, ◌*ℤ◌, zero-*ℤ}
+use Rattle.std.proofs.Math.IntN.{ℤ, pos, ◌*ℤ◌, zero-*ℤ}
 use Rattle.std.proofs.Math.Nat.{eq-zero-or-pos, mul-div_cancel}
 use Rattle.std.proofs.lemmas.Int.{ints}
 use Rattle.std.proofs.lemmas.List.Sums.{sum_by-cons}
@@ -14,7 +14,7 @@ use Rattle.kf_column.specs.Hypers.{Inner}
 use Rattle.kf_column.proofs.ClassSums.{above_scaled}
 use Rattle.kf_column.proofs.Scaling.{total-scaled, total_positive, weight_at-scaled}
 use Rattle.kf_column.proofs.Weights.{Above, ascending_above, column_above, positive_above}
-use Rattle.kf_gain.specs.Gains.{GainOf, Bayes, Tries, Guessing, Table, TableTree}
+use Rattle.kf_gain.specs.Gains.{GainOf, TableTree}
 use Rattle.kf_gain.specs.Vulnerabilities.{IsAverage, IsPosterior}
 use Rattle.kf_gain.specs.Worth.{IsVulnerability, NoBetter}
 use Rattle.kf_gain.proofs.Adding.{ArePairs, averaged, the_average, totals}

@@ -1,10 +1,10 @@
 -- What carries joint weights carries them however likely each value is.
-use Rattle.std.proofs.Common.{◌≡◌, ℕ, ◌*◌, ◌/◌, ◌<◌, ℤ, pos, ◌*ℤ◌, List, refl, sym, ap, ◌∙◌}
+use Rattle.std.proofs.Common.{◌≡◌, ℕ, ◌*◌, ◌/◌, ℤ, pos, ◌*ℤ◌, sym, ap, ◌∙◌}
 use Rattle.std.proofs.Math.IntN.{pos-*ℤ-pos}
 use Rattle.kf_frac.proofs.Ring.{mul_assoc, mul_left_comm}
 use Rattle.kf_simplex.specs.Base.{total}
 use Rattle.kf_simplex.proofs.Sums.{total-ext, total-scale}
-use Rattle.kf_refine.specs.Refinements.{HyperTree, Fraction, count, joint, Carries, CarriesWeights}
+use Rattle.kf_refine.specs.Refinements.{HyperTree, count, joint, CarriesWeights}
 use Rattle.kf_refine.specs.Verdicts.{VerdictTree, Yes, No, Proves}
 use Rattle.kf_prior.specs.Covering.{CarriesPriorWeights, HoldsAtEachPrior}
 

@@ -1,5 +1,5 @@
 -- A full source is well built.
-use Rattle.std.proofs.Common.{◌≡◌, ℕ, suc, ℤ, pos, negsuc, ◌<◌, ◌≤◌, Bool, true, None, List, [], ◌∷◌, All, length, map, refl, ap, ◌∙◌, subst, sym, arith}
+use Rattle.std.proofs.Common.{◌≡◌, ℕ, suc, ℤ, pos, negsuc, true, None, List, [], ◌∷◌, All, length, map, refl, ap, ◌∙◌, arith}
 use Rattle.std.specs.List.{AllByRecursion as Each, list_all}
 use Rattle.std.proofs.lemmas.Bool.{and_parts}
 use Rattle.std.proofs.lemmas.List.{length-map}
@@ -13,13 +13,11 @@ use Rattle.kf_value.proofs.ListLemmas.{each_map, each_weaker}
 use Rattle.kf_value.proofs.Trees.{parts_list-parts}
 use Rattle.kf_ops.specs.Fitting.{Takes}
 use Rattle.kf_ops.proofs.EachRow.{row_at, there}
-use Rattle.kf_ops.specs.Places.{number_of}
 use Rattle.kf_ops.specs.declared.row.Op.TheVariants as op
 use Rattle.kf_ast.specs.Exprs.{ExprTree, expr_at, SetOf, exprs}
-use Rattle.kf_ast.specs.Dists.{DistTree, dist_at}
 use Rattle.kf_ast.specs.Sources.{DeclTree, declared, SourceTree, source}
 use Rattle.kf_ast.specs.Built.{IsBuilt, AreBuilt, IsDistBuilt, AreDeclsBuilt, IsSourceBuilt, expr_count}
-use Rattle.kf_prior.specs.FullSources.{least_of, literal, only, part_literals, parts_of, place, set_literal, whole_literal, uniform_over, full_decl, full_decls, full_source}
+use Rattle.kf_prior.specs.FullSources.{least_of, literal, only, part_literals, parts_of, place, set_literal, whole_literal, uniform_over, full_decls, full_source}
 use Rattle.kf_prior.specs.Literals.{HasLiteral, HaveLiterals}
 use Rattle.kf_prior.proofs.Literal.{some_values, values_literals}
 

@@ -1,7 +1,7 @@
 -- The stores of the first variables.
-use Rattle.std.proofs.Common.{◌≡◌, ℕ, zero, suc, ◌+◌, ◌*◌, ◌<◌, ◌≤◌, List, [], ◌∷◌, length, map, take, get_or, refl, sym, ap, ◌∙◌, arith, add-one}
+use Rattle.std.proofs.Common.{◌≡◌, ℕ, zero, suc, ◌+◌, ◌*◌, ◌<◌, ◌≤◌, List, [], ◌∷◌, length, take, get_or, sym, ap, ◌∙◌, arith, add-one}
 use Rattle.std.proofs.Math.Nat.{mul-le-mul_left, mul_assoc}
-use Rattle.kf_value.specs.Types.{TypeTree, count, product}
+use Rattle.kf_value.specs.Types.{product}
 
 parts_some : (a b : ℕ) → 0 < a * b → (0 < a) × (0 < b)
 parts_some zero b h = absurd (omega arith)

@@ -1,26 +1,25 @@
 -- Literals evaluate to their values, and a uniform distribution over a type chooses each value of it once.
 use Rattle.std.specs.Prelude.{nat_lt, if◌then◌else◌}
-use Rattle.std.proofs.Common.{◌≡◌, ℕ, suc, ℤ, pos, negsuc, ◌-ℤ◌, neg_ℤ, ◌^◌, ◌<◌, ◌≤◌, ◌≤ℤ◌, Bool, true, false, not, ◌||◌, List, [], ◌∷◌, length, map, Option, None, Some, Result, Ok, Err, refl, sym, ap, ◌∙◌, subst, arith}
-use Rattle.std.specs.List.{AllByRecursion as Each, filter, list_any}
+use Rattle.std.proofs.Common.{◌≡◌, ℕ, suc, ℤ, pos, negsuc, ◌-ℤ◌, ◌≤◌, true, false, List, [], ◌∷◌, length, map, Ok, Err, refl, ap, ◌∙◌, arith}
+use Rattle.std.specs.List.{AllByRecursion as Each}
 use Rattle.std.specs.List.Sorted.{IsStrictlySortedBy}
 use Rattle.std.specs.Ordering.{is_eq}
-use Rattle.std.specs.declared.cmp.Ordering.TheVariants.{Equal}
 use Rattle.std.proofs.lemmas.Bool.Decides.{nat_tests}
 use Rattle.std.proofs.lemmas.Int.{ints}
 use Rattle.std.proofs.lemmas.List.{length-map}
-use Rattle.kf_value.specs.Values.{ValueTree, Truth, Whole, Set, parts, parts_list, elements, order, is_equal}
+use Rattle.kf_value.specs.Values.{ValueTree, Whole, Set, parts, elements, order, is_equal}
 use Rattle.kf_value.specs.Values as value
-use Rattle.kf_value.specs.Types.{TypeTree, TypeTrees, Boolean, Range, TupleOf, no_type, more_types, values, count, counted}
+use Rattle.kf_value.specs.Types.{TypeTree, TypeTrees, Boolean, Range, TupleOf, no_type, more_types, values, counted}
 use Rattle.kf_value.specs.Types as type
 use Rattle.kf_value.specs.Sizes.{HasSize, well_formed}
 use Rattle.kf_value.proofs.Ascending.{length-values, values_ascend}
 use Rattle.kf_value.proofs.ListLemmas.{each_weaker}
 use Rattle.kf_value.proofs.Orders.{order-itself}
 use Rattle.kf_value.proofs.Trees.{parts_list-parts}
-use Rattle.kf_ops.specs.Values.{Fault, ArithWide, without, is_in, is_i64}
+use Rattle.kf_ops.specs.Values.{ArithWide, without, is_i64}
 use Rattle.kf_ast.specs.Exprs.{ExprTree, exprs}
 use Rattle.kf_ast.specs.Exprs as written
-use Rattle.kf_core.specs.Evaluation.{all_values, ev, evs, set_of}
+use Rattle.kf_core.specs.Evaluation.{all_values, ev, evs}
 use Rattle.kf_core.specs.Dxs.{DxTree, dx_at}
 use Rattle.kf_core.specs.Results.{then_ok}
 use Rattle.kf_ast.specs.Dists.{dist_at, UniformSet, UniformRange}

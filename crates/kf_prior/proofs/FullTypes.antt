@@ -1,7 +1,7 @@
 -- The types of declared variables are those that are written, have a size, and tuples of at least two parts.
 use Rattle.std.proofs.Common.{◌≡◌, ℕ, true, false, List, [], ◌∷◌, ◌++◌, All, map, Option, None, Some, Result, Ok, Err, refl, sym, ap, ◌∙◌, subst, append_assoc, append-nil}
 use Rattle.std.specs.List.{list_all}
-use Rattle.std.proofs.lemmas.List.{length-map, map-append}
+use Rattle.std.proofs.lemmas.List.{map-append}
 use Rattle.std.proofs.lemmas.List.Elements.{All-nil, All-cons}
 use Rattle.kf_value.specs.declared.ty.TyFault.{TyFault}
 use Rattle.kf_value.specs.Types.{TypeTree, count}
@@ -9,7 +9,7 @@ use Rattle.kf_value.specs.Sizes.{HasSize, fault_of, well_formed}
 use Rattle.kf_ast.specs.Names.{name}
 use Rattle.kf_ast.specs.TypeForms.{TypeForm}
 use Rattle.kf_ast.specs.Built.{AreDeclsBuilt}
-use Rattle.kf_ast.specs.Sources.{DeclTree, declared, ItemTree, item, SourceTree, source}
+use Rattle.kf_ast.specs.Sources.{DeclTree, declared, ItemTree, item, source}
 use Rattle.kf_ast.specs.Stmts.{StmtTree}
 use Rattle.kf_ops.specs.Fitting.{Takes}
 use Rattle.kf_core.specs.Programs.{ProgramTree}

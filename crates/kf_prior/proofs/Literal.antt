@@ -1,6 +1,6 @@
 -- Each value of a type with a size has a literal.
 use Rattle.std.specs.Prelude.{nat_le, if◌then◌else◌}
-use Rattle.std.proofs.Common.{◌≡◌, ℕ, zero, suc, ℤ, pos, negsuc, ◌+◌, ◌+ℤ◌, ◌-ℤ◌, ◌<◌, ◌≤◌, ◌≤ℤ◌, Bool, true, false, List, [], ◌∷◌, All, length, map, get_or, slice_get, Option, Some, None, refl, sym, ap, ◌∙◌, subst, arith, rules}
+use Rattle.std.proofs.Common.{◌≡◌, ℕ, zero, suc, ℤ, pos, ◌+◌, ◌+ℤ◌, ◌-ℤ◌, ◌<◌, ◌≤◌, Bool, true, false, List, [], ◌∷◌, length, map, get_or, Option, Some, None, refl, ap, subst, arith, rules}
 use Rattle.std.specs.List.{AllByRecursion as Each, range_with_len}
 use Rattle.std.specs.List.Sorted.{IsStrictlySortedBy}
 use Rattle.std.proofs.lemmas.Bool.{and_parts}
@@ -9,14 +9,13 @@ use Rattle.std.proofs.lemmas.Int.{ints}
 use Rattle.kf_value.specs.declared.ty.TyFault.{TyFault}
 use Rattle.kf_value.specs.declared.ty.TyFault.TheVariants.{BadRange, TooManyValues}
 use Rattle.kf_value.specs.Forms.{IsWellFormed}
-use Rattle.kf_value.specs.Values.{ValueTree, Truth, Whole, Tuple, Set, parts, parts_list, order}
+use Rattle.kf_value.specs.Values.{ValueTree, Truth, Whole, Tuple, Set, parts, order}
 use Rattle.kf_value.specs.Types.{TypeTree, TypeTrees, Boolean, Range, TupleOf, SetOf, no_type, more_types, values, each_values, combinations, subsets, count, counted, in_bounds}
-use Rattle.kf_value.specs.Sizes.{HasSize, HasNumber, well_formed, each_well_formed, type_list, fault_within, fault_of, first_fault, first_of, crowded, crowded_after}
+use Rattle.kf_value.specs.Sizes.{HasSize, HasNumber, well_formed, each_well_formed, type_list, fault_within, first_fault, first_of, crowded, crowded_after}
 use Rattle.kf_value.proofs.Ascending.{each_part, length-values, values_well_formed}
 use Rattle.kf_value.proofs.ListLemmas.{each_at, each_both, each_flat_map, each_map, each_weaker}
 use Rattle.kf_value.proofs.Trees.{parts_list-parts}
 use Rattle.kf_core.proofs.FirstStore.{some_stores}
-use Rattle.kf_prior.specs.FullSources.{least_of}
 use Rattle.kf_prior.specs.Literals.{IsShort, IsBase, HasLiteral, HaveLiterals}
 
 -- ---- what a type without a fault has

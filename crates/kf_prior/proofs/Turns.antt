@@ -1,5 +1,5 @@
 -- One turn over the declared variables.
-use Rattle.std.proofs.Common.{◌≡◌, ℕ, zero, suc, ◌+◌, ◌*◌, ◌<◌, ◌≤◌, ◌^◌, Bool, true, List, [], ◌∷◌, ◌++◌, All, length, map, take, drop, get_or, slice_get, Some, refl, sym, ap, ◌∙◌, subst, arith}
+use Rattle.std.proofs.Common.{◌≡◌, ℕ, zero, suc, ◌+◌, ◌*◌, ◌<◌, ◌≤◌, ◌^◌, true, List, [], ◌∷◌, ◌++◌, length, map, take, drop, get_or, slice_get, Some, refl, sym, ap, ◌∙◌, subst, arith}
 use Rattle.std.specs.List.{list_all}
 use Rattle.std.proofs.lemmas.Bool.{and_parts}
 use Rattle.std.proofs.lemmas.List.{append-nil, drop_more, length-map, map-append, map_more, take-map}
@@ -7,10 +7,10 @@ use Rattle.std.proofs.lemmas.Option.{get_or_from_slice_get, slice_get_within}
 use Rattle.kf_value.specs.declared.shape.Shape.{Shape}
 use Rattle.kf_value.specs.declared.ty.Ty.{Ty}
 use Rattle.kf_value.specs.Shapes.{shape_types, shape_sizes}
-use Rattle.kf_value.specs.Sizes.{HasSize, fault_of, well_formed}
+use Rattle.kf_value.specs.Sizes.{HasSize, well_formed}
 use Rattle.kf_value.specs.Types.{TypeTree, count, product}
 use Rattle.kf_value.specs.TypeViews.{type_tree}
-use Rattle.kf_value.proofs.ListLemmas.{left_step, mapped_read}
+use Rattle.kf_value.proofs.ListLemmas.{mapped_read}
 use Rattle.kf_ast.specs.Sources.{DeclTree, ItemTree, SourceTree, source}
 use Rattle.kf_ast.specs.Stmts.{StmtTree}
 use Rattle.kf_check.specs.Laws.{IsWellBuilt, CheckedIfTyped}

@@ -1,8 +1,8 @@
 -- What is written of values, part by part.
-use Rattle.std.proofs.Common.{◌≡◌, ℕ, suc, ◌+◌, ◌<◌, List, [], ◌∷◌, ◌++◌, length, map, take, drop, get_or, slice_get, Some, refl, sym, ap, ◌∙◌, subst, arith}
+use Rattle.std.proofs.Common.{◌≡◌, ℕ, suc, ◌+◌, List, [], ◌∷◌, ◌++◌, length, map, drop, refl, sym, ap, ◌∙◌, subst, arith}
 use Rattle.std.proofs.lemmas.List.{length-map}
 use Rattle.std.specs.List.{AllByRecursion as Each}
-use Rattle.kf_value.specs.Values.{ValueTree, Tuple, Set, parts, parts_list, elements}
+use Rattle.kf_value.specs.Values.{ValueTree, Tuple, Set, elements}
 use Rattle.kf_value.specs.Types.{TypeTree, TupleOf, SetOf, type_parts}
 use Rattle.kf_value.specs.TypeViews.{type_tree}
 use Rattle.kf_value.specs.Views.{value_tree, value_trees}
@@ -10,12 +10,10 @@ use Rattle.kf_value.specs.declared.ty.Ty.{Ty}
 use Rattle.kf_value.specs.declared.value.Value.{Value}
 use Rattle.kf_value.specs.declared.value.Value.TheVariants as value
 use Rattle.kf_value.specs.declared.value.ValueList.{ValueList}
-use Rattle.kf_value.proofs.ListLemmas.{left_step, left_end}
 use Rattle.kf_value.proofs.Trees.{constructors, parts_list-parts, value_tree-Tuple, value_tree-Set}
-use Rattle.kf_ast.specs.Exprs.{ExprTree}
 use Rattle.kf_ast.specs.Views.{expr_tree}
 use Rattle.kf_ast.specs.declared.expr.Expr.{Expr}
-use Rattle.kf_prior.specs.FullSources.{least_of, literal, part_literals, parts_of}
+use Rattle.kf_prior.specs.FullSources.{least_of, part_literals, parts_of}
 use Rattle.kf_prior.specs.Literals.{IsBase, HasLiteral, HaveLiterals}
 
 pub parts_of-Tuple : (vs : ValueList) → parts_of (value_tree (value.Tuple vs)) ≡ value_trees vs

@@ -1,5 +1,5 @@
 -- The numbers of a report are within the limit.
-use Rattle.std.proofs.Common.{◌≡◌, ℕ, ◌*◌, ◌<◌, ◌≤◌, ℤ, List, refl, arith}
+use Rattle.std.proofs.Common.{ℕ, ◌*◌, ◌<◌, ◌≤◌, ℤ, List, arith}
 use Rattle.kf_frac.specs.Fractions.{limit}
 use Rattle.kf_frac.proofs.CommonMultiples.{product_positive}
 use Rattle.kf_column.specs.Hypers.{Inner}

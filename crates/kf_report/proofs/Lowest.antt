@@ -1,6 +1,5 @@
 -- Fractions that are made of parts in lowest terms.
 use Rattle.std.proofs.Common.{◌≡◌, ℕ, ◌≤◌, ℤ, pos, ◌-ℤ◌, neg_ℤ, unsigned_abs, to_z, of_z, sym, ◌∙◌, ap, subst, arith}
-use Rattle.std.proofs.Math.IntN.{negsuc}
 use Rattle.std.specs.Int.{w128}
 use Rattle.std.proofs.lemmas.Int.{ints}
 use Rattle.kf_frac.specs.Divisors.{gcd_of}

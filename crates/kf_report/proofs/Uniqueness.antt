@@ -1,9 +1,7 @@
 -- Inners have exactly one report's numbers.
-use Rattle.std.proofs.Common.{◌≡◌, ℕ, ◌*◌, ℤ, List, refl, sym, ◌∙◌}
-use Rattle.kf_column.specs.Hypers.{Inner}
-use Rattle.kf_gain.specs.Gains.{GainOf, TableTree, over_of}
+use Rattle.std.proofs.Common.{◌≡◌, ◌*◌, refl, sym, ◌∙◌}
+use Rattle.kf_gain.specs.Gains.{over_of}
 use Rattle.kf_gain.specs.Laws.{SomeReport, OneReport}
-use Rattle.kf_report.specs.Reports.{Leakage}
 use Rattle.kf_report.specs.Laws.{SomeLeakage, OneLeakage}
 
 pub some_leakage : SomeReport → SomeLeakage

@@ -1,5 +1,5 @@
 -- For bodies: what a report has of its numbers.
-use Rattle.std.specs.Prelude.{ℕ, ◌<◌, ◌≤◌, ℤ, pos, ◌-ℤ◌, ◌≤ℤ◌, ◌<ℤ◌, unsigned_abs, None, Some}
+use Rattle.std.specs.Prelude.{◌<◌, ◌≤◌, pos, ◌-ℤ◌, ◌≤ℤ◌, ◌<ℤ◌, unsigned_abs, None, Some}
 use Rattle.std.specs.declared.option.Option.{Option}
 use Rattle.kf_frac.specs.Fractions.{limit}
 use Rattle.kf_frac.specs.declared.frac.Frac.{Frac}

@@ -1,4 +1,4 @@
-use Rattle.std.proofs.Common.{◌≡◌, ℕ, List, map, string_bytes, rules, sym, ◌∙◌, ap, subst}
+use Rattle.std.proofs.Common.{ℕ, List, map, string_bytes, rules, sym, ◌∙◌, ap, subst}
 use Rattle.kf_io.specs.declared.lists.FileEntry.{FileEntry}
 use Rattle.kf_call.specs.Calls.{files_in, words_in}
 use Rattle.kf_call.specs.Runs.{HasRun}

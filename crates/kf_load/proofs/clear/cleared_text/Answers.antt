@@ -1,4 +1,4 @@
-use Rattle.std.proofs.Common.{◌≤◌, ◌≡◌, IsOk, ap, subst, Ok, Err, ◌∙◌}
+use Rattle.std.proofs.Common.{◌≤◌, IsOk, ap, subst, Ok, Err, ◌∙◌}
 use Rattle.kf_frac.specs.Fractions.{limit}
 use Rattle.kf_core.specs.Programs.{ProgramTree}
 use Rattle.kf_core.specs.Scale.{scale_of}

@@ -1,7 +1,7 @@
-use Rattle.std.proofs.Common.{◌≡◌, ◌∷◌, [], ◌++◌, ◌+◌, map, take, length, sym, ap, ◌∙◌, arith}
+use Rattle.std.proofs.Common.{◌≡◌, map, take, length, ap, ◌∙◌, arith}
 use Rattle.std.proofs.Math.Seq.{take-length}
 use Rattle.kf_value.specs.TypeViews.{type_tree}
-use Rattle.kf_value.specs.Types.{values, count}
+use Rattle.kf_value.specs.Types.{values}
 use Rattle.kf_value.proofs.Ascending.{length-values}
 use Rattle.kf_ast.specs.Views.{expr_tree}
 use Rattle.kf_prior.specs.FullSources.{literal}

@@ -1,4 +1,4 @@
-use Rattle.std.proofs.Common.{◌≡◌, ◌++◌, ◌∷◌, ◌+◌, map, drop, sym, ap, ◌∙◌, arith}
+use Rattle.std.proofs.Common.{◌++◌, ◌∷◌, ◌+◌, map, drop, sym, ap, ◌∙◌, arith}
 use Rattle.kf_value.specs.Shapes.{shape_types}
 use Rattle.kf_value.specs.TypeViews.{type_tree}
 use Rattle.kf_value.proofs.ListLemmas.{left_step, left_end}

@@ -1,10 +1,10 @@
-use Rattle.std.proofs.Common.{◌≡◌, ◌≤◌, ◌<◌, Err, length, map, refl, sym, ap, ◌∙◌, subst, arith}
+use Rattle.std.proofs.Common.{map, refl, arith}
 use Rattle.std.proofs.lemmas.List.{length-map}
 use Rattle.kf_ast.specs.Views.{source_tree, decl_tree, item_tree, stmt_tree, decl_items, target_items, stmt_items}
 use Rattle.kf_core.specs.Views.{program_tree}
 use Rattle.kf_value.specs.Shapes.{shape_types}
 use Rattle.kf_prior.proofs.Building.{full_built}
-use Rattle.kf_prior.proofs.Turns.{enough_types, stores_of_source}
+use Rattle.kf_prior.proofs.Turns.{enough_types}
 use Rattle.kf_prior.proofs.full.full_source.Goals as goal
 
 pub initial_stores-count-requires : goal.initial_stores-count-requires

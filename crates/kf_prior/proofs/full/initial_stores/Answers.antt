@@ -1,4 +1,4 @@
-use Rattle.std.proofs.Common.{◌≡◌, length, sym, ap, arith}
+use Rattle.std.proofs.Common.{length, sym, ap, arith}
 use Rattle.std.proofs.lemmas.List.{length-map}
 use Rattle.kf_core.specs.Views.{dx_items, dx_tree}
 use Rattle.kf_prior.proofs.Turns.{stores_here, stores_fit}

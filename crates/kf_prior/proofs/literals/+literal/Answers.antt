@@ -1,6 +1,6 @@
-use Rattle.std.proofs.Common.{◌≡◌, map, sym, ap, ◌∙◌, rules, arith}
+use Rattle.std.proofs.Common.{map, sym, ap, ◌∙◌, rules, arith}
 use Rattle.kf_value.specs.TypeViews.{type_tree}
-use Rattle.kf_value.specs.Types.{TupleOf, SetOf, type_parts}
+use Rattle.kf_value.specs.Types.{SetOf}
 use Rattle.kf_value.specs.Views.{value_tree}
 use Rattle.kf_value.specs.declared.ty.Ty.{the_lemmas}
 use Rattle.kf_value.proofs.Alike.{tuple_tree}

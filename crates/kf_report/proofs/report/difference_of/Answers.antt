@@ -1,9 +1,4 @@
-use Rattle.std.proofs.Common.{◌≡◌, ℤ, pos, ◌+ℤ◌, ◌-ℤ◌, neg_ℤ, unsigned_abs, subst}
-use Rattle.kf_frac.specs.Fractions.{limit}
-use Rattle.kf_frac.specs.declared.frac.Frac.{Frac}
-use Rattle.kf_frac.specs.Parts.{IsFraction}
-use Rattle.kf_report.specs.Reports.{Leakage}
-use Rattle.kf_report.specs.Views.{IsNarrow, IsPair}
+use Rattle.std.proofs.Common.{neg_ℤ}
 use Rattle.kf_report.proofs.Crossing.{is_over, minus_over}
 use Rattle.kf_report.proofs.Sums.{sum_fits, sum_is}
 use Rattle.kf_report.proofs.report.difference_of.Goals as goal

@@ -1,4 +1,4 @@
-use Rattle.std.proofs.Common.{◌≡◌, ℤ, pos, sym, arith, rules}
+use Rattle.std.proofs.Common.{sym, arith, rules}
 use Rattle.std.proofs.lemmas.Int.{ints}
 use Rattle.kf_report.proofs.Crossing.{is_over, positive, not_positive}
 use Rattle.kf_report.proofs.Ratios.{ratio_fits, ratio_is}

@@ -1,4 +1,4 @@
-use Rattle.std.proofs.Common.{ℕ, List, IfOk, subst}
+use Rattle.std.proofs.Common.{IfOk, subst}
 use Rattle.kf_io.specs.Reads.{Gives}
 use Rattle.kf_call.specs.Contents.{FilesState, contents_of}
 use Rattle.kf_call.proofs.Found.{given_same}

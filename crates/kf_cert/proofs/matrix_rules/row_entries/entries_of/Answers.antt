@@ -1,4 +1,4 @@
-use Rattle.std.proofs.Common.{◌≡◌, ◌++◌, ◌∙◌, ap, map, refl}
+use Rattle.std.proofs.Common.{◌++◌, ◌∙◌, ap, map, refl}
 use Rattle.kf_cert.specs.CertTexts.{row_entries, rows_entries}
 use Rattle.kf_cert.specs.Rows.{row_tree, rows_tree}
 use Rattle.kf_cert.specs.Views.{entry_tree}

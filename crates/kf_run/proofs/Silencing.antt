@@ -24,7 +24,6 @@ use Rattle.kf_core.proofs.Measures.{RunsWithin, Trace, run_value, runs_value}
 use Rattle.kf_core.proofs.SoundParts.{sound_first}
 use Rattle.kf_core.proofs.WeightKept.{Keeps, all_weight}
 use Rattle.kf_eval.specs.Kinds.{shape_kinds}
-use Rattle.kf_push.specs.Erased.{IsErased}
 use Rattle.kf_push.specs.Following.{Takes}
 use Rattle.kf_push.specs.Merging.{SplitsOnce}
 use Rattle.kf_silent.specs.Quiet.{hushed}
@@ -163,15 +162,14 @@ module _ (from : Runner) (size : ℕ) where
   pub all_weigh : (before : Matrix) (done : Matrix) → Hushed from size before (length before) done → mass done ≡ mass before
   all_weigh before done had = had.weighs ∙ ap mass (take_all (length before) before (omega arith))
 
--- what came of a column is added up to one
-erased_once : (columns erased : Matrix) → IsErased columns erased → 0 < mass columns
-    → (sum : List Entry) × (erased ≡ sum ∷ []) × ((x : ℕ) → weight_at sum x ≡ sum_by (λ d. weight_at d x) columns)
-erased_once [] erased is some = absurd (omega (arith, some))
-erased_once (c ∷ cs) erased is some = is
+-- a copy of a column alone is that column alone
+pub copied_alone : {scale : ℕ} {column copied : List Entry} {one : Joint} → one ≡ record { scale = scale; columns = copied ∷ [] } → copied ≡ column
+    → one ≡ record { scale = scale; columns = column ∷ [] }
+copied_alone {scale} {column} {copied} {one} is same = subst (λ (d : List Entry). one ≡ record { scale = scale; columns = d ∷ [] }) same is
 
+-- what came of a column is added up to one
 module _ (from : Runner) (size : ℕ) (carries : Carries from) (scale : ℕ) (column : List Entry) (one after : Joint)
-    (alone : one ≡ record { scale = scale; columns = column ∷ [] }) (can : CanGo from size one) (gone : HasGone from size one after) (erased : Matrix)
-    (is : IsErased after.columns erased) where
+    (alone : one ≡ record { scale = scale; columns = column ∷ [] }) (can : CanGo from size one) (gone : HasGone from size one after) where
   abbrev lone : Joint
   lone = record { scale = scale; columns = column ∷ [] }
 
@@ -186,29 +184,18 @@ module _ (from : Runner) (size : ℕ) (carries : Carries from) (scale : ℕ) (co
       let kept = carried_mass from (column ∷ []) after.columns carries lone_can.goes lone_gone.pushed in
       omega (arith, kept)
 
-  sum_once : (sum : List Entry) × (erased ≡ sum ∷ []) × ((x : ℕ) → weight_at sum x ≡ sum_by (λ d. weight_at d x) after.columns)
-  sum_once =
+  pub some_left : after.columns ≡ [] → ⊥
+  some_left none =
       let some = total_positive column (All-head IsColumn column [] lone_can.are) in
-      erased_once after.columns erased is (omega (arith, some, weighs))
+      omega (arith, some, weighs, ap mass none)
 
-  pub erased_some : 0 < length erased
-  erased_some = let long = ap length sum_once.1 in omega (arith, long)
+  module _ (sum : List Entry) where
+    pub summed_behind : IsColumn sum → ((x : ℕ) → weight_at sum x ≡ sum_by (λ d. weight_at d x) after.columns)
+        → AreBehind (λ n. hushed (from n)) (column ∷ []) (sum ∷ [])
+    summed_behind is weights = sum_behind from column after.columns lone_gone.pushed sum is weights
 
-  module _ (sum : List Entry) (other : List Entry) (first : sum ≡ get_or erased 0 other) where
-    pub erased_is : erased ≡ sum ∷ []
-    erased_is = sum_once.1 ∙ ap (λ (c : List Entry). c ∷ []) (sym (first ∙ ap (λ (cs : Matrix). get_or cs 0 other) sum_once.1))
-
-    pub erased_behind : All IsColumn erased → AreBehind (λ n. hushed (from n)) (column ∷ []) (sum ∷ [])
-    erased_behind are =
-        let same : sum ≡ sum_once.0 = first ∙ ap (λ (cs : Matrix). get_or cs 0 other) sum_once.1 in
-        sum_behind from column after.columns lone_gone.pushed sum (All-head IsColumn sum [] (subst (All IsColumn) erased_is are))
-        (λ x. ap (λ (c : List Entry). weight_at c x) same ∙ sum_once.2 x)
-
-    pub erased_below : All (IsBelow size) erased → IsBelow size sum
-    erased_below below = All-head (IsBelow size) sum [] (subst (All (IsBelow size)) erased_is below)
-
-    pub erased_total : mass erased ≡ mass after.columns → total sum ≡ total column
-    erased_total kept = let one_sum = ap mass erased_is in omega (arith, one_sum, kept, weighs)
+    pub summed_total : total sum ≡ mass after.columns → total sum ≡ total column
+    summed_total kept = kept ∙ weighs
 
 -- ---- statements
 

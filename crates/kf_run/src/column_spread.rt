@@ -19,7 +19,7 @@ use std::alloc::Global;
 use std::cmp::Ordering;
 
 /// A column names each of its values once, in ascending order and with a weight.
-fn is_column(column: &Column)
+pub fn is_column(column: &Column)
     ensures { IsColumn column.now }
 {
     column.entries();

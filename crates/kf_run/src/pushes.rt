@@ -20,11 +20,12 @@ ghost use Rattle.kf_silent.specs.Silent.{all_silent_runs, silent_runs};
 ghost use Rattle.kf_run.specs.Going.{CanGo, HasGone};
 ghost use Rattle.kf_run.specs.Silence.{silent_at};
 
+use crate::column_spread::is_column;
 use crate::silence::{is_itself, within};
 use crate::steps::{assignment, guard, show};
 use kf_core::{Dx, St, run_laws};
 use kf_hyper::{Column, ColumnList, Columns, join, merge, merge_owned};
-use kf_push::{are_columns, erase};
+use kf_push::{alone, are_columns, sum_of};
 use kf_support::Cleared;
 use kf_value::{Mem, Shape};
 use std::alloc::Global;
@@ -46,16 +47,6 @@ fn merge_both(alloc: Global, one: Columns, other: Columns) -> Result<Columns, Me
     let joined = join(alloc, one, other)?;
     let merged = merge_owned(alloc, joined)?;
     Ok(merged)
-}
-
-/// The one column alone.
-fn alone(alloc: Global, scale: u128, column: &Column) -> Result<Columns, Mem>
-    requires joint { IsJoint (record { scale = scale; columns = column.now ∷ [] }) }
-    ensures { IfOk result (λ one. one ≡ record { scale = scale; columns = column.now ∷ [] }) }
-{
-    let mut list = Vec::new(alloc);
-    list.push(column.copy(alloc)?)?;
-    Ok(Columns::new(scale, ColumnList::new(list)))
 }
 
 /// What columns become in a statement where the one at this path within it is silent, if there is a path, with those of one posterior added
@@ -97,11 +88,10 @@ fn hush_one(
     ensures below { IfOk result (λ after. IsBelow (shape_size shape.now) after) }
     ensures total { IfOk result (λ after. total after ≡ total column.now) }
 {
-    let one = alone(alloc, scale, column)?;
+    let one = alone(alloc, scale, column.copy(alloc)?)?;
     let after = push_seen(alloc, shape, turns, statement, None, &one)?;
-    let erased = erase(alloc, &after)?;
-    are_columns(&erased);
-    let sum = erased.columns().as_slice()[0].copy(alloc)?;
+    let sum = sum_of(alloc, &after)?;
+    is_column(&sum);
     Ok(sum)
 }
 

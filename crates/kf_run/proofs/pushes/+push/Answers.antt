@@ -3,7 +3,6 @@ use Rattle.std.specs.Prelude.{IfOk}
 use Rattle.kf_value.specs.Shapes.{shape_size, shape_types}
 use Rattle.kf_value.proofs.ListLemmas.{left_step, left_end}
 use Rattle.kf_column.specs.declared.entry.Entry.{Entry}
-use Rattle.kf_column.specs.Columns.{IsColumn}
 use Rattle.kf_column.specs.Joint.{IsJoint, Joint, mass}
 use Rattle.kf_column.specs.Shapes.{IsBelow}
 use Rattle.kf_column.proofs.Beliefs.{merged_below}
@@ -14,7 +13,6 @@ use Rattle.kf_core.specs.Views.{dx_tree, st_tree, st_items}
 use Rattle.kf_core.proofs.Solid.{dist_filled}
 use Rattle.kf_core.proofs.SoundParts as sound
 use Rattle.kf_eval.specs.Kinds.{shape_kinds}
-use Rattle.kf_push.specs.Erased.{IsErased}
 use Rattle.kf_push.specs.Following.{Goes, side}
 use Rattle.kf_silent.specs.Quiet.{hushed}
 use Rattle.kf_push.proofs.Carrying.{Runner, Matrix, pushed_again, pushed_stay}
@@ -195,58 +193,47 @@ push_one-returns-then-is_itself t c =
 pub hush_one-push_seen-requires : goal.hush_one-push_seen-requires
 hush_one-push_seen-requires t c =
     let from = runs (shape_types c.args.shape.now) c.args.turns (st_tree c.args.statement.now) in
-    let can = subst (CanGo from (shape_size c.args.shape.now)) (sym c.in_ok-one.ensures) c.requires.can in (
+    let lone = silencing.copied_alone c.in_ok-one.ensures c.in_ok-copy.ensures in
+    let can = subst (CanGo from (shape_size c.args.shape.now)) (sym lone) c.requires.can in (
       search (rules, the_lemmas),
       (refl, (c.requires.sound, silencing.none_can c.args.shape.now c.args.turns (st_tree c.args.statement.now) c.in_ok-one.one can)),
     )
 
-pub hush_one-bounds-as_slice-0 : goal.hush_one-bounds-as_slice-0
-hush_one-bounds-as_slice-0 t c =
+pub hush_one-sum_of-requires : goal.hush_one-sum_of-requires
+hush_one-sum_of-requires t c =
     let from = runs (shape_types c.args.shape.now) c.args.turns (st_tree c.args.statement.now) in
     let size = shape_size c.args.shape.now in
     let carries = statement_carries c.args.shape.now c.args.turns (st_tree c.args.statement.now) c.requires.sound in
-    let can = subst (CanGo from size) (sym c.in_ok-one.ensures) c.requires.can in
+    let lone = silencing.copied_alone c.in_ok-one.ensures c.in_ok-copy.ensures in
+    let can = subst (CanGo from size) (sym lone) c.requires.can in
     let gone = silencing.none_gone c.args.shape.now c.args.turns (st_tree c.args.statement.now) c.in_ok-one.one c.in_ok-after.after c.in_ok-after.ensures in
-    let all : c.as_slice.result.now ≡ c.in_ok-erased.erased.columns = c.as_slice.ensures ∙ c.columns.ensures.kept in
-    silencing.erased_some from size carries c.args.scale c.args.column.now c.in_ok-one.one c.in_ok-after.after c.in_ok-one.ensures can
-    gone c.as_slice.result.now (subst (IsErased c.in_ok-after.after.columns) (sym all) c.in_ok-erased.ensures.erased)
+    record { some = silencing.some_left from size carries c.args.scale c.args.column.now c.in_ok-one.one c.in_ok-after.after lone can gone }
 
 pub hush_one-returns-clause-behind : goal.hush_one-returns-clause-behind
 hush_one-returns-clause-behind t c =
     let from = runs (shape_types c.args.shape.now) c.args.turns (st_tree c.args.statement.now) in
     let size = shape_size c.args.shape.now in
     let carries = statement_carries c.args.shape.now c.args.turns (st_tree c.args.statement.now) c.requires.sound in
-    let can = subst (CanGo from size) (sym c.in_ok-one.ensures) c.requires.can in
+    let lone = silencing.copied_alone c.in_ok-one.ensures c.in_ok-copy.ensures in
+    let can = subst (CanGo from size) (sym lone) c.requires.can in
     let gone = silencing.none_gone c.args.shape.now c.args.turns (st_tree c.args.statement.now) c.in_ok-one.one c.in_ok-after.after c.in_ok-after.ensures in
-    let all : c.as_slice.result.now ≡ c.in_ok-erased.erased.columns = c.as_slice.ensures ∙ c.columns.ensures.kept in
-    silencing.erased_behind from size carries c.args.scale c.args.column.now c.in_ok-one.one c.in_ok-after.after c.in_ok-one.ensures can
-    gone c.as_slice.result.now (subst (IsErased c.in_ok-after.after.columns) (sym all) c.in_ok-erased.ensures.erased)
-    c.in_ok-sum.sum c.index-as_slice-0.result (c.in_ok-sum.ensures ∙ c.index-as_slice-0.is) (subst (All IsColumn) (sym all) c.are_columns.ensures.are)
+    silencing.summed_behind from size carries c.args.scale c.args.column.now c.in_ok-one.one c.in_ok-after.after lone can gone c.in_ok-sum.sum
+    c.is_column.ensures c.in_ok-sum.ensures.weights
 
 pub hush_one-returns-clause-below : goal.hush_one-returns-clause-below
 hush_one-returns-clause-below t c =
-    let from = runs (shape_types c.args.shape.now) c.args.turns (st_tree c.args.statement.now) in
-    let size = shape_size c.args.shape.now in
-    let carries = statement_carries c.args.shape.now c.args.turns (st_tree c.args.statement.now) c.requires.sound in
-    let can = subst (CanGo from size) (sym c.in_ok-one.ensures) c.requires.can in
     let gone = silencing.none_gone c.args.shape.now c.args.turns (st_tree c.args.statement.now) c.in_ok-one.one c.in_ok-after.after c.in_ok-after.ensures in
-    let all : c.as_slice.result.now ≡ c.in_ok-erased.erased.columns = c.as_slice.ensures ∙ c.columns.ensures.kept in
-    silencing.erased_below from size carries c.args.scale c.args.column.now c.in_ok-one.one c.in_ok-after.after c.in_ok-one.ensures can
-    gone c.as_slice.result.now (subst (IsErased c.in_ok-after.after.columns) (sym all) c.in_ok-erased.ensures.erased)
-    c.in_ok-sum.sum c.index-as_slice-0.result (c.in_ok-sum.ensures ∙ c.index-as_slice-0.is)
-    (subst (All (IsBelow size)) (sym all) (c.in_ok-erased.ensures.below size gone.below))
+    c.in_ok-sum.ensures.below (shape_size c.args.shape.now) gone.below
 
 pub hush_one-returns-clause-total : goal.hush_one-returns-clause-total
 hush_one-returns-clause-total t c =
     let from = runs (shape_types c.args.shape.now) c.args.turns (st_tree c.args.statement.now) in
     let size = shape_size c.args.shape.now in
     let carries = statement_carries c.args.shape.now c.args.turns (st_tree c.args.statement.now) c.requires.sound in
-    let can = subst (CanGo from size) (sym c.in_ok-one.ensures) c.requires.can in
+    let lone = silencing.copied_alone c.in_ok-one.ensures c.in_ok-copy.ensures in
+    let can = subst (CanGo from size) (sym lone) c.requires.can in
     let gone = silencing.none_gone c.args.shape.now c.args.turns (st_tree c.args.statement.now) c.in_ok-one.one c.in_ok-after.after c.in_ok-after.ensures in
-    let all : c.as_slice.result.now ≡ c.in_ok-erased.erased.columns = c.as_slice.ensures ∙ c.columns.ensures.kept in
-    silencing.erased_total from size carries c.args.scale c.args.column.now c.in_ok-one.one c.in_ok-after.after c.in_ok-one.ensures can
-    gone c.as_slice.result.now (subst (IsErased c.in_ok-after.after.columns) (sym all) c.in_ok-erased.ensures.erased)
-    c.in_ok-sum.sum c.index-as_slice-0.result (c.in_ok-sum.ensures ∙ c.index-as_slice-0.is) (ap mass all ∙ c.in_ok-erased.ensures.mass)
+    silencing.summed_total from size carries c.args.scale c.args.column.now c.in_ok-one.one c.in_ok-after.after lone can gone c.in_ok-sum.sum c.in_ok-sum.ensures.total
 
 pub hush-loop-column-init : goal.hush-loop-column-init
 hush-loop-column-init t c =

@@ -1,13 +1,17 @@
-ghost use Rattle.std.specs.Prelude.{◌≡◌, ◌<◌, ℤ, ◌≤ℤ◌, length, pos, slice_index};
+ghost use Rattle.std.specs.Prelude.{◌≡◌, ◌<◌, ◌≤◌, ℕ, ℤ, ◌≤ℤ◌, length, map, pos, slice_index};
 ghost use Rattle.std.specs.List.Sorted.{IsStrictlyIncreasing};
-ghost use Rattle.kf_frac.specs.Fractions.{reduced_num, reduced_den};
+ghost use Rattle.kf_frac.specs.Fractions.{limit, reduced_num, reduced_den};
 ghost use Rattle.kf_frac.specs.Views.{num_of, den_of};
 ghost use Rattle.kf_value.specs.Numbers.{target_size};
 ghost use Rattle.kf_value.specs.Views.{items_of, value_trees};
+ghost use Rattle.kf_column.specs.Columns.{IsColumn, total, values, weight_at};
+ghost use Rattle.kf_column.specs.Traces.{value_weight};
+ghost use Rattle.kf_hyper.specs.Tables.{table_row};
 ghost use Rattle.kf_channel.specs.Views.{target_of, secrets_of, rows_of, row_at, cell_at};
 
 use super::Channel;
 use kf_frac::{Frac, share};
+use kf_hyper::{Entry, TraceRow};
 use kf_value::{Target, ValueList};
 
 impl Channel {
@@ -33,6 +37,23 @@ impl Channel {
         ensures within { result < target_size (target_of self.now) }
     {
         self.secrets.entries().as_slice()[i].value
+    }
+
+    /// The secrets, each with its weight over all traces: what its cells are divided by.
+    pub fn secrets(&self) -> &[Entry]
+        ensures listed { values result.now ≡ secrets_of self.now }
+        ensures column { IsColumn result.now }
+        ensures whole { (x : ℕ) → value_weight (rows_of self.now) x ≡ weight_at result.now x }
+        ensures narrow { total result.now ≤ limit }
+    {
+        self.secrets.entries().as_slice()
+    }
+
+    /// The traces, each with the weights of the secrets that show it.
+    pub fn traces(&self) -> &[TraceRow]
+        ensures { map table_row result.now ≡ rows_of self.now }
+    {
+        self.rows.as_slice()
     }
 
     /// What is seen in the column `j`, from 0.

@@ -71,8 +71,8 @@ module _ (c : ChannelTree) (weigh : AllWeigh c) (i : ℕ) (within : i < length c
   some = All-get_or (λ x. 0 < value_weight c.rows x) c.secrets i 0 within weigh
 
   -- the denominators of its cells divide that of the channel
-  divided : All (λ row. reduced_den (pos (weight_at row.column secret)) (value_weight c.rows secret) ∣ denominator c) c.rows
-  divided =
+  pub cells_divide : All (λ row. reduced_den (pos (weight_at row.column secret)) (value_weight c.rows secret) ∣ denominator c) c.rows
+  cells_divide =
       All-weaker (λ (row : Row). All (λ d. d ∣ denominator c) (column_dens c row)) (λ (row : Row). cell_den c row secret ∣ denominator c)
       (λ row all.
       subst (λ (d : ℕ). d ∣ denominator c) (get_or-map (cell_den c row) c.secrets i 0 0 within)
@@ -85,7 +85,7 @@ module _ (c : ChannelTree) (weigh : AllWeigh c) (i : ℕ) (within : i < length c
       let part : Row → ℕ = λ row. parts_of (denominator c) (cell c row secret).part (cell c row secret).whole in
       sum_of_made (λ (column : List ℕ). get_or column i 0) (column_in (denominator c) c) part
       (λ row. get_or-map (λ (x : ℕ). parts_of (denominator c) (cell c row x).part (cell c row x).whole) c.secrets i 0 0 within) c.rows
-      ∙ sums c.rows secret (denominator c) some divided
+      ∙ sums c.rows secret (denominator c) some cells_divide
 
 -- of any channel tree whose secrets have weights
 pub grid_stochastic : RowsSumToOne → (c : ChannelTree) → AllWeigh c → IsStochastic (channel_grid c)

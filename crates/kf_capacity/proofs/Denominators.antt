@@ -18,7 +18,7 @@ use Rattle.kf_capacity.specs.Laws.{LeastDenominator}
 -- ---- the least one
 
 -- it divides each number that all of them divide
-common_divides : (ds : List ℕ) (m : ℕ) → All (λ d. 0 < d) ds → All (λ d. d ∣ m) ds → common_multiple ds ∣ m
+pub common_divides : (ds : List ℕ) (m : ℕ) → All (λ d. 0 < d) ds → All (λ d. d ∣ m) ds → common_multiple ds ∣ m
 common_divides [] m some all = one-dvd m
 common_divides (d ∷ ds) m some all =
     let rest = All-tail (λ d. 0 < d) d ds some in

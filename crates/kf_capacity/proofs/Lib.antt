@@ -2,12 +2,15 @@ pub mod Channels
 mod Choices
 pub mod Denominators
 mod Digits
+mod Dividing
 mod Fitting
 mod Named
+mod OwnDenominators
 mod Passing
 pub mod Pieces
 mod Products
 mod Sums
 mod TraceOrder
+mod Walking
 mod Widths
 mod Worth

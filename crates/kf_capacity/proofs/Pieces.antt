@@ -1,7 +1,7 @@
 -- Lists that are made piece by piece.
 use Rattle.std.proofs.Common.{◌≡◌, ℕ, ◌+◌, ◌<◌, List, [], ◌∷◌, ◌++◌, All, map, flat_map, sum_by, take, length, get_or, refl, sym, ◌∙◌}
 use Rattle.std.proofs.lemmas.List.{get_or-map, length-map, take_more}
-use Rattle.std.proofs.lemmas.List.Elements.{All-nil, All-cons, All-head, All-tail}
+use Rattle.std.proofs.lemmas.List.Elements.{All-nil, All-cons, All-head, All-tail, All-append}
 use Rattle.std.proofs.lemmas.List.Sums.{sum_by-cons}
 
 module _ {X : Type 0} (P : X → Type 0) where
@@ -18,6 +18,12 @@ module _ {X : Type 0} (P : X → Type 0) where
   in_pieces f [] all = All-nil (λ y. All P (f y))
   in_pieces f (y ∷ ys) all =
       All-cons (λ y. All P (f y)) y ys (all_left (f y) (flat_map f ys) all) (in_pieces f ys (all_right (f y) (flat_map f ys) all))
+
+-- all pieces together have what each of them has
+pub from_pieces : {X Y : Type 0} (P : X → Type 0) (f : Y → List X) (ys : List Y) → All (λ y. All P (f y)) ys → All P (flat_map f ys)
+from_pieces P f [] all = All-nil P
+from_pieces P f (y ∷ ys) all =
+    All-append P (f y) (flat_map f ys) (All-head (λ y. All P (f y)) y ys all) (from_pieces P f ys (All-tail (λ y. All P (f y)) y ys all))
 
 -- a sum over what is made of each
 pub sum_of_made : {X Y : Type 0} (f : Y → ℕ) (g : X → Y) (h : X → ℕ) → ((x : X) → f (g x) ≡ h x) → (xs : List X)

@@ -3,6 +3,7 @@ pub mod Compositions
 pub mod Grids
 -- For bodies
 pub mod Dens
+pub mod Divided
 pub mod Composing
 pub mod Laws
 pub mod Shapes

@@ -4,6 +4,7 @@
 mod capacities;
 mod channel_grid;
 mod column;
+mod divided;
 mod error;
 mod grid;
 mod law;
@@ -11,10 +12,12 @@ mod multiples;
 mod pairs;
 mod places;
 mod product;
+mod scales;
 mod secrets;
 mod series;
 mod values;
 mod visible_choice;
+mod weights;
 
 pub use capacities::capacity;
 pub use channel_grid::grid_of;

@@ -14,7 +14,11 @@ use Rattle.kf_capacity.specs.Divided.{divisor_from, divided, shared, undivided}
 
 -- a secret with what its divisor has in common with its weights in these columns
 abbrev pub divided_on : List Row → DividedSecret → DividedSecret
-divided_on rows s = record { value = s.value; whole = s.whole; divisor = divisor_from s.divisor (map (λ row. weight_at row.column s.value) rows) }
+divided_on rows s = record {
+  value = s.value;
+  whole = s.whole;
+  divisor = divisor_from s.divisor (map (λ row. weight_at row.column s.value) rows);
+}
 
 pub mapped_twice : {X Y Z : Type 0} (f : Y → Z) (g : X → Y) (h : X → Z) → ((x : X) → f (g x) ≡ h x) → (xs : List X) → map f (map g xs) ≡ map h xs
 mapped_twice f g h same [] = refl
@@ -36,7 +40,8 @@ pub names_of_undivided : (rows : List Row) (xs : List ℕ) → map (λ (s : Divi
 names_of_undivided rows [] = refl
 names_of_undivided rows (x ∷ xs) = ap (λ rest. x ∷ rest) (names_of_undivided rows xs)
 
-pub same_names : (es : List Entry) (ss : List DividedSecret) → map (λ (s : DividedSecret). s.value) (map (shared es) ss) ≡ map (λ (s : DividedSecret). s.value) ss
+pub same_names : (es : List Entry) (ss : List DividedSecret)
+    → map (λ (s : DividedSecret). s.value) (map (shared es) ss) ≡ map (λ (s : DividedSecret). s.value) ss
 same_names es ss = mapped_twice (λ (s : DividedSecret). s.value) (shared es) (λ (s : DividedSecret). s.value) (λ s. refl) ss
 
 -- ---- a common divisor with 0 and of 1

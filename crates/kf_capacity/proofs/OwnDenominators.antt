@@ -1,8 +1,8 @@
 -- The least common multiple of the secrets' own denominators is that of all cells, and weights are brought to n-ths by their divisors.
-use Rattle.std.proofs.Common.{◌≡◌, ℕ, zero, suc, ◌+◌, ◌*◌, ◌/◌, ◌<◌, ◌≤◌, pos, List, [], ◌∷◌, ◌++◌, All, map, drop, length, get_or, refl, sym, ◌∙◌, ap, subst, arith}
+use Rattle.std.proofs.Common.{◌≡◌, ℕ, zero, suc, ◌+◌, ◌*◌, ◌/◌, ◌<◌, ◌≤◌, pos, List, [], ◌∷◌, All, map, drop, length, get_or, refl, sym, ◌∙◌, ap, subst, arith}
 use Rattle.std.proofs.Math.Nat.{div-mul_cancel, dvd-mul_left, mul-div-le, mul-dvd-mul, mul-dvd-mul_left, mul-le-mul_right, dvd_of_mul-dvd-mul_right, mul-div_cancel_left}
 use Rattle.std.proofs.lemmas.List.{at_drop_more, get_or-map, length-map}
-use Rattle.std.proofs.lemmas.List.Elements.{All-nil, All-cons, All-head, All-tail, All-map, All-append, All-weaker, All-drop, All-from_get_or}
+use Rattle.std.proofs.lemmas.List.Elements.{All-nil, All-cons, All-head, All-tail, All-map, All-weaker, All-drop, All-from_get_or}
 use Rattle.std.proofs.lemmas.Nat.Gcd.{dvd_refl, dvd_trans, dvd_antisymm, dvd-zero}
 use Rattle.std.specs.Int.{◌∣◌}
 use Rattle.kf_frac.specs.Divisors.{gcd_of, lcm_of, common_multiple}
@@ -276,5 +276,6 @@ module _ (ss : List DividedSecret) (all : All (λ s. (0 < s.divisor) × (0 < den
         arith,
         small,
         own_more,
-        growing (lcm_of (den_of (get_or ss i d)) multiple) rest (lcm_is (den_of (get_or ss i d)) multiple (all i d within).1 some).positive (are_positive rest positive),
+        growing (lcm_of (den_of (get_or ss i d)) multiple) rest (lcm_is (den_of (get_or ss i d)) multiple (all i d within).1 some).positive
+            (are_positive rest positive),
       )

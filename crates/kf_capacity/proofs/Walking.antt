@@ -68,7 +68,8 @@ ahead_next es rest next past low (x ∷ xs) less after (from, same, ahead) =
     (from, after x (omega (arith, less, from)) ∙ same, ahead_next es rest next past (x + 1) xs (omega (arith, less, from)) after ahead)
 
 module _ (es rest : List Entry) where
-  pub ahead_here : (low : ℕ) (xs : List ℕ) (i : ℕ) → i < length xs → Ahead es rest low (drop i xs) → weight_at rest (get_or xs i 0) ≡ weight_at es (get_or xs i 0)
+  pub ahead_here : (low : ℕ) (xs : List ℕ) (i : ℕ) → i < length xs → Ahead es rest low (drop i xs)
+      → weight_at rest (get_or xs i 0) ≡ weight_at es (get_or xs i 0)
   ahead_here low [] i within ahead = absurd (omega (arith, within))
   ahead_here low (x ∷ xs) zero within (from, same, ahead) = same
   ahead_here low (x ∷ xs) (suc i) within ahead = ahead_here low xs i (omega (arith, within)) ahead

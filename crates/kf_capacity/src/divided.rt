@@ -72,5 +72,6 @@ fn common(divisor: u128, weight: u128) -> u128
     if divisor == 1 || weight == 0 {
         return divisor;
     }
-    gcd(divisor, weight)
+    // the divisor mostly divides it, which this order finds by one division
+    gcd(weight, divisor)
 }

@@ -24,7 +24,11 @@ pub(crate) struct SecretScale {
 }
 
 /// The scales of some secrets, over one denominator.
-pub(crate) fn scales(alloc: Global, secrets: &[DividedSecret], over: u128) -> Result<Vec<SecretScale>, Mem>
+pub(crate) fn scales(
+    alloc: Global,
+    secrets: &[DividedSecret],
+    over: u128,
+) -> Result<Vec<SecretScale>, Mem>
     requires { All (λ s. (0 < s.divisor) × (0 < den_of s)) secrets.now }
     ensures { IfOk result (λ list. list.items ≡ map (scale_of over) secrets.now) }
 {

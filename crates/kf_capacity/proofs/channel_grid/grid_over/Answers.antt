@@ -1,4 +1,4 @@
-use Rattle.std.proofs.Common.{◌≡◌, ℕ, ◌<◌, ◌≤◌, List, [], All, map, length, get_or, refl, sym, ◌∙◌, ap, subst, arith}
+use Rattle.std.proofs.Common.{◌≡◌, ◌<◌, ◌≤◌, List, [], All, map, length, get_or, refl, sym, ◌∙◌, ap, subst, arith}
 use Rattle.std.proofs.lemmas.List.{get_or-map, length-map}
 use Rattle.std.specs.List.Sorted.{IsStrictlyIncreasing}
 use Rattle.kf_frac.specs.Fractions.{limit}
@@ -45,11 +45,11 @@ scaled_columns-requires-clause-fits c =
     c.as_slice.ensures.value ∙ c.in_ok-scales.ensures ∙ (λ k. map (scale_of (c.requires.over k)) (c.requires.secrets k)) in
     let narrow : denominator t ≤ limit = subst (λ n. n ≤ limit) c.requires.over c.requires.narrow in
     λ j (d : TraceRow) inside.
-        let here : get_or t.rows j none ≡ table_row (get_or traces j d) =
-        ap (λ (l : List Row). get_or l j none) (sym c.traces.ensures) ∙ get_or-map table_row traces j d none inside in
-        let within : j < length t.rows = omega (arith, ap length c.traces.ensures, length-map traces table_row, inside) in
-        subst (λ (l : List SecretScale). All (λ s. number_in (get_or traces j d).column s ≤ limit) l) (sym made)
-        (subst (λ (row : Row). All (λ s. number_in row.column s ≤ limit) (scales_over t weigh)) here (all_fit t weigh narrow j none within))
+    let here : get_or t.rows j none ≡ table_row (get_or traces j d) =
+    ap (λ (l : List Row). get_or l j none) (sym c.traces.ensures) ∙ get_or-map table_row traces j d none inside in
+    let within : j < length t.rows = omega (arith, ap length c.traces.ensures, length-map traces table_row, inside) in
+    subst (λ (l : List SecretScale). All (λ s. number_in (get_or traces j d).column s ≤ limit) l) (sym made)
+    (subst (λ (row : Row). All (λ s. number_in row.column s ≤ limit) (scales_over t weigh)) here (all_fit t weigh narrow j none within))
 
 pub invariant_of-result : goal.invariant_of-result
 invariant_of-result c =

@@ -1,4 +1,4 @@
-use Rattle.std.proofs.Common.{◌≡◌, ℕ, ◌+◌, ◌<◌, ◌≤◌, List, [], map, drop, length, get_or, sym, ◌∙◌, ap, arith}
+use Rattle.std.proofs.Common.{◌≡◌, ◌+◌, ◌<◌, ◌≤◌, List, [], map, drop, length, get_or, sym, ◌∙◌, ap, arith}
 use Rattle.std.proofs.lemmas.List.{at_drop_more, at_drop_all, get_or-map, length-map}
 use Rattle.kf_column.specs.declared.entry.Entry.{Entry}
 use Rattle.kf_column.specs.Traces.{Row}

@@ -32,7 +32,8 @@ loop-i-preserved c =
     c.weight_from-next.ensures.weight
     ∙ subst (λ (x : ℕ). weight_at rest x ≡ weight_at es x) (sym name) (ahead_here es rest 0 names i many c.loop-i.invariant.ahead) in
     record {
-      part = ap (λ (n : ℕ). set now i (record { value = s.value; whole = s.whole; divisor = n })) (c.common-secret.ensures ∙ ap (λ (n : ℕ). gcd_of s.divisor n) weight)
+      part = ap (λ (n : ℕ). set now i (record { value = s.value; whole = s.whole; divisor = n }))
+          (c.common-secret.ensures ∙ ap (λ (n : ℕ). gcd_of s.divisor n) weight)
           ∙ ap (λ (t : DividedSecret). set now i (shared es t)) c.index_mut-secret.ensures.value
           ∙ mapped_more (shared es) all now i s within c.loop-i.invariant.part;
       ahead = ahead_more es rest (drop c.weight_from-next.result.0 es) names i many

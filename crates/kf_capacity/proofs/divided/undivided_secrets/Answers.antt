@@ -22,7 +22,9 @@ loop-entry-preserved c =
     let name : e.value ≡ get_or xs i 0 =
     sym (get_or-map (λ (e : Entry). e.value) es i d 0 within) ∙ ap (λ (l : List ℕ). get_or l i 0) c.secrets-entries.ensures.listed in
     let weight : e.weight ≡ value_weight rows (get_or xs i 0) =
-    sym (weight_found es e.value i d c.secrets-entries.ensures.column within refl) ∙ sym (c.secrets-entries.ensures.whole e.value) ∙ ap (value_weight rows) name in
+    sym (weight_found es e.value i d c.secrets-entries.ensures.column within refl) ∙ sym (c.secrets-entries.ensures.whole e.value)
+    ∙ ap (value_weight rows) name in
     let made : DividedSecret = record { value = e.value; whole = e.weight; divisor = e.weight } in
     let here : made ≡ undivided rows (get_or xs i 0) = λ k. record { value = name k; whole = weight k; divisor = weight k } in
-    ◌∙◌ {A = List DividedSecret} c.in_ok-push.ensures.items (more_made (undivided rows) xs i 0 c.loop-entry.secrets.items made many c.loop-entry.invariant here)
+    let more = more_made (undivided rows) xs i 0 c.loop-entry.secrets.items made many c.loop-entry.invariant here in
+    ◌∙◌ {A = List DividedSecret} c.in_ok-push.ensures.items more

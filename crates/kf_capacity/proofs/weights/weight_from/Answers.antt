@@ -1,4 +1,4 @@
-use Rattle.std.proofs.Common.{◌≤◌, ◌∙◌, arith, refl}
+use Rattle.std.proofs.Common.{◌∙◌, arith}
 use Rattle.kf_column.specs.declared.entry.Entry.{Entry}
 use Rattle.kf_capacity.proofs.Walking.{met, missed}
 use Rattle.kf_capacity.proofs.weights.weight_from.Goals as goal

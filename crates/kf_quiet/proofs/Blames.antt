@@ -1,13 +1,18 @@
 -- Blames, told one after the other.
-use Rattle.std.proofs.Common.{◌≡◌, ℕ, suc, zero, List, [], ◌∷◌, ◌++◌, Some, length, slice_get, ⊎_elim, refl, sym, ap, subst, ◌∙◌, arith}
+use Rattle.std.proofs.Common.{◌≡◌, ℕ, ℤ, suc, zero, List, [], ◌∷◌, ◌++◌, Some, length, slice_get, ⊎_elim, refl, sym, ap, subst, ◌∙◌, arith}
 use Rattle.std.proofs.lemmas.Bool.{cases_eq}
 use Rattle.std.proofs.lemmas.List.{length-append}
 use Rattle.std.proofs.lemmas.Option.{slice_get_within}
-use Rattle.kf_core.specs.Joint.{joint_of}
+use Rattle.kf_column.specs.Hypers.{Inner}
+use Rattle.kf_core.specs.Joint.{Cell, joint_of}
 use Rattle.kf_core.specs.Programs.{ProgramTree}
+use Rattle.kf_core.specs.Rows.{IsHyperOf}
+use Rattle.kf_frac.specs.Parts.{IsFraction}
+use Rattle.kf_gain.specs.Gains.{Bayes}
+use Rattle.kf_gain.specs.Vulnerabilities.{IsPosterior}
 use Rattle.kf_silent.specs.Quiet.{quiet_joint}
 use Rattle.kf_quiet.specs.Blames.{AreBlames, BlameTree, IsBlame}
-use Rattle.kf_quiet.specs.Views.{ShowBlames, ShowsBlame}
+use Rattle.kf_quiet.specs.Views.{ShowBlames, ShowsBlame, ShowsBlameOf}
 use Rattle.kf_quiet.specs.declared.blame.Blame.{Blame}
 
 -- those of the program and of the first statements, so many
@@ -60,3 +65,12 @@ show_more scale [] [] t b h one = (one, tt)
 show_more scale [] (c ∷ cs) t b h one = absurd h
 show_more scale (u ∷ us) [] t b h one = absurd h
 show_more scale (u ∷ us) (c ∷ cs) t b h one = (h.0, show_more scale us cs t b h.1 one)
+
+-- what is counted of a joint's hyper is its blame
+pub shows_hyper : (joint : List Cell) (scale over : ℕ) (inners : List Inner) (b : Blame) → IsHyperOf joint inners → over ≡ scale
+    → b.inners ≡ length inners → ((z : ℤ) × IsPosterior Bayes inners z × IsFraction b.bayes z over) → ShowsBlameOf joint scale b
+shows_hyper joint scale over inners b is same counted bayes = record {
+  tree = record { inners = length inners; bayes = bayes.0 };
+  is = record { inners = inners; is_hyper = is; counted = refl; bayes = bayes.1 };
+  shows = record { inners = counted; bayes = subst (IsFraction b.bayes bayes.0) same bayes.2 };
+}

@@ -1,5 +1,6 @@
 pub mod Blames
 mod AllBlames
+mod Unseen
 mod HushRuns
 mod HushWorth
 mod HushRows

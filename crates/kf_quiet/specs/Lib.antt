@@ -2,5 +2,6 @@
 pub mod Blames
 -- For bodies
 pub mod Views
+pub mod Unseen
 pub mod Laws
 pub mod SilentLaws

@@ -1,18 +1,21 @@
 //! How much is left of what is seen where each outermost statement in turn is quiet.
 
-ghost use Rattle.std.specs.Prelude.{◌≡◌, ℤ, List, IfOk, length};
+ghost use Rattle.std.specs.Prelude.{◌≡◌, ◌<◌, ◌+◌, ℤ, true, List, IfOk, length};
 ghost use Rattle.kf_frac.specs.Parts.{IsFraction};
 ghost use Rattle.kf_hyper.specs.Views.{inners_of, scale_of};
 ghost use Rattle.kf_core.specs.Joint.{joint_of};
 ghost use Rattle.kf_core.specs.Rows.{IsHyperOf};
+ghost use Rattle.kf_core.specs.Views.{st_tree};
 ghost use Rattle.kf_gain.specs.Gains.{Bayes};
 ghost use Rattle.kf_gain.specs.Vulnerabilities.{IsPosterior};
+ghost use Rattle.kf_silent.specs.Quiet.{quiet_joint};
 ghost use Rattle.kf_quiet.specs.Blames.{BlameTree, AreBlames};
-ghost use Rattle.kf_quiet.specs.Views.{ShowBlames};
+ghost use Rattle.kf_quiet.specs.Unseen.{ShowsNothing};
+ghost use Rattle.kf_quiet.specs.Views.{ShowBlames, ShowsBlameOf};
 
 use crate::quiet::quiet_hyper;
 use crate::{Blame, BlameList};
-use kf_core::{choice_laws, run_laws};
+use kf_core::{St, choice_laws, run_laws};
 use kf_frac::Frac;
 use kf_gain::{Gain, GainFault, posterior};
 use kf_hyper::Hyper;
@@ -58,6 +61,43 @@ fn blame_at(alloc: Global, h: &Hyper) -> Result<Blame, Mem>
     })
 }
 
+/// The blame of the whole program.
+fn whole_blame<P: Pusher>(alloc: Global, p: &P) -> Result<Blame, Mem>
+    ensures { IfOk result (λ b. ShowsBlameOf (joint_of (P.meaning p.now).turns (P.meaning p.now).program) (P.meaning p.now).scale b) }
+{
+    let whole = whole_hyper(alloc, p)?;
+    let blame = blame_at(alloc, &whole)?;
+    Ok(blame)
+}
+
+/// Whether the statement shows nothing by its form: a `skip`, or an assignment to a hidden variable.
+fn shows_nothing(statement: &St) -> bool
+    ensures { result ≡ true → ShowsNothing (st_tree statement.now) }
+{
+    match statement {
+        St::Skip => true,
+        St::Assign { shown, .. } => !*shown,
+        _ => false,
+    }
+}
+
+/// The blame where the outermost statement `i`, from 0, is quiet. Where it shows nothing anyway, it is that of the whole program, and
+/// nothing is run.
+fn blame_without<P: Pusher>(alloc: Global, p: &P, i: usize, whole: Blame) -> Result<Blame, Mem>
+    requires within { i < length (P.meaning p.now).program.body }
+    requires whole { ShowsBlameOf (joint_of (P.meaning p.now).turns (P.meaning p.now).program) (P.meaning p.now).scale whole }
+    ensures { IfOk result (λ b. ShowsBlameOf (quiet_joint (P.meaning p.now).turns (P.meaning p.now).program i (i + 1)) (P.meaning p.now).scale b) }
+{
+    run_laws();
+    let program = p.program();
+    if shows_nothing(&program.body.as_slice()[i]) {
+        return Ok(whole);
+    }
+    let quiet = quiet_hyper(alloc, p, i, i + 1)?;
+    let blame = blame_at(alloc, &quiet)?;
+    Ok(blame)
+}
+
 /// The blames of a program: the number of inners and the posterior Bayes vulnerability of its hyper, and then of its hyper where each
 /// outermost statement in turn is quiet.
 pub fn blame_of<P: Pusher>(alloc: Global, p: &P) -> Result<BlameList, Mem>
@@ -65,12 +105,11 @@ pub fn blame_of<P: Pusher>(alloc: Global, p: &P) -> Result<BlameList, Mem>
         × ShowBlames (P.meaning p.now).scale trees blames) }
 {
     let count = p.program().body.as_slice().len();
-    let whole = whole_hyper(alloc, p)?;
+    let whole = whole_blame(alloc, p)?;
     let mut blames = Vec::new(alloc);
-    blames.push(blame_at(alloc, &whole)?)?;
+    blames.push(whole)?;
     for i in 0..count {
-        let quiet = quiet_hyper(alloc, p, i, i + 1)?;
-        blames.push(blame_at(alloc, &quiet)?)?;
+        blames.push(blame_without(alloc, p, i, whole)?)?;
     }
     Ok(BlameList::new(blames))
 }

@@ -1,6 +1,7 @@
 pub mod Blames
 mod AllBlames
 mod Unseen
+mod Pushed
 mod HushRuns
 mod HushWorth
 mod HushRows

@@ -33,7 +33,7 @@ module _ (chains : RunsChain) (turns : ℕ) (p : ProgramTree) where
   abbrev rest_from : ℕ → ℕ → List Run
   rest_from k = all_runs p.types turns (sts (drop k p.body))
 
-  parted : (k j : ℕ) → k ≤ j → rest_from k ≡ (λ n. chain (block_runs turns p k j n) (rest_from j))
+  pub parted : (k j : ℕ) → k ≤ j → rest_from k ≡ (λ n. chain (block_runs turns p k j n) (rest_from j))
   parted k j ordered =
       ap (λ xs. all_runs p.types turns (sts xs)) (block_rest k j p.body ordered)
       ∙ (λ i n. chains p.types turns (take (j - k) (drop k p.body)) (drop j p.body) n i)

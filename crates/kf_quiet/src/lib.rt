@@ -1,6 +1,7 @@
 //! What would leak if a block of a program's statements showed nothing, and which statement is to blame.
 #![tactic(auto)]
 
+mod before;
 mod blame;
 mod laws;
 mod quiet;

@@ -10,7 +10,9 @@ ghost use Rattle.kf_core.specs.Rows.{IsHyperOf};
 ghost use Rattle.kf_hyper.specs.Views.{inners_of, scale_of, target_of};
 ghost use Rattle.kf_push.specs.Meanings.{runs_between, store_count};
 ghost use Rattle.kf_silent.specs.Quiet.{hushed, quiet_joint};
+ghost use Rattle.kf_quiet.specs.Standing.{StandsBefore};
 
+use crate::before::{bring, first_before};
 use kf_core::{choice_laws, run_laws};
 use kf_hyper::{Column, ColumnList, Columns, Hyper};
 use kf_push::{Pusher, about_target, alone, are_columns, sum_of};
@@ -70,6 +72,31 @@ fn hush_all<P: Pusher>(
     Ok(Columns::new(columns.scale(), ColumnList::new(list)))
 }
 
+/// The hyper of a program whose outermost statements from the one at `from` on, up to but not with the one at `to`, are quiet, from the
+/// columns before them.
+pub fn quiet_from<P: Pusher>(
+    alloc: Global,
+    p: &P,
+    from: usize,
+    to: usize,
+    before: &Columns,
+) -> Result<Hyper, Mem>
+    requires some { from < to }
+    requires within { to ≤ length (P.meaning p.now).program.body }
+    requires stands { StandsBefore (P.meaning p.now) from before.now }
+    ensures hyper { IfOk result (λ h. IsHyperOf (quiet_joint (P.meaning p.now).turns (P.meaning p.now).program from to) (inners_of h)) }
+    ensures scale { IfOk result (λ h. scale_of h ≡ (P.meaning p.now).scale) }
+    ensures target { IfOk result (λ h. target_of h ≡ (P.meaning p.now).program.target) }
+{
+    choice_laws();
+    run_laws();
+    let program = p.program();
+    let hushed = hush_all(alloc, p, from, to, before)?;
+    let after = p.push(alloc, to, program.body.as_slice().len(), &hushed)?;
+    let hyper = about_target(alloc, program, &after)?;
+    Ok(hyper)
+}
+
 /// The hyper of a program whose outermost statements from the one at `from` on, counted from 0, up to but not with the one at `to`,
 /// are quiet: what is seen of them together is nothing. They do what they do.
 pub fn quiet_hyper<P: Pusher>(alloc: Global, p: &P, from: usize, to: usize) -> Result<Hyper, Mem>
@@ -79,13 +106,8 @@ pub fn quiet_hyper<P: Pusher>(alloc: Global, p: &P, from: usize, to: usize) -> R
     ensures scale { IfOk result (λ h. scale_of h ≡ (P.meaning p.now).scale) }
     ensures target { IfOk result (λ h. target_of h ≡ (P.meaning p.now).program.target) }
 {
-    choice_laws();
-    run_laws();
-    let program = p.program();
-    let start = p.start(alloc)?;
-    let before = p.push(alloc, 0, from, &start)?;
-    let hushed = hush_all(alloc, p, from, to, &before)?;
-    let after = p.push(alloc, to, program.body.as_slice().len(), &hushed)?;
-    let hyper = about_target(alloc, program, &after)?;
+    let mut before = first_before(alloc, p)?;
+    bring(alloc, p, &mut before, from)?;
+    let hyper = quiet_from(alloc, p, from, to, &before.columns)?;
     Ok(hyper)
 }

@@ -9,8 +9,8 @@ use Rattle.kf_quiet.proofs.statements.blame_without.Goals as goal
 use Rattle.kf_quiet.specs.Views.{ShowsBlameOf}
 use Rattle.kf_silent.specs.Quiet.{quiet_joint}
 
-pub returns-then-shows_nothing : goal.returns-then-shows_nothing
-returns-then-shows_nothing g c =
+pub returns-then-shows_nothing-clause-blame : goal.returns-then-shows_nothing-clause-blame
+returns-then-shows_nothing-clause-blame g c =
     let m = g.P.Pusher.meaning c.args.p.now in
     let xs = c.as_slice.result.now in
     let body : map st_tree xs ≡ m.program.body = ap (map st_tree) c.as_slice.ensures ∙ ap (λ (p : ProgramTree). p.body) c.program-program.ensures.program in
@@ -18,8 +18,8 @@ returns-then-shows_nothing g c =
     (c.shows_nothing.ensures c.if-shows_nothing.true) in
     subst (λ (joint : List Cell). ShowsBlameOf joint m.scale c.args.whole) (sym same) c.requires.whole
 
-pub returns : goal.returns
-returns g c =
+pub returns-clause-blame : goal.returns-clause-blame
+returns-clause-blame g c =
     let m = g.P.Pusher.meaning c.args.p.now in
     let i = c.args.i in
     let quiet = c.in_ok-quiet.quiet in

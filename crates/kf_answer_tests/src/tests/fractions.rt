@@ -1,4 +1,5 @@
 // Fractions, divisors and products, worked out by hand.
+use crate::tests::is_text;
 use kf_frac::{Frac, Product, Wide, add, cmp, gcd, lcm, make, mul, quotient, share};
 use std::alloc::AllocError;
 use std::cmp::Ordering;
@@ -65,7 +66,7 @@ const TEXTS: [(Parts, &str); 4] = [
 fn writes_a_denominator_unless_it_is_one(rt: HostRuntime) -> Result<(), AllocError> {
     for (given, want) in &TEXTS {
         let text = fraction(&rt, *given).to_string(rt.alloc())?;
-        assert_eq!(rt; text.as_str(), *want);
+        is_text(&rt, text.as_str(), want);
     }
     Ok(())
 }

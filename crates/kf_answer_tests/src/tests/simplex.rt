@@ -1,7 +1,8 @@
 // Systems of equations, each with its solution, its multipliers or its refusal, worked out by hand.
+use crate::tests::is_text;
 use kf_frac::Frac;
 use kf_simplex::{Equation, EquationList, NumberList, Outcome, SimplexError, System, cells, solve};
-use std::alloc::{AllocError, Global};
+use std::alloc::AllocError;
 use std::fmt::Write;
 use std::process::Abort;
 
@@ -39,8 +40,7 @@ fn system(rt: &impl Abort, unknowns: u32, rows: EquationList) -> System {
 }
 
 fn outcome(
-    rt: &impl Abort,
-    alloc: Global,
+    rt: &(impl Abort + AllocGlobal),
     system: &System,
     pivots: u32,
 ) -> Result<Outcome, SimplexError> {
@@ -48,7 +48,7 @@ fn outcome(
         system.rows.as_slice().len() <= 1000 && system.unknowns <= 1000,
         "too many cells"
     );
-    solve(alloc, system, pivots)
+    solve(rt.alloc(), system, pivots)
 }
 
 fn write_fractions(text: &mut String, values: &[Frac]) -> Result<(), AllocError> {
@@ -85,17 +85,19 @@ fn write_outcome(
     }
 }
 
+fn text_of(rt: &(impl Abort + AllocGlobal), outcome: &Result<Outcome, SimplexError>) -> String {
+    let mut text = String::new(rt.alloc());
+    write_outcome(&mut text, outcome).expect(rt, "memory");
+    text
+}
+
 // How many unknowns, the equations, how many pivots are allowed, and the outcome.
 type Row = (u32, &'static [&'static [i64]], u32, &'static str);
 
-fn has_outcome(rt: &(impl Abort + AllocGlobal), row: &Row) {
-    let (unknowns, rows, pivots, want) = row;
-    let alloc = rt.alloc();
+fn has_outcome(rt: &(impl Abort + AllocGlobal), (unknowns, rows, pivots, want): &Row) {
     let system = system(rt, *unknowns, equations(rt, rows));
-    let outcome = outcome(rt, alloc, &system, *pivots);
-    let mut text = String::new(alloc);
-    write_outcome(&mut text, &outcome).expect(rt, "memory");
-    assert_eq!(rt; text.as_str(), *want);
+    let text = text_of(rt, &outcome(rt, &system, *pivots));
+    is_text(rt, text.as_str(), want);
 }
 
 fn have_outcomes(rt: &(impl Abort + AllocGlobal), rows: &[Row]) {

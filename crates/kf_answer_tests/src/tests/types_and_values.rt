@@ -1,5 +1,5 @@
 // Worked rows, and a table of small nested types with all their values.
-ghost use Rattle.std.specs.Prelude.{◌≡◌, ◌<◌, [], ◌∷◌, pos, IfOk, IsTrue};
+ghost use Rattle.std.specs.Prelude.{◌≡◌, ◌<◌, [], ◌∷◌, pos, IsTrue};
 ghost use Rattle.kf_value.specs.Types.{count, type_parts, Boolean, Range, TupleOf, SetOf};
 ghost use Rattle.kf_value.specs.Sizes.{well_formed, HasSize};
 ghost use Rattle.kf_value.specs.TypeViews.{type_tree};
@@ -7,27 +7,25 @@ ghost use Rattle.kf_value.specs.Shapes.{shape_types};
 ghost use Rattle.kf_value.specs.Numbers.{target_size};
 ghost use Rattle.kf_value.specs.Views.{items_of};
 
+use crate::tests::are_bytes;
 use kf_value::{
-    Mem, Name, OutOfRange, Shape, ShapeError, Target, TargetItem, TargetItemList, Ty, TyFault,
-    TyList, Value, compare, number, number_of, print_target, print_value, size, value_at,
+    Name, OutOfRange, Shape, Target, TargetItem, TargetItemList, Ty, TyFault, TyList, Value,
+    compare, number, number_of, print_target, print_value, size, value_at,
 };
-use std::alloc::Global;
 use std::cmp::Ordering;
 use std::process::Abort;
 
-fn pair(alloc: Global, first: Ty, second: Ty) -> Result<Ty, Mem>
-    ensures { IfOk result (λ ty. type_tree ty ≡ TupleOf (type_parts (type_tree first ∷ type_tree second ∷ []))) }
+fn pair(rt: &(impl Abort + AllocGlobal), first: Ty, second: Ty) -> Ty
+    ensures { type_tree result ≡ TupleOf (type_parts (type_tree first ∷ type_tree second ∷ [])) }
 {
-    let mut items = Vec::new(alloc);
-    items.push(first)?;
-    items.push(second)?;
-    Ok(Ty::Tuple(TyList::new(items)))
+    let items = vec![in rt.alloc(); first, second].expect(rt, "memory");
+    Ty::Tuple(TyList::new(items))
 }
 
-fn set_of(alloc: Global, base: Ty) -> Result<Ty, Mem>
-    ensures { IfOk result (λ ty. type_tree ty ≡ SetOf (type_tree base)) }
+fn set_of(rt: &(impl Abort + AllocGlobal), base: Ty) -> Ty
+    ensures { type_tree result ≡ SetOf (type_tree base) }
 {
-    Ok(Ty::Set(Box::new(alloc, base)?))
+    Ty::Set(Box::new(rt.alloc(), base).expect(rt, "memory"))
 }
 
 fn range(lo: i64, hi: i64) -> Ty
@@ -36,26 +34,27 @@ fn range(lo: i64, hi: i64) -> Ty
     Ty::Int { lo, hi }
 }
 
-fn item(alloc: Global, name: &str, ty: Ty) -> Result<TargetItem, Mem>
-    ensures { IfOk result (λ item. type_tree item.ty ≡ type_tree ty) }
+fn item(rt: &(impl Abort + AllocGlobal), name: &str, ty: Ty) -> TargetItem
+    ensures { type_tree result.ty ≡ type_tree ty }
 {
-    Ok(TargetItem {
+    TargetItem {
         initial: false,
-        name: Name::new(name.to_string(alloc)?),
+        name: Name::new(name.to_string(rt.alloc()).expect(rt, "memory")),
         ty,
-    })
+    }
 }
 
 /// A target of one variable of the type.
 #[tactic(auto, using(crate::proofs::Sizes::few_values))]
-fn alone(alloc: Global, ty: &Ty) -> Result<Target, Mem>
+fn alone(rt: &(impl Abort + AllocGlobal), ty: &Ty) -> Target
     requires formed { IsTrue (well_formed (type_tree ty.now)) }
     requires sized { HasSize (type_tree ty.now) }
 {
-    let items = vec![in alloc; item(alloc, "x", ty.copy(alloc)?)?]?;
-    Ok(Target {
-        items: TargetItemList::new(items),
-    })
+    let ty = ty.copy(rt.alloc()).expect(rt, "memory");
+    let items = vec![in rt.alloc(); item(rt, "x", ty)];
+    Target {
+        items: TargetItemList::new(items.expect(rt, "memory")),
+    }
 }
 
 /// The number of values of a type that has a size.
@@ -70,34 +69,27 @@ fn known_size(ty: &Ty) -> u32
 }
 
 /// The value is printed like this.
-fn has_text(rt: &(impl Abort + AllocGlobal), value: &Value, want: &str) -> Result<(), Mem> {
+fn has_text(rt: &(impl Abort + AllocGlobal), value: &Value, want: &str) {
     let mut text = Vec::new(rt.alloc());
-    print_value(rt.alloc(), value, &mut text)?;
-    assert_eq!(rt; text.as_slice(), want.as_bytes(), "the text of a value");
-    Ok(())
+    print_value(rt.alloc(), value, &mut text).expect(rt, "memory");
+    are_bytes(rt, text.as_slice(), want);
 }
 
 /// The value with this number has this text, and its number is found again.
-fn has_value(rt: &(impl Abort + AllocGlobal), ty: &Ty, n: u32, want: &str) -> Result<(), Mem>
+fn has_value(rt: &(impl Abort + AllocGlobal), ty: &Ty, n: u32, want: &str)
     requires formed { IsTrue (well_formed (type_tree ty.now)) }
     requires sized { HasSize (type_tree ty.now) }
     requires below { n < count (type_tree ty.now) }
 {
-    let value = value_at(rt.alloc(), ty, n)?;
-    assert_eq!(rt; number(ty, &value), Some(n), "the number of a value");
-    has_text(rt, &value, want)
+    let value = value_at(rt.alloc(), ty, n).expect(rt, "memory");
+    assert_eq!(rt; number(ty, &value), Some(n));
+    has_text(rt, &value, want);
 }
 
 /// The number of the value with this text, in a target of one variable.
-fn has_number(
-    rt: &(impl Abort + AllocGlobal),
-    target: &Target,
-    text: &str,
-    want: Option<u64>,
-) -> Result<(), Mem> {
-    let found = number_of(rt.alloc(), target, text)?;
-    assert_eq!(rt; found, want, "the number of {text}");
-    Ok(())
+fn has_number(rt: &(impl Abort + AllocGlobal), target: &Target, text: &str, want: Option<u64>) {
+    let found = number_of(rt.alloc(), target, text).expect(rt, "memory");
+    assert!(rt; found == want, "the number of {text}");
 }
 
 /// The value with this number is above the one before it.
@@ -117,27 +109,26 @@ fn is_above(rt: &(impl Abort + AllocGlobal), ty: &Ty, n: u32)
 
 /// The type's values have these texts, in this order, and no others; each has the number of its place, which is found
 /// again from its text.
-fn has_values(rt: &(impl Abort + AllocGlobal), ty: &Ty, texts: &[&str]) -> Result<(), Mem>
+fn has_values(rt: &(impl Abort + AllocGlobal), ty: &Ty, texts: &[&str])
     requires formed { IsTrue (well_formed (type_tree ty.now)) }
     requires sized { HasSize (type_tree ty.now) }
 {
     let count = known_size(ty);
     assert_eq!(rt; count as usize, texts.len(), "how many values");
-    let target = alone(rt.alloc(), ty)?;
+    let target = alone(rt, ty);
     for n in 0..count {
         let text = texts[n as usize];
-        has_value(rt, ty, n, text)?;
-        has_number(rt, &target, text, Some(u64::from(n)))?;
+        has_value(rt, ty, n, text);
+        has_number(rt, &target, text, Some(u64::from(n)));
         if n > 0 {
             is_above(rt, ty, n);
         }
     }
-    Ok(())
 }
 
 #[test]
-fn values_of_a_pair(rt: HostRuntime) -> Result<(), Mem> {
-    let bits = pair(rt.alloc(), Ty::Bool, range(-1, 1))?;
+fn values_of_a_pair(rt: HostRuntime) {
+    let bits = pair(&rt, Ty::Bool, range(-1, 1));
     has_values(
         &rt,
         &bits,
@@ -149,12 +140,12 @@ fn values_of_a_pair(rt: HostRuntime) -> Result<(), Mem> {
             "(true, 0)",
             "(true, 1)",
         ],
-    )
+    );
 }
 
 #[test]
-fn values_of_a_set(rt: HostRuntime) -> Result<(), Mem> {
-    let digits = set_of(rt.alloc(), range(0, 2))?;
+fn values_of_a_set(rt: HostRuntime) {
+    let digits = set_of(&rt, range(0, 2));
     has_values(
         &rt,
         &digits,
@@ -168,12 +159,12 @@ fn values_of_a_set(rt: HostRuntime) -> Result<(), Mem> {
             "{1, 2}",
             "{0, 1, 2}",
         ],
-    )
+    );
 }
 
 #[test]
-fn values_of_a_set_of_pairs(rt: HostRuntime) -> Result<(), Mem> {
-    let tuples = set_of(rt.alloc(), pair(rt.alloc(), Ty::Bool, range(7, 7))?)?;
+fn values_of_a_set_of_pairs(rt: HostRuntime) {
+    let tuples = set_of(&rt, pair(&rt, Ty::Bool, range(7, 7)));
     has_values(
         &rt,
         &tuples,
@@ -183,18 +174,18 @@ fn values_of_a_set_of_pairs(rt: HostRuntime) -> Result<(), Mem> {
             "{(true, 7)}",
             "{(false, 7), (true, 7)}",
         ],
-    )
+    );
 }
 
 #[test]
-fn values_of_a_set_of_sets(rt: HostRuntime) -> Result<(), Mem> {
-    let sets = set_of(rt.alloc(), set_of(rt.alloc(), range(0, 0))?)?;
-    has_values(&rt, &sets, &["{}", "{{}}", "{{0}}", "{{}, {0}}"])
+fn values_of_a_set_of_sets(rt: HostRuntime) {
+    let sets = set_of(&rt, set_of(&rt, range(0, 0)));
+    has_values(&rt, &sets, &["{}", "{{}}", "{{0}}", "{{}, {0}}"]);
 }
 
 #[test]
-fn values_of_a_pair_with_a_set(rt: HostRuntime) -> Result<(), Mem> {
-    let mixed = pair(rt.alloc(), set_of(rt.alloc(), Ty::Bool)?, range(0, 1))?;
+fn values_of_a_pair_with_a_set(rt: HostRuntime) {
+    let mixed = pair(&rt, set_of(&rt, Ty::Bool), range(0, 1));
     has_values(
         &rt,
         &mixed,
@@ -208,45 +199,32 @@ fn values_of_a_pair_with_a_set(rt: HostRuntime) -> Result<(), Mem> {
             "({false, true}, 0)",
             "({false, true}, 1)",
         ],
-    )
+    );
 }
 
-fn has_size(rt: &impl Abort, ty: Result<Ty, Mem>, want: Result<u32, TyFault>) -> Result<(), Mem> {
-    let ty = ty?;
+fn has_size(rt: &impl Abort, ty: Ty, want: Result<u32, TyFault>) {
     assert_eq!(rt; size(&ty), want);
-    Ok(())
 }
 
 #[test]
-fn sizes_of_sets_and_their_faults(rt: HostRuntime) -> Result<(), Mem> {
-    let alloc = rt.alloc();
-    has_size(
-        &rt,
-        set_of(alloc, range(0, 16)),
-        Err(TyFault::TooManyValues),
-    )?;
-    has_size(&rt, set_of(alloc, range(0, 15)), Ok(65_536))?;
-    has_size(
-        &rt,
-        set_of(alloc, range(0, 2_000_000)),
-        Err(TyFault::BadRange),
-    )
+fn sizes_of_sets_and_their_faults(rt: HostRuntime) {
+    let fault = Err(TyFault::TooManyValues);
+    has_size(&rt, set_of(&rt, range(0, 16)), fault);
+    has_size(&rt, set_of(&rt, range(0, 15)), Ok(65_536));
+    let fault = Err(TyFault::BadRange);
+    has_size(&rt, set_of(&rt, range(0, 2_000_000)), fault);
 }
 
 #[test]
-fn sizes_of_pairs_and_their_faults(rt: HostRuntime) -> Result<(), Mem> {
-    let alloc = rt.alloc();
+fn sizes_of_pairs_and_their_faults(rt: HostRuntime) {
+    let fault = Err(TyFault::TooManyValues);
     has_size(
         &rt,
-        pair(alloc, set_of(alloc, range(0, 16))?, range(3, 0)),
-        Err(TyFault::TooManyValues),
-    )?;
-    has_size(&rt, pair(alloc, range(0, 255), range(0, 255)), Ok(65_536))?;
-    has_size(
-        &rt,
-        pair(alloc, range(0, 255), range(0, 256)),
-        Err(TyFault::TooManyValues),
-    )
+        pair(&rt, set_of(&rt, range(0, 16)), range(3, 0)),
+        fault,
+    );
+    has_size(&rt, pair(&rt, range(0, 255), range(0, 255)), Ok(65_536));
+    has_size(&rt, pair(&rt, range(0, 255), range(0, 256)), fault);
 }
 
 #[test]
@@ -255,11 +233,12 @@ fn a_range_has_a_least_number(rt: HostRuntime) {
 }
 
 /// The shape of two variables, of `0..3` and of `0..2`.
-fn two_ranges(alloc: Global) -> Result<Shape, ShapeError>
-    ensures { IfOk result (λ shape. shape_types shape ≡ Range (pos 0) (pos 3) ∷ Range (pos 0) (pos 2) ∷ []) }
+fn two_ranges(rt: &(impl Abort + AllocGlobal)) -> Shape
+    ensures { shape_types result ≡ Range (pos 0) (pos 3) ∷ Range (pos 0) (pos 2) ∷ [] }
 {
-    let types = vec![in alloc; range(0, 3), range(0, 2)]?;
-    Shape::new(alloc, TyList::new(types))
+    let types = vec![in rt.alloc(); range(0, 3), range(0, 2)];
+    let types = TyList::new(types.expect(rt, "memory"));
+    Shape::new(rt.alloc(), types).expect(rt, "a shape")
 }
 
 fn sizes_of(shape: &Shape) -> (u32, u32)
@@ -285,63 +264,63 @@ fn changed(shape: &Shape, store: u64, variable: usize, number: i64) -> Result<u6
 }
 
 #[test]
-fn variables_of_a_store(rt: HostRuntime) -> Result<(), ShapeError> {
-    let shape = two_ranges(rt.alloc())?;
+fn variables_of_a_store(rt: HostRuntime) {
+    let shape = two_ranges(&rt);
     assert_eq!(rt; (sizes_of(&shape), slots_of(&shape, 7)), ((4, 3), (2, 1)));
-    Ok(())
 }
 
 #[test]
-fn values_put_into_a_store(rt: HostRuntime) -> Result<(), ShapeError> {
-    let shape = two_ranges(rt.alloc())?;
+fn values_put_into_a_store(rt: HostRuntime) {
+    let shape = two_ranges(&rt);
     let (within, beyond) = (changed(&shape, 7, 1, 2), changed(&shape, 7, 0, 4));
     assert_eq!(rt; (within, beyond), (Ok(8), Err(OutOfRange)));
-    Ok(())
 }
 
 /// The target `x : 0..3`.
-fn four_values(alloc: Global) -> Result<Target, Mem>
-    ensures { IfOk result (λ target. target_size (items_of target) ≡ 4) }
+fn four_values(rt: &(impl Abort + AllocGlobal)) -> Target
+    ensures { target_size (items_of result) ≡ 4 }
 {
-    let items = vec![in alloc; item(alloc, "x", range(0, 3))?]?;
-    Ok(Target {
-        items: TargetItemList::new(items),
-    })
+    let items = vec![in rt.alloc(); item(rt, "x", range(0, 3))];
+    Target {
+        items: TargetItemList::new(items.expect(rt, "memory")),
+    }
 }
 
 #[test]
-fn numbers_of_texts(rt: HostRuntime) -> Result<(), Mem> {
-    let one = four_values(rt.alloc())?;
-    has_number(&rt, &one, "3", Some(3))?;
-    has_number(&rt, &one, "03", None)?;
-    has_number(&rt, &one, "4", None)?;
-    has_number(&rt, &one, "(3)", None)
+fn numbers_of_texts(rt: HostRuntime) {
+    let one = four_values(&rt);
+    has_number(&rt, &one, "3", Some(3));
+    has_number(&rt, &one, "03", None);
+    has_number(&rt, &one, "4", None);
+    has_number(&rt, &one, "(3)", None);
+}
+
+/// The value with this number in the target is printed like this, after what stands there.
+fn has_target_text(rt: &(impl Abort + AllocGlobal), target: &Target, n: u64, want: &str)
+    requires { n < target_size (items_of target.now) }
+{
+    let mut text = vec![in rt.alloc(); b'='].expect(rt, "memory");
+    print_target(rt.alloc(), target, n, &mut text).expect(rt, "memory");
+    are_bytes(rt, text.as_slice(), want);
 }
 
 #[test]
-fn text_of_a_number(rt: HostRuntime) -> Result<(), Mem> {
-    let one = four_values(rt.alloc())?;
-    let mut text = Vec::new(rt.alloc());
-    text.push(b'=')?;
-    print_target(rt.alloc(), &one, 2, &mut text)?;
-    assert_eq!(rt; text.as_slice(), b"=2".as_slice());
-    Ok(())
+fn text_of_a_number(rt: HostRuntime) {
+    has_target_text(&rt, &four_values(&rt), 2, "=2");
 }
 
 /// A copy of the value with this number in a copy of the type.
-fn copied(alloc: Global, ty: &Ty, n: u32) -> Result<Value, Mem>
+fn copied(rt: &(impl Abort + AllocGlobal), ty: &Ty, n: u32) -> Value
     requires sized { HasSize (type_tree ty.now) }
     requires below { n < count (type_tree ty.now) }
 {
-    let ty = ty.copy(alloc)?;
-    let value = value_at(alloc, &ty, n)?;
-    Ok(value.copy(alloc)?)
+    let ty = ty.copy(rt.alloc()).expect(rt, "memory");
+    let value = value_at(rt.alloc(), &ty, n).expect(rt, "memory");
+    value.copy(rt.alloc()).expect(rt, "memory")
 }
 
 #[test]
-fn copies_are_equal(rt: HostRuntime) -> Result<(), Mem> {
-    let alloc = rt.alloc();
-    let ty = pair(alloc, set_of(alloc, range(0, 2))?, Ty::Bool)?;
-    let value = copied(alloc, &ty, 11)?;
-    has_text(&rt, &value, "({0, 2}, true)")
+fn copies_are_equal(rt: HostRuntime) {
+    let ty = pair(&rt, set_of(&rt, range(0, 2)), Ty::Bool);
+    has_text(&rt, &copied(&rt, &ty, 11), "({0, 2}, true)");
 }

@@ -3,4 +3,4 @@ use Rattle.kf_answer_tests.proofs.tests.hypers.stores_become_numbers_of_a_slot.G
 
 pub is_at_slots-requires-clause-apart : goal.is_at_slots-requires-clause-apart
 unfolding IsDistinct
-is_at_slots-requires-clause-apart g c = rw c.in_ok-slots.ensures.items (tt, tt)
+is_at_slots-requires-clause-apart g c = (tt, tt)

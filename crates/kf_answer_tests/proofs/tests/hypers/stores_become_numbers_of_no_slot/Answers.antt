@@ -3,4 +3,4 @@ use Rattle.kf_answer_tests.proofs.tests.hypers.stores_become_numbers_of_no_slot.
 
 pub is_at_slots-requires-clause-apart : goal.is_at_slots-requires-clause-apart
 unfolding IsDistinct
-is_at_slots-requires-clause-apart g c = rw c.new.ensures.items tt
+is_at_slots-requires-clause-apart g c = tt

@@ -16,6 +16,7 @@ use Rattle.kf_lines.specs.LineTexts.{lines_text}
 use Rattle.kf_lines.specs.Outcome.{LinesIn, LinesUnder, TaskLines}
 use Rattle.kf_lines.specs.Sites.{program_sites}
 use Rattle.kf_lines.specs.Summaries.{AreLines, IsSummary, LineTree, SummaryTree}
+use Rattle.kf_lines.specs.Views.{LinesAfter}
 use Rattle.kf_load.specs.Readings.{WasRead}
 use Rattle.kf_load.specs.Steps.{After, Gives, Step, refusal}
 use Rattle.kf_load.specs.Stops as load
@@ -67,29 +68,35 @@ module _ {A B : Type 0} (told : Option (List ℕ → List ℕ)) (before now : Li
 
 -- ---- a text
 
+module _ (told : Option (List ℕ → List ℕ)) (before now : List ℕ → ℕ) (word : GainOf (List ℕ)) (turns : ℕ) (bytes : List ℕ) (tree : SourceTree) (p : ProgramTree) where
+  -- what stops the gain
+  pub no_gain : (s : Stop) → FilesAnswer told before now (names_in word) gain_tree (Err s) (GainIn p.target word)
+      → FilesAnswer told before now (names_in word) shown (Err s) (LinesAfter word turns bytes tree p)
+  no_gain s h = files_stop told before now (names_in word) (GainIn p.target word) (LinesIn turns bytes tree p) gain_tree shown s h
+
+  -- what is answered once it is there
+  pub all_there : (gain : Gain) (r : Result Done Stop)
+      → FilesAnswer told before now (names_in word) gain_tree (Ok gain) (GainIn p.target word) → Answers shown r (LinesIn turns bytes tree p (gain_tree gain))
+      → FilesAnswer told before now (names_in word) shown r (LinesAfter word turns bytes tree p)
+  all_there gain r h answer = files_next told before now (names_in word) (GainIn p.target word) (LinesIn turns bytes tree p) gain_tree shown gain r h answer
+
 module _ (told : Option (List ℕ → List ℕ)) (before now : List ℕ → ℕ) (word : GainOf (List ℕ)) (turns : ℕ) (t : Text) where
   abbrev lines_after : ProgramTree → List File → Step Shown
-  lines_after p tables = After (GainIn p.target word tables) (LinesIn turns t.bytes t.source p)
+  lines_after p tables = LinesAfter word turns t.bytes t.source p tables
 
   -- what stops its program
   pub not_cleared : (s : load_code.Stop) → load.Stopped s (Gives (cleared turns t))
       → FilesAnswer told before now (names_in word) shown (Err (lifted s)) (λ tables. LinesUnder word turns tables t)
   not_cleared s h = own_stops told before now (names_in word) (Gives (cleared turns t)) lines_after shown (lifted s) (lift_stops (Gives (cleared turns t)) s h)
 
-  -- what stops the gain
-  pub no_gain : (p : ProgramTree) → Ok p ≡ cleared turns t → (s : Stop) → FilesAnswer told before now (names_in word) gain_tree (Err s) (GainIn p.target word)
-      → FilesAnswer told before now (names_in word) shown (Err s) (λ tables. LinesUnder word turns tables t)
-  no_gain p is s h =
-      own_next told before now (names_in word) (Gives (cleared turns t)) lines_after shown p (Err s) is
-      (files_stop told before now (names_in word) (GainIn p.target word) (LinesIn turns t.bytes t.source p) gain_tree shown s h)
-
-  -- what is answered once both are there
-  pub all_there : (p : ProgramTree) → Ok p ≡ cleared turns t → (gain : Gain) (r : Result Done Stop)
-      → FilesAnswer told before now (names_in word) gain_tree (Ok gain) (GainIn p.target word) → Answers shown r (LinesIn turns t.bytes t.source p (gain_tree gain))
+  -- what is answered about its program
+  pub once_cleared : (p : ProgramTree) → Ok p ≡ cleared turns t → (r : Result Done Stop) (n : ℕ) → n ≡ turns → (bytes : List ℕ) → bytes ≡ t.bytes
+      → FilesAnswer told before now (names_in word) shown r (LinesAfter word n bytes t.source p)
       → FilesAnswer told before now (names_in word) shown r (λ tables. LinesUnder word turns tables t)
-  all_there p is gain r h answer =
+  once_cleared p is r n same bytes own h =
+      let answer : ℕ → List ℕ → Type 0 = λ m bs. FilesAnswer told before now (names_in word) shown r (LinesAfter word m bs t.source p) in
       own_next told before now (names_in word) (Gives (cleared turns t)) lines_after shown p r is
-      (files_next told before now (names_in word) (GainIn p.target word) (LinesIn turns t.bytes t.source p) gain_tree shown gain r h answer)
+      (subst (λ (m : ℕ). answer m t.bytes) same (subst (answer n) own h))
 
 -- ---- the file that a request names
 

@@ -1,20 +1,25 @@
 -- For bodies: what the code's values show.
 use Rattle.std.specs.Prelude.{◌≡◌, ◌≤◌, ◌*◌, ◌++◌, ℕ, List, codes, decimal, flat_map}
 use Rattle.std.specs.List.{AllZip}
+use Rattle.kf_ast.specs.Sources.{SourceTree}
 use Rattle.kf_core.specs.Joint.{joint_of}
+use Rattle.kf_core.specs.Programs.{ProgramTree}
 use Rattle.kf_frac.specs.Fractions.{limit}
 use Rattle.kf_frac.specs.Parts.{IsFraction}
 use Rattle.kf_gain.specs.Gains.{GainOf, TableTree, over_of}
+use Rattle.kf_load.specs.Steps.{After, Step}
+use Rattle.kf_load.specs.Texts.{File}
 use Rattle.kf_load.specs.Views.{program_in}
 use Rattle.kf_silent.specs.Silent.{Path}
 use Rattle.kf_support.specs.Cleared.{turns_of, whole_scale}
 use Rattle.kf_support.specs.declared.cleared.Cleared.{Cleared}
 use Rattle.kf_text.specs.Texts.{line}
 use Rattle.kf_text.specs.Views.{own_text}
-use Rattle.kf_top.specs.Answer.{HasWidth}
+use Rattle.kf_top.specs.Answer.{GainIn, HasWidth, Shown}
 use Rattle.kf_words.specs.Jobs.{gain_of}
 use Rattle.kf_words.specs.Task.{Leak, Task, on_file}
 use Rattle.kf_lines.specs.LineTexts.{place_text}
+use Rattle.kf_lines.specs.Outcome.{LinesIn}
 use Rattle.kf_lines.specs.Sites as spec
 use Rattle.kf_lines.specs.Summaries.{IsLine, LineTree, SummaryTree}
 use Rattle.kf_lines.specs.declared.request.Request.{Request}
@@ -73,3 +78,9 @@ own_text_of bytes l = own_line (place_text bytes l.at) l.left
 
 abbrev pub own_lines : List ℕ → Summary → List Line → List ℕ
 own_lines bytes all lines = own_line (codes "all") all ++ flat_map (own_text_of bytes) lines
+
+-- ---- answers
+
+-- the gain's table is read, and then the lines of a cleared program are shown
+abbrev pub LinesAfter : GainOf (List ℕ) → ℕ → List ℕ → SourceTree → ProgramTree → List File → Step Shown
+LinesAfter gain turns bytes tree p tables = After (GainIn p.target gain tables) (LinesIn turns bytes tree p)

@@ -4,7 +4,7 @@ ghost use Rattle.std.specs.Prelude.{◌≡◌, ◌≤◌, IfErr, length};
 ghost use Rattle.kf_ast.specs.Views.{source_tree};
 ghost use Rattle.kf_gain.specs.Views.{gain_tree};
 ghost use Rattle.kf_lines.specs.Outcome.{LinesIn, LinesUnder, TaskLines};
-ghost use Rattle.kf_lines.specs.Views.{task_of_request};
+ghost use Rattle.kf_lines.specs.Views.{LinesAfter, task_of_request};
 ghost use Rattle.kf_load.specs.Stops.{IsProper};
 ghost use Rattle.kf_load.specs.Views.{program_in, text_of};
 ghost use Rattle.kf_support.specs.Cleared.{turns_of};
@@ -50,6 +50,24 @@ fn lines_under<'a>(
     Ok(Done { yes: true, bytes })
 }
 
+// The lines of a cleared program under a gain, whose table is read now.
+fn gain_lines<'a, F: Files>(
+    alloc: Global,
+    files: &mut F,
+    bytes: &[u8],
+    source: &Source,
+    cleared: &Cleared,
+    word: &'a GainWord,
+) -> Result<Done, Stop<'a>>
+    requires short { length bytes.now ≤ 1048576 }
+    ensures answer { FilesAnswer (F.contents files.old) (F.faults files.old) (F.faults files.new) (names_in (gain_of word.now)) shown result
+        (LinesAfter (gain_of word.now) (turns_of cleared.now) bytes.now (source_tree source.now) (program_in cleared.now)) }
+    ensures counts { Counts (names_in (gain_of word.now)) (F.faults files.old) (F.faults files.new) result }
+{
+    let gain = gain_in(alloc, files, &cleared.program().target, word)?;
+    lines_under(alloc, bytes, source, cleared, &gain)
+}
+
 // The lines of a text under a gain, whose table is read after the text is cleared.
 fn text_lines<'a, F: Files>(
     alloc: Global,
@@ -71,12 +89,10 @@ fn text_lines<'a, F: Files>(
         source,
         program,
     } = text;
-    let cleared = match cleared_text(alloc, name, &bytes, program, turns) {
-        Ok(cleared) => cleared,
-        Err(stop) => return Err(lift(stop)),
-    };
-    let gain = gain_in(alloc, files, &cleared.program().target, word)?;
-    lines_under(alloc, &bytes, &source, &cleared, &gain)
+    match cleared_text(alloc, name, &bytes, program, turns) {
+        Ok(cleared) => gain_lines(alloc, files, &bytes, &source, &cleared, word),
+        Err(stop) => Err(lift(stop)),
+    }
 }
 
 /// What is answered to a request. The gain's table is read after the program is cleared.

@@ -18,6 +18,16 @@ pub(crate) struct Request {
     pub(crate) turns: u32,
 }
 
+// Appends copies of texts.
+fn add_texts(alloc: Global, texts: &[&str], out: &mut Vec<String>) -> Result<(), Mem>
+    ensures { OnOk result (map string_bytes out.new.items ≡ map string_bytes out.old.items ++ map (λ t. t.now) texts.now) }
+{
+    for text in texts {
+        out.push(text.to_string(alloc)?)?;
+    }
+    Ok(())
+}
+
 // Appends copies of words.
 fn add_words(alloc: Global, words: &[String], out: &mut Vec<String>) -> Result<(), Mem>
     ensures { OnOk result (map string_bytes out.new.items ≡ map string_bytes out.old.items ++ map string_bytes words.now) }
@@ -28,26 +38,18 @@ fn add_words(alloc: Global, words: &[String], out: &mut Vec<String>) -> Result<(
     Ok(())
 }
 
-// The words of `leak` with these options and files.
-fn leak_words(alloc: Global, name: &str, others: &[String]) -> Result<Vec<String>, Mem>
-    ensures { IfOk result (λ words. map string_bytes words.items ≡ under_gain name.now (map string_bytes others.now)) }
+// The words of `leak` with these texts before the others.
+fn leak_words(
+    alloc: Global,
+    name: &str,
+    texts: &[&str],
+    others: &[String],
+) -> Result<Vec<String>, Mem>
+    ensures { IfOk result (λ words. map string_bytes words.items ≡ under_gain name.now (map (λ t. t.now) texts.now ++ map string_bytes others.now)) }
 {
     let mut words = Vec::new(alloc);
-    words.push(name.to_string(alloc)?)?;
-    words.push("leak".to_string(alloc)?)?;
-    add_words(alloc, others, &mut words)?;
-    Ok(words)
-}
-
-// The same under one guess at the value.
-fn bayes_words(alloc: Global, name: &str, others: &[String]) -> Result<Vec<String>, Mem>
-    ensures { IfOk result (λ words. map string_bytes words.items ≡ under_bayes name.now (map string_bytes others.now)) }
-{
-    let mut words = Vec::new(alloc);
-    words.push(name.to_string(alloc)?)?;
-    words.push("leak".to_string(alloc)?)?;
-    words.push("--gain".to_string(alloc)?)?;
-    words.push("bayes".to_string(alloc)?)?;
+    add_texts(alloc, &[name, "leak"], &mut words)?;
+    add_texts(alloc, texts, &mut words)?;
     add_words(alloc, others, &mut words)?;
     Ok(words)
 }
@@ -82,11 +84,11 @@ fn request_under(alloc: Global, name: &str, others: &[String]) -> Result<Option<
         ≡ option_or (leak_task (under_gain name.now (map string_bytes others.now))) (leak_task (under_bayes name.now (map string_bytes others.now)))) }
     ensures turns { IfOk result (λ request. IfSome request (λ r. HasTurns (task_of_request r))) }
 {
-    let words = leak_words(alloc, name, others)?;
+    let words = leak_words(alloc, name, &[], others)?;
     if let Some(request) = leak_request(alloc, &words)? {
         return Ok(Some(request));
     }
-    let words = bayes_words(alloc, name, others)?;
+    let words = leak_words(alloc, name, &["--gain", "bayes"], others)?;
     leak_request(alloc, &words)
 }
 

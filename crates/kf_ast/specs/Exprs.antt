@@ -1,6 +1,7 @@
 -- Believed: expressions, each node with its place.
-use Rattle.std.specs.Prelude.{ℕ, Bool, List, [], ◌∷◌}
+use Rattle.std.specs.Prelude.{ℕ, Bool, List}
 use Rattle.kf_ast.specs.Names.{NameTree}
+use mathlib.Core.List.{foldr}
 
 mutual
   -- a place and what stands there
@@ -21,8 +22,7 @@ mutual
     more_exprs : ExprTree → ExprTrees → ExprTrees
 
 abbrev pub exprs : List ExprTree → ExprTrees
-exprs [] = no_exprs
-exprs (x ∷ xs) = more_exprs x (exprs xs)
+exprs xs = foldr more_exprs no_exprs xs
 
 abbrev pub place : ExprTree → ℕ
 place (expr_at at shape) = at

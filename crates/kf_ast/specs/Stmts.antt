@@ -1,7 +1,8 @@
 -- Believed: statements, each with its place.
-use Rattle.std.specs.Prelude.{ℕ, List, [], ◌∷◌}
+use Rattle.std.specs.Prelude.{ℕ, List}
 use Rattle.kf_ast.specs.Names.{NameTree}
 use Rattle.kf_ast.specs.Dists.{DistTree}
+use mathlib.Core.List.{foldr}
 
 mutual
   -- a place and what stands there
@@ -20,5 +21,4 @@ mutual
     more_stmts : StmtTree → StmtTrees → StmtTrees
 
 abbrev pub stmts : List StmtTree → StmtTrees
-stmts [] = no_stmts
-stmts (s ∷ ss) = more_stmts s (stmts ss)
+stmts ss = foldr more_stmts no_stmts ss

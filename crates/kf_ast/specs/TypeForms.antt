@@ -1,5 +1,6 @@
 -- Believed: types as they are written, each part with its place.
-use Rattle.std.specs.Prelude.{ℕ, ℤ, List, [], ◌∷◌}
+use Rattle.std.specs.Prelude.{ℕ, ℤ, List}
+use mathlib.Core.List.{foldr}
 
 mutual
   -- a place and what stands there
@@ -17,5 +18,4 @@ mutual
     more_types : TypeForm → TypeForms → TypeForms
 
 abbrev pub types : List TypeForm → TypeForms
-types [] = no_types
-types (t ∷ ts) = more_types t (types ts)
+types ts = foldr more_types no_types ts

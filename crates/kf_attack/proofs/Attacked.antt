@@ -5,9 +5,9 @@ use Rattle.kf_column.specs.Columns.{total}
 use Rattle.kf_column.specs.Hypers.{Inner}
 use Rattle.kf_gain.specs.Gains.{GainOf, TableTree, over_of}
 use Rattle.kf_attack.specs.declared.attack.Attack.{Attack}
-use Rattle.kf_attack.specs.Attacks.{AttackTree, IsAttack, AreAttacks}
+use Rattle.kf_attack.specs.Attacks.{AttackTree, IsAttack}
 use Rattle.kf_attack.specs.Inners.{IsShownBest}
-use Rattle.kf_attack.specs.Views.{actions_of, ShowsAttack, ShowAttacks}
+use Rattle.kf_attack.specs.Views.{actions_of, ShowsAttack, ShowAttacks, AreAttacks}
 use Rattle.kf_attack.proofs.Zips.{zip_next}
 
 -- attacks of these inners, as they are shown

@@ -18,9 +18,9 @@ use Rattle.kf_gain.proofs.Acting.{Best, best_is, action_within, reached_next, bo
 use Rattle.kf_gain.proofs.Measures.{longer_total}
 use Rattle.kf_attack.specs.declared.attack.Best.TheVariants as best
 use Rattle.kf_attack.specs.declared.attack.Score.{Score}
-use Rattle.kf_attack.specs.Attacks.{Scores, scored}
+use Rattle.kf_attack.specs.Attacks.{Scores}
 use Rattle.kf_attack.specs.Inners.{IsShownBest}
-use Rattle.kf_attack.specs.Views.{ShowsScore, places}
+use Rattle.kf_attack.specs.Views.{ShowsScore, places, scored}
 use Rattle.kf_attack.proofs.Zips.{zip_next, zip_mapped}
 
 positive : (t o : ℕ) → 0 < t → 0 < o → 0 < t * o

@@ -14,10 +14,11 @@ use Rattle.kf_gain.specs.Laws.{HasActions}
 use Rattle.kf_gain.specs.Worth.{IsVulnerability, gained}
 use Rattle.kf_gain.specs.Vulnerabilities.{IsPosterior}
 use Rattle.kf_gain.proofs.Measures.{some, one, scales}
-use Rattle.kf_attack.specs.Attacks.{AreRanked, NamedGain, BestTree, Values, Scores, scored, IsBest, AttackTree, IsAttack, AreAttacks}
+use Rattle.kf_attack.specs.Attacks.{AreRanked, NamedGain, BestTree, Values, Scores, IsBest, AttackTree, IsAttack}
 use Rattle.kf_attack.specs.Laws.{ComesTo, worth_of}
 use Rattle.kf_attack.proofs.Order.{one_order, some_order}
 use Rattle.kf_attack.proofs.Worths.{tries_come, bayes_comes, guesses_cost, cost_in_turn}
+use Rattle.kf_attack.specs.Views.{scored, AreAttacks}
 
 -- ---- what is shown
 

@@ -2,12 +2,10 @@
 use Rattle.std.specs.Prelude.{◌≡◌, ℕ, ◌*◌, ◌-◌, ◌≤◌, ℤ, pos, ◌*ℤ◌, ◌≤ℤ◌, ◌<ℤ◌, List, map, take, IsPermutation}
 use Rattle.std.specs.declared.cmp.Ordering.{Ordering}
 use Rattle.std.specs.Ordering.{ordering_then, nat_cmp}
-use Rattle.std.specs.List.{AllZip}
 use Rattle.std.specs.List.Sorted.{IsStrictlySortedBy}
 use Rattle.kf_column.specs.declared.entry.Entry.{Entry}
 use Rattle.kf_column.specs.Columns.{total}
 use Rattle.kf_column.specs.Hypers.{Inner}
-use Rattle.kf_gain.specs.declared.table.Action.{Action}
 use Rattle.kf_gain.specs.Gains.{GainOf, Bayes, Tries, Guessing, Table, TableTree, over_of}
 use Rattle.kf_gain.specs.Worth.{IsVulnerability, gained}
 use Rattle.kf_gain.specs.Vulnerabilities.{IsPosterior}
@@ -33,16 +31,12 @@ pub data BestTree : Type 0 where
   Values : List Entry → BestTree
   Scores : List NamedGain → BestTree
 
--- what an action of a table gains from a column
-abbrev pub scored : TableTree → List Entry → Action → NamedGain
-scored t column a = record { name = a.name; gain = gained t.rest a.gains column }
-
 -- the likeliest value, the likeliest values, all values from the likeliest on, or each action in its order
 abbrev pub IsBest : GainOf TableTree → List Entry → BestTree → Type 0
 IsBest Bayes column (Values es) = (ranked : List Entry) × AreRanked column ranked × (es ≡ take 1 ranked)
 IsBest (Tries k) column (Values es) = (ranked : List Entry) × AreRanked column ranked × (es ≡ take k ranked)
 IsBest Guessing column (Values es) = AreRanked column es
-IsBest (Table t) column (Scores scores) = scores ≡ map (scored t column) t.actions
+IsBest (Table t) column (Scores scores) = scores ≡ map (λ a. record { name = a.name; gain = gained t.rest a.gains column }) t.actions
 IsBest g column best = ⊥
 
 -- what the best that can be done at an inner is worth, and what it is; all numbers are over `whole`
@@ -55,10 +49,6 @@ pub record IsAttack (g : GainOf TableTree) (i : Inner) (a : AttackTree) : Type 0
   pub worth : IsVulnerability g i.entries a.worth
   pub whole : a.whole ≡ total i.entries * over_of g
   pub best : IsBest g i.entries a.best
-
--- one for each inner
-abbrev pub AreAttacks : GainOf TableTree → List Inner → List AttackTree → Type 0
-AreAttacks g inners attacks = AllZip (IsAttack g) inners attacks
 
 -- ---- how many tries
 

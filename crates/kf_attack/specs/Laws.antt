@@ -8,7 +8,8 @@ use Rattle.kf_gain.specs.Gains.{GainOf, Bayes, Tries, Guessing, Table, TableTree
 use Rattle.kf_gain.specs.Laws.{HasActions}
 use Rattle.kf_gain.specs.Worth.{IsVulnerability, cost_from}
 use Rattle.kf_gain.specs.Vulnerabilities.{IsPosterior}
-use Rattle.kf_attack.specs.Attacks.{BestTree, Values, Scores, NamedGain, IsBest, AttackTree, AreAttacks, ReachTree, IsReach}
+use Rattle.kf_attack.specs.Attacks.{BestTree, Values, Scores, NamedGain, IsBest, AttackTree, ReachTree, IsReach}
+use Rattle.kf_attack.specs.Views.{AreAttacks}
 
 -- what is shown comes to z, and, of a table, nothing shown to more: with guesses their weights or their cost, with a table the score of one
 -- action, and no score above it

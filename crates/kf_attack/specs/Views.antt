@@ -3,9 +3,11 @@ use Rattle.std.specs.Prelude.{◌≡◌, ℕ, pos, ◌<◌, List, [], map, lengt
 use Rattle.std.specs.List.{AllZip, range_with_len}
 use Rattle.kf_frac.specs.Parts.{IsFraction}
 use Rattle.kf_column.specs.declared.entry.Entry.{Entry}
+use Rattle.kf_column.specs.Hypers.{Inner}
 use Rattle.kf_gain.specs.Gains.{GainOf, Table, TableTree}
 use Rattle.kf_gain.specs.declared.table.Action.{Action}
-use Rattle.kf_attack.specs.Attacks.{AttackTree, BestTree, Values, Scores, NamedGain, ReachTree}
+use Rattle.kf_gain.specs.Worth.{gained}
+use Rattle.kf_attack.specs.Attacks.{AttackTree, BestTree, Values, Scores, NamedGain, ReachTree, IsAttack}
 use Rattle.kf_attack.specs.declared.attack.Attack.{Attack}
 use Rattle.kf_attack.specs.declared.attack.Best.{Best}
 use Rattle.kf_attack.specs.declared.attack.Best.TheVariants as best
@@ -51,3 +53,11 @@ pub record ShowsReach (scale : ℕ) (tree : ReachTree) (r : Reach) : Type 0 wher
   pub tries : r.tries ≡ tree.tries
   pub posterior : IsFraction r.posterior tree.posterior scale
   pub before : IsFraction r.before tree.before scale
+
+-- what an action of a table gains from a column
+abbrev pub scored : TableTree → List Entry → Action → NamedGain
+scored t column a = record { name = a.name; gain = gained t.rest a.gains column }
+
+-- one for each inner
+abbrev pub AreAttacks : GainOf TableTree → List Inner → List AttackTree → Type 0
+AreAttacks g inners attacks = AllZip (IsAttack g) inners attacks

@@ -6,9 +6,9 @@ ghost use Rattle.kf_column.specs.Columns.{IsColumn, total};
 ghost use Rattle.kf_hyper.specs.Views.{inners_of, scale_of};
 ghost use Rattle.kf_gain.specs.Vulnerabilities.{IsWidth, width};
 ghost use Rattle.kf_gain.specs.Views.{gain_tree};
-ghost use Rattle.kf_attack.specs.Attacks.{AttackTree, AreAttacks};
+ghost use Rattle.kf_attack.specs.Attacks.{AttackTree};
 ghost use Rattle.kf_attack.specs.Inners.{IsShownBest};
-ghost use Rattle.kf_attack.specs.Views.{ShowAttacks};
+ghost use Rattle.kf_attack.specs.Views.{ShowAttacks, AreAttacks};
 
 use crate::guesses::{in_turn, likeliest};
 use crate::scores::scored;

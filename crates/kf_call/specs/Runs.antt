@@ -5,8 +5,8 @@ use Rattle.kf_entry.specs.Asked.{Asked, asked_task}
 use Rattle.kf_laws.specs.Held.{IsHeldAnswer}
 use Rattle.kf_load.specs.Steps.{message}
 use Rattle.kf_top.specs.Ends.{Sunk, CausesOf, IsQuiet}
-use Rattle.kf_words.specs.Task.{files_of_some}
 use Rattle.kf_call.specs.Contents.{IsMissing, contents_of}
+use Rattle.kf_words.specs.OfWords.{files_of_some}
 
 -- a sink that was empty, took these bytes and has refused none
 abbrev pub took_all : List ℕ → Sunk

@@ -1,6 +1,5 @@
 ghost use Rattle.std.specs.Prelude.{◌≡◌, ◌<◌, ◌≤◌, ◌+◌, ◌++◌, ◌↔◌, [], Some, IsTrue, length, take, IfOk, OnErr};
-ghost use Rattle.kf_io.specs.Counts.{CountsFault};
-ghost use Rattle.kf_io.specs.Faults.{raised};
+ghost use Rattle.kf_io.specs.Counts.{CountsFault, raised};
 ghost use Rattle.kf_call.specs.Sinks.{empty_sink};
 
 use kf_io::{Failed, Sink};

@@ -8,11 +8,12 @@ use Rattle.kf_frac.specs.Divisors.{lcm_of}
 use Rattle.kf_frac.specs.Laws.{IsLcm}
 use Rattle.kf_frac.proofs.CommonMultiples.{lcm_is, product_positive}
 use Rattle.kf_hyper.proofs.Averaging.{sum-mapped}
-use Rattle.kf_capacity.specs.Grids.{GridTree, greatest}
+use Rattle.kf_capacity.specs.Grids.{GridTree}
 use Rattle.kf_capacity.specs.Compositions.{times, choice_grid}
 use Rattle.kf_capacity.specs.Laws.{ChoiceIsMean, ChoiceIsStochastic}
 use Rattle.kf_capacity.specs.Shapes.{IsStochastic}
 use Rattle.kf_capacity.proofs.Sums.{sum_same, sum_times, max_times}
+use Rattle.kf_capacity.specs.Vulnerabilities.{greatest}
 
 -- ---- a column times a number
 

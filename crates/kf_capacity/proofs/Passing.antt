@@ -7,11 +7,11 @@ use Rattle.std.proofs.lemmas.List.FromFn.{length-map-range_with_len, get_or-map-
 use Rattle.std.proofs.lemmas.List.Sums.{sum_by-cons, sum_by-le-sum_by}
 use Rattle.kf_frac.proofs.CommonMultiples.{product_positive}
 use Rattle.kf_hyper.proofs.Averaging.{sum-mapped}
-use Rattle.kf_capacity.specs.Grids.{GridTree, greatest}
+use Rattle.kf_capacity.specs.Grids.{GridTree}
 use Rattle.kf_capacity.specs.Compositions.{through}
 use Rattle.kf_capacity.specs.Laws.{Fit, NothingIsGained, CascadeIsBounded, CascadeIsStochastic}
 use Rattle.kf_capacity.specs.Shapes.{IsStochastic}
-use Rattle.kf_capacity.specs.Vulnerabilities.{vulnerability, together}
+use Rattle.kf_capacity.specs.Vulnerabilities.{vulnerability, together, greatest}
 use Rattle.kf_capacity.proofs.Sums.{sum_none, sum_same, sum_both, sum_times, at_most_greatest, greatest_within}
 use Rattle.kf_capacity.proofs.Worth.{worth_scaled, worth_both}
 

@@ -5,7 +5,7 @@ use Rattle.std.proofs.lemmas.Bool.{cases_lt}
 use Rattle.std.proofs.lemmas.List.Elements.{All-head, All-tail}
 use Rattle.std.proofs.lemmas.List.Recursion.{max_least}
 use Rattle.std.proofs.lemmas.List.Sums.{sum_by-cons, sum_by-append}
-use Rattle.kf_capacity.specs.Grids.{greatest}
+use Rattle.kf_capacity.specs.Vulnerabilities.{greatest}
 
 -- ---- sums
 

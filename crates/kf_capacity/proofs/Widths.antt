@@ -13,7 +13,7 @@ use Rattle.kf_capacity.specs.declared.error.ParallelFault.{ParallelFault}
 use Rattle.kf_capacity.specs.declared.error.ParallelFault.TheVariants as parallel
 use Rattle.kf_capacity.specs.declared.error.ChoiceFault.{ChoiceFault}
 use Rattle.kf_capacity.specs.declared.error.ChoiceFault.TheVariants as choice
-use Rattle.kf_capacity.specs.Composing.{BecomesParallel, BecomesCascade, BecomesChoice}
+use Rattle.kf_capacity.specs.Composing.{BecomesParallel, BecomesCascade, BecomesChoice, cascade_fault, parallel_fault, choice_fault}
 use Rattle.kf_capacity.specs.Compositions.{IsParallel, IsCascade, IsChoice, HaveSameRows, cells_of, fits}
 use Rattle.kf_capacity.specs.Grids.{ChannelTree, denominator}
 
@@ -22,13 +22,13 @@ wide_times m n wide some = let least : m * 1 ≤ m * n = mul-le-mul (omega arith
 
 -- the first grid's fault, side by side
 pub parallel_first : (c d : ChannelTree) (found : GridFault) (e : ParallelFault) → BecomesParallel found e → HaveSameRows c d → cells_of c d ≤ 4000000
-    → (found ≡ fault.Wide → limit < denominator c) → 0 < denominator d → e ≢ parallel.Mem → IsParallel c d (Err e)
+    → (found ≡ fault.Wide → limit < denominator c) → 0 < denominator d → e ≢ parallel.Mem → IsParallel c d (Err (parallel_fault e))
 parallel_first c d fault.Wide e is same few wide some other = rw is (same, few, wide_times (denominator c) (denominator d) (wide refl) some)
 parallel_first c d fault.Mem e is same few wide some other = absurd (other is)
 
 -- the same in front of another channel
 pub cascade_first : (c d : ChannelTree) (found : GridFault) (e : CascadeFault) → BecomesCascade found e → fits c d ≡ true
-    → (found ≡ fault.Wide → limit < denominator c) → 0 < denominator d → e ≢ cascade.Mem → IsCascade c d (Err e)
+    → (found ≡ fault.Wide → limit < denominator c) → 0 < denominator d → e ≢ cascade.Mem → IsCascade c d (Err (cascade_fault e))
 cascade_first c d fault.Wide e is fit wide some other = rw is (fit, wide_times (denominator c) (denominator d) (wide refl) some)
 cascade_first c d fault.Mem e is fit wide some other = absurd (other is)
 
@@ -39,7 +39,7 @@ below_lcm m n some other = let is = lcm_is m n some other in (le_of_dvd is.posit
 -- a grid's fault, in a choice
 pub choice_fails : (num den : ℕ) (c d : ChannelTree) (found : GridFault) (e : ChoiceFault) → BecomesChoice found e → HaveSameRows c d → 0 < den
     → 0 < denominator c → 0 < denominator d → (found ≡ fault.Wide → (limit < denominator c) ⊎ (limit < denominator d)) → e ≢ choice.Mem
-    → IsChoice num den c d (Err e)
+    → IsChoice num den c d (Err (choice_fault e))
 choice_fails num den c d fault.Wide e is same some first second wide other =
     let below = below_lcm (denominator c) (denominator d) first second in
     let common : limit < lcm_of (denominator c) (denominator d) =

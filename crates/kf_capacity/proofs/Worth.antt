@@ -5,9 +5,9 @@ use Rattle.std.proofs.Math.Nat.{mul-le-mul_right}
 use Rattle.std.proofs.lemmas.Bool.{cases_lt, ne_eqb}
 use Rattle.std.proofs.lemmas.List.FromFn.{fill_by_all}
 use Rattle.std.proofs.lemmas.List.Sums.{sum_by-le-sum_by}
-use Rattle.kf_capacity.specs.Grids.{greatest, capacity_of}
+use Rattle.kf_capacity.specs.Grids.{capacity_of}
 use Rattle.kf_capacity.specs.Laws.{CapacityBounds, CapacityIsMet}
-use Rattle.kf_capacity.specs.Vulnerabilities.{gained, vulnerability, together, guess, guesses, uniform}
+use Rattle.kf_capacity.specs.Vulnerabilities.{gained, vulnerability, together, guess, guesses, uniform, greatest}
 use Rattle.kf_capacity.proofs.Sums.{sum_same, sum_times, at_most_greatest, greatest_scaled, greatest_both}
 
 -- ---- convexity

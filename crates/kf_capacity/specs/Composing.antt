@@ -1,4 +1,4 @@
--- For bodies: what composed columns are made of.
+-- For bodies: what composed columns are made of, and what the faults of calls are.
 use Rattle.std.specs.Prelude.{◌≡◌, ℕ, ◌*◌, ◌≤◌, List, All}
 use Rattle.kf_frac.specs.Fractions.{limit}
 use Rattle.kf_capacity.specs.declared.error.GridFault.{GridFault}
@@ -9,6 +9,7 @@ use Rattle.kf_capacity.specs.declared.error.ChoiceFault.{ChoiceFault}
 use Rattle.kf_capacity.specs.declared.error.ChoiceFault.TheVariants as choice
 use Rattle.kf_capacity.specs.declared.error.ParallelFault.{ParallelFault}
 use Rattle.kf_capacity.specs.declared.error.ParallelFault.TheVariants as parallel
+use Rattle.kf_capacity.specs.Compositions.{ComposeFault, Fit, Targets, Rows, Cells, Wide}
 
 -- each number of the first, times each of the second, is within the limit
 abbrev pub ProductsFit : List ℕ → List ℕ → Type 0
@@ -32,3 +33,22 @@ BecomesCascade fault.Mem e = e ≡ cascade.Mem
 abbrev pub BecomesChoice : GridFault → ChoiceFault → Type 0
 BecomesChoice fault.Wide e = e ≡ choice.Wide
 BecomesChoice fault.Mem e = e ≡ choice.Mem
+
+-- what the faults of each call are; want of memory is none, and where it stands nothing is said
+abbrev pub cascade_fault : CascadeFault → ComposeFault
+cascade_fault cascade.Fit = Fit
+cascade_fault cascade.Wide = Wide
+cascade_fault cascade.Mem = Wide
+
+abbrev pub parallel_fault : ParallelFault → ComposeFault
+parallel_fault parallel.Targets = Targets
+parallel_fault parallel.Rows = Rows
+parallel_fault (parallel.Cells count) = Cells count
+parallel_fault parallel.Wide = Wide
+parallel_fault parallel.Mem = Wide
+
+abbrev pub choice_fault : ChoiceFault → ComposeFault
+choice_fault choice.Targets = Targets
+choice_fault choice.Rows = Rows
+choice_fault choice.Wide = Wide
+choice_fault choice.Mem = Wide

@@ -1,7 +1,7 @@
 -- Believed: channels one behind the other, side by side, and one or the other (Alvim et al. 2020: cascade, parallel composition, visible choice).
 use Rattle.std.specs.Prelude.{◌≡◌, ◌≢◌, ℕ, suc, ◌+◌, ◌*◌, ◌-◌, ◌/◌, ◌<◌, ◌≤◌, min, Bool, true, false, List, [], ◌∷◌, ◌++◌, map, flat_map, length}
 use Rattle.std.specs.Prelude.{slice_index, slice_index_or, is_some, unwrap_or, option_map, None, Some, if◌then◌else◌, Result, Ok, Err}
-use Rattle.std.specs.List.{list_all, range_with_len}
+use Rattle.std.specs.List.{list_all, range_with_len, zip}
 use Rattle.std.specs.Ordering.{is_eq}
 use Rattle.std.specs.declared.option.Option.{Option}
 use Rattle.kf_frac.specs.Divisors.{lcm_of}
@@ -10,12 +10,16 @@ use Rattle.kf_value.specs.Values.{ValueTree}
 use Rattle.kf_value.specs.Targets.{target_values}
 use Rattle.kf_column.specs.Traces.{trace_order}
 use Rattle.kf_capacity.specs.Grids.{ChannelTree, GridTree, channel_grid}
-use Rattle.kf_capacity.specs.declared.error.CascadeFault.{CascadeFault}
-use Rattle.kf_capacity.specs.declared.error.CascadeFault.TheVariants as cascade
-use Rattle.kf_capacity.specs.declared.error.ParallelFault.{ParallelFault}
-use Rattle.kf_capacity.specs.declared.error.ParallelFault.TheVariants as parallel
-use Rattle.kf_capacity.specs.declared.error.ChoiceFault.{ChoiceFault}
-use Rattle.kf_capacity.specs.declared.error.ChoiceFault.TheVariants as choice
+use mathlib.Core.List.{foldr}
+
+-- why two channels aren't put together: some trace of the first isn't a secret of the second, they are about other targets, their secrets
+-- differ, there would be so many cells, or a denominator passes 2^127 - 1
+pub data ComposeFault : Type 0 where
+  Fit : ComposeFault
+  Targets : ComposeFault
+  Rows : ComposeFault
+  Cells : ℕ → ComposeFault
+  Wide : ComposeFault
 
 -- ---- one behind the other: what the first shows is the secret of the second
 
@@ -25,8 +29,7 @@ secret_values c = map (λ x. slice_index_or (target_values c.target) x []) c.sec
 
 -- the place of the first list that is equal to these values
 abbrev pub place_of : List (List ValueTree) → List ValueTree → Option ℕ
-place_of [] vs = None
-place_of (ws ∷ lists) vs = if is_eq (trace_order ws vs) then Some 0 else option_map (λ n. suc n) (place_of lists vs)
+place_of lists vs = foldr (λ ws later. if is_eq (trace_order ws vs) then Some 0 else option_map (λ n. suc n) later) None lists
 
 -- which secret of the second channel each trace of the first one is, by its values
 abbrev pub named : ChannelTree → ChannelTree → List (Option ℕ)
@@ -53,21 +56,19 @@ cascade_grid g places h = record {
   columns = map (λ column. map (through g.columns places column) (range_with_len 0 g.rows)) h.columns;
 }
 
--- want of memory is no cause
-abbrev pub IsCascade : ChannelTree → ChannelTree → Result GridTree CascadeFault → Type 0
+-- the grid, or why there is none
+abbrev pub IsCascade : ChannelTree → ChannelTree → Result GridTree ComposeFault → Type 0
 IsCascade c d (Ok g) =
     (fits c d ≡ true) × (g.over ≤ limit) × (g ≡ cascade_grid (channel_grid c) (places c d) (channel_grid d))
-IsCascade c d (Err cascade.Fit) = fits c d ≡ false
-IsCascade c d (Err cascade.Wide) = (fits c d ≡ true) × (limit < (channel_grid c).over * (channel_grid d).over)
-IsCascade c d (Err cascade.Mem) = ⊥
+IsCascade c d (Err Fit) = fits c d ≡ false
+IsCascade c d (Err Wide) = (fits c d ≡ true) × (limit < (channel_grid c).over * (channel_grid d).over)
+IsCascade c d (Err f) = ⊥
 
 -- ---- side by side: both are seen
 
 -- the products of two columns, row by row
 abbrev pub products : List ℕ → List ℕ → List ℕ
-products [] ns = []
-products (m ∷ ms) [] = []
-products (m ∷ ms) (n ∷ ns) = m * n ∷ products ms ns
+products ms ns = map (λ p. p.0 * p.1) (zip ms ns)
 
 -- each column of the first with each of the second
 abbrev pub parallel_grid : GridTree → GridTree → GridTree
@@ -91,16 +92,16 @@ pub record HaveOtherRows (c d : ChannelTree) : Type 0 where
   pub targets : c.target ≡ d.target
   pub secrets : c.secrets ≢ d.secrets
 
--- want of memory is no cause
-abbrev pub IsParallel : ChannelTree → ChannelTree → Result GridTree ParallelFault → Type 0
+-- the grid, or why there is none
+abbrev pub IsParallel : ChannelTree → ChannelTree → Result GridTree ComposeFault → Type 0
 IsParallel c d (Ok g) =
     HaveSameRows c d × (cells_of c d ≤ 4000000) × (g.over ≤ limit) × (g ≡ parallel_grid (channel_grid c) (channel_grid d))
-IsParallel c d (Err parallel.Targets) = c.target ≢ d.target
-IsParallel c d (Err parallel.Rows) = HaveOtherRows c d
-IsParallel c d (Err (parallel.Cells count)) = HaveSameRows c d × (4000000 < cells_of c d) × (count ≡ min limit (cells_of c d))
-IsParallel c d (Err parallel.Wide) =
+IsParallel c d (Err Targets) = c.target ≢ d.target
+IsParallel c d (Err Rows) = HaveOtherRows c d
+IsParallel c d (Err (Cells count)) = HaveSameRows c d × (4000000 < cells_of c d) × (count ≡ min limit (cells_of c d))
+IsParallel c d (Err Wide) =
     HaveSameRows c d × (cells_of c d ≤ 4000000) × (limit < (channel_grid c).over * (channel_grid d).over)
-IsParallel c d (Err parallel.Mem) = ⊥
+IsParallel c d (Err f) = ⊥
 
 -- ---- one or the other, and it is seen which
 
@@ -118,12 +119,12 @@ choice_grid num den g h =
       columns = map (times (common / g.over * num)) g.columns ++ map (times (common / h.over * (den - num))) h.columns;
     }
 
--- want of memory is no cause
-abbrev pub IsChoice : ℕ → ℕ → ChannelTree → ChannelTree → Result GridTree ChoiceFault → Type 0
+-- the grid, or why there is none
+abbrev pub IsChoice : ℕ → ℕ → ChannelTree → ChannelTree → Result GridTree ComposeFault → Type 0
 IsChoice num den c d (Ok g) =
     HaveSameRows c d × (g.over ≤ limit) × (g ≡ choice_grid num den (channel_grid c) (channel_grid d))
-IsChoice num den c d (Err choice.Targets) = c.target ≢ d.target
-IsChoice num den c d (Err choice.Rows) = HaveOtherRows c d
-IsChoice num den c d (Err choice.Wide) =
+IsChoice num den c d (Err Targets) = c.target ≢ d.target
+IsChoice num den c d (Err Rows) = HaveOtherRows c d
+IsChoice num den c d (Err Wide) =
     HaveSameRows c d × (limit < (choice_grid num den (channel_grid c) (channel_grid d)).over)
-IsChoice num den c d (Err choice.Mem) = ⊥
+IsChoice num den c d (Err f) = ⊥

@@ -1,11 +1,10 @@
 -- Believed: channel matrices in whole numbers over one denominator, and their Bayes capacity (Alvim et al. 2020).
-use Rattle.std.specs.Prelude.{◌≡◌, ℕ, pos, ◌<◌, ◌≤◌, max, List, [], ◌∷◌, map, flat_map, sum_by, length, Result, Ok, Err}
+use Rattle.std.specs.Prelude.{ℕ, pos, max, List, map, flat_map, sum_by, length}
 use Rattle.kf_frac.specs.Divisors.{common_multiple}
-use Rattle.kf_frac.specs.Fractions.{limit, reduced_den, parts_of}
+use Rattle.kf_frac.specs.Fractions.{reduced_den, parts_of}
 use Rattle.kf_value.specs.Targets.{Item}
 use Rattle.kf_column.specs.Traces.{Row, Share, share_at}
-use Rattle.kf_capacity.specs.declared.error.GridFault.{GridFault}
-use Rattle.kf_capacity.specs.declared.error.GridFault.TheVariants as fault
+use mathlib.Core.List.{foldr}
 
 -- a channel: what its secrets are values of, its traces with their columns of weights, and its secrets
 pub record ChannelTree : Type 0 where
@@ -39,17 +38,6 @@ column_in n c row = map (λ x. parts_of n (cell c row x).part (cell c row x).who
 abbrev pub channel_grid : ChannelTree → GridTree
 channel_grid c = record { over = denominator c; rows = length c.secrets; columns = map (column_in (denominator c) c) c.rows }
 
--- the greatest of some numbers; 0 of none
-abbrev pub greatest : List ℕ → ℕ
-greatest [] = 0
-greatest (n ∷ ns) = max n (greatest ns)
-
--- the Bayes capacity, over the denominator: the sum of the columns' greatest cells
+-- the Bayes capacity, over the denominator: the sum of the columns' greatest cells, 0 in a column of none
 abbrev pub capacity_of : GridTree → ℕ
-capacity_of g = sum_by greatest g.columns
-
--- the channel's grid, or that its denominator is too great; want of memory is no cause
-abbrev pub IsGridOf : ChannelTree → Result GridTree GridFault → Type 0
-IsGridOf c (Ok g) = (denominator c ≤ limit) × (g ≡ channel_grid c)
-IsGridOf c (Err fault.Wide) = limit < denominator c
-IsGridOf c (Err fault.Mem) = ⊥
+capacity_of g = sum_by (foldr max 0) g.columns

@@ -1,7 +1,8 @@
 -- For bodies: what the best action gains before and after a column of a grid is seen (Alvim et al. 2020).
-use Rattle.std.specs.Prelude.{ℕ, zero, suc, ◌+◌, ◌*◌, ◌==◌, List, map, sum_by, slice_index, if◌then◌else◌}
+use Rattle.std.specs.Prelude.{ℕ, zero, suc, ◌+◌, ◌*◌, ◌==◌, List, map, sum_by, slice_index, if◌then◌else◌, max}
 use Rattle.std.specs.List.{range_with_len}
-use Rattle.kf_capacity.specs.Grids.{GridTree, greatest}
+use Rattle.kf_capacity.specs.Grids.{GridTree}
+use mathlib.Core.List.{foldr}
 
 -- the sum of a function's values at the numbers below n
 abbrev pub sum_to : ℕ → (ℕ → ℕ) → ℕ
@@ -11,6 +12,10 @@ sum_to (suc n) f = sum_to n f + f n
 -- what an action gains at so many secrets: its gain at each one, times the weight there
 abbrev pub gained : ℕ → (ℕ → ℕ) → (ℕ → ℕ) → ℕ
 gained rows weights action = sum_to rows (λ x. weights x * action x)
+
+-- the greatest of some numbers; 0 of none
+abbrev pub greatest : List ℕ → ℕ
+greatest ns = foldr max 0 ns
 
 -- the vulnerability of weights: what the best action gains
 abbrev pub vulnerability : ℕ → List (ℕ → ℕ) → (ℕ → ℕ) → ℕ

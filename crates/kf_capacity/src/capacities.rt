@@ -3,8 +3,9 @@
 ghost use Rattle.std.specs.Prelude.{◌≡◌, ◌<◌, ◌≤◌, ◌↔◌, IfOk, IsErr, SomeIff, pos, sum_by};
 ghost use Rattle.kf_frac.specs.Fractions.{limit};
 ghost use Rattle.kf_frac.specs.Parts.{IsFraction};
-ghost use Rattle.kf_capacity.specs.Grids.{capacity_of, greatest as greatest_of};
+ghost use Rattle.kf_capacity.specs.Grids.{capacity_of};
 ghost use Rattle.kf_capacity.specs.Views.{grid_tree};
+ghost use Rattle.kf_capacity.specs.Vulnerabilities.{greatest as greatest_of};
 
 use crate::column::GridColumn;
 use crate::{Grid, LIMIT};

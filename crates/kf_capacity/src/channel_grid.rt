@@ -5,8 +5,8 @@ ghost use Rattle.kf_channel.specs.Views.{rows_of, secrets_of};
 ghost use Rattle.kf_frac.specs.Fractions.{limit};
 ghost use Rattle.kf_capacity.specs.declared.error.GridFault.TheVariants as fault;
 ghost use Rattle.kf_capacity.specs.Divided.{divided};
-ghost use Rattle.kf_capacity.specs.Grids.{IsGridOf, channel_grid, denominator};
-ghost use Rattle.kf_capacity.specs.Views.{channel_tree, grid_tree};
+ghost use Rattle.kf_capacity.specs.Grids.{channel_grid, denominator};
+ghost use Rattle.kf_capacity.specs.Views.{channel_tree, grid_tree, IsGridOf};
 
 use crate::divided::{DividedSecret, divided_secrets};
 use crate::multiples::{denominator_of, multiple_of};

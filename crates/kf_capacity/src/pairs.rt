@@ -4,6 +4,7 @@ ghost use Rattle.std.specs.Prelude.{◌≡◌, ◌≢◌, ◌*◌, ◌++◌, ◌
 ghost use Rattle.kf_frac.specs.Fractions.{limit};
 ghost use Rattle.kf_capacity.specs.declared.error.ParallelFault.TheVariants as fault;
 ghost use Rattle.kf_capacity.specs.Composing.{ProductsFit};
+ghost use Rattle.kf_capacity.specs.Composing.{parallel_fault};
 ghost use Rattle.kf_capacity.specs.Compositions.{IsParallel, parallel_grid, products};
 ghost use Rattle.kf_capacity.specs.Views.{channel_tree, grid_tree};
 
@@ -38,7 +39,7 @@ impl From<GridFault> for ParallelFault {
 /// denominators passes 2^127 - 1.
 pub fn parallel(alloc: Global, c: &Channel, d: &Channel) -> Result<Grid, ParallelFault>
     ensures is { IfOk result (λ g. IsParallel (channel_tree c.now) (channel_tree d.now) (Ok (grid_tree g))) }
-    ensures err { IfErr result (λ e. e ≢ fault.Mem → IsParallel (channel_tree c.now) (channel_tree d.now) (Err e)) }
+    ensures err { IfErr result (λ e. e ≢ fault.Mem → IsParallel (channel_tree c.now) (channel_tree d.now) (Err (parallel_fault e))) }
 {
     if !same_target(c.target(), d.target()) {
         return Err(ParallelFault::Targets);

@@ -4,6 +4,7 @@ ghost use Rattle.std.specs.Prelude.{◌≡◌, ◌≢◌, ◌*◌, ◌<◌, ◌�
 ghost use Rattle.std.specs.List.{range_with_len};
 ghost use Rattle.kf_frac.specs.Fractions.{limit};
 ghost use Rattle.kf_capacity.specs.declared.error.CascadeFault.TheVariants as fault;
+ghost use Rattle.kf_capacity.specs.Composing.{cascade_fault};
 ghost use Rattle.kf_capacity.specs.Compositions.{IsCascade, cascade_grid, through};
 ghost use Rattle.kf_capacity.specs.Views.{channel_tree, grid_tree};
 
@@ -34,7 +35,7 @@ impl From<GridFault> for CascadeFault {
 /// denominators passes 2^127 - 1.
 pub fn cascade(alloc: Global, c: &Channel, d: &Channel) -> Result<Grid, CascadeFault>
     ensures is { IfOk result (λ g. IsCascade (channel_tree c.now) (channel_tree d.now) (Ok (grid_tree g))) }
-    ensures err { IfErr result (λ e. e ≢ fault.Mem → IsCascade (channel_tree c.now) (channel_tree d.now) (Err e)) }
+    ensures err { IfErr result (λ e. e ≢ fault.Mem → IsCascade (channel_tree c.now) (channel_tree d.now) (Err (cascade_fault e))) }
 {
     let Some(places) = trace_places(alloc, c, d)? else {
         return Err(CascadeFault::Fit);

@@ -4,6 +4,7 @@ ghost use Rattle.std.specs.Prelude.{◌≡◌, ◌≢◌, ◌++◌, ◌<◌, ◌
 ghost use Rattle.kf_frac.specs.Fractions.{limit};
 ghost use Rattle.kf_capacity.specs.declared.error.ChoiceFault.TheVariants as fault;
 ghost use Rattle.kf_capacity.specs.Composing.{TimesFit};
+ghost use Rattle.kf_capacity.specs.Composing.{choice_fault};
 ghost use Rattle.kf_capacity.specs.Compositions.{IsChoice, choice_grid, times};
 ghost use Rattle.kf_capacity.specs.Views.{channel_tree, grid_tree};
 
@@ -44,7 +45,7 @@ pub fn choice(
     requires some { 0 < num }
     requires part { num < den }
     ensures is { IfOk result (λ g. IsChoice num den (channel_tree c.now) (channel_tree d.now) (Ok (grid_tree g))) }
-    ensures err { IfErr result (λ e. e ≢ fault.Mem → IsChoice num den (channel_tree c.now) (channel_tree d.now) (Err e)) }
+    ensures err { IfErr result (λ e. e ≢ fault.Mem → IsChoice num den (channel_tree c.now) (channel_tree d.now) (Err (choice_fault e))) }
 {
     if !same_target(c.target(), d.target()) {
         return Err(ChoiceFault::Targets);

@@ -12,10 +12,12 @@ use Rattle.std.proofs.lemmas.List.{length-append}
 use lib.ListN.{get_or-append}
 use Rattle.std.proofs.lemmas.Slice.Eq.{bytes_eq-Decides}
 use Rattle.std.proofs.lemmas.Str.Parse.{digit_from_value}
-use Rattle.kf_frac.specs.Fractions.{reduced_num, reduced_den, denominator_text, fraction_text}
+use Rattle.kf_frac.specs.Fractions.{reduced_num, reduced_den, fraction_text}
+use Rattle.kf_frac.specs.Parts.{denominator_text}
 use Rattle.kf_refine.specs.Refinements.{Fraction}
-use Rattle.kf_cert.specs.Numbers.{is_numeral, is_negative, past_sign, before_bar, behind_bar, is_whole_text, is_denominator, is_fraction_text, whole_said, numerator_said, denominator_said, fraction_said}
+use Rattle.kf_cert.specs.Numbers.{is_numeral, is_negative, past_sign, before_bar, behind_bar, is_fraction_text, whole_said, numerator_said, denominator_said, fraction_said}
 use Rattle.kf_cert.specs.Views.{IsLowest}
+use Rattle.kf_cert.specs.Forms.{is_whole_text, is_denominator}
 
 -- ---- digits
 

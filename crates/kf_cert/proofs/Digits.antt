@@ -12,7 +12,8 @@ use Rattle.std.proofs.lemmas.Slice.Eq.{bytes_eq-Decides}
 use Rattle.std.proofs.lemmas.Str.Parse.{parse_digits, numerals_by_value, tells_all_ascii_digits}
 use Rattle.kf_frac.specs.Fractions.{limit}
 use Rattle.kf_gain.proofs.Entries.{split_and}
-use Rattle.kf_cert.specs.Numbers.{is_numeral, past_sign, before_bar, behind_bar, is_negative, is_denominator, is_whole_text, is_fraction_text, whole_said, denominator_said}
+use Rattle.kf_cert.specs.Numbers.{is_numeral, past_sign, before_bar, behind_bar, is_negative, is_fraction_text, whole_said, denominator_said}
+use Rattle.kf_cert.specs.Forms.{is_whole_text, is_denominator}
 
 -- a text that doesn't begin with `-` has no sign
 pub no_sign : (bs : List ℕ) → ((rest : List ℕ) → bs ≢ 45 ∷ rest) → bs ≡ past_sign bs

@@ -18,7 +18,7 @@ use Rattle.kf_simplex.specs.Base.{total}
 use Rattle.kf_simplex.proofs.Sums.{total-ext}
 use Rattle.kf_refine.specs.Refinements.{HyperTree, Fraction, count, joint, CarriesWeights}
 use Rattle.kf_cert.specs.Cells.{column_weight, column_total, IsCarried}
-use Rattle.kf_cert.specs.Certificates.{EntryTree, NamedTree, value_at, stands_at, matrix_of, is_in_order, is_inside, ascends}
+use Rattle.kf_cert.specs.Certificates.{EntryTree, NamedTree, value_at, matrix_of, ascends}
 use Rattle.kf_cert.specs.Marks.{IsInRange, SumToOne, denominator, over_one}
 use Rattle.kf_cert.specs.Rows.{matrix_between, IsWithin, AreWithin, dens, amount_of, share_of, row_amount, SumsToOne}
 use Rattle.kf_cert.specs.declared.matrix_rules.shares.Share.{Share}
@@ -26,6 +26,7 @@ use Rattle.kf_cert.proofs.Denominators.{at_entry, to_dens, denominator_positive,
 use Rattle.kf_cert.proofs.EntrySums.{AreInside, inside_told, row_sum, column_sum, amount_is, taken_most}
 use Rattle.kf_cert.proofs.NamedRows.{matrix_shaped, matrix_entry, value_has, matrix_has}
 use Rattle.kf_cert.proofs.PlaceOrder.{Above, ascends_above, value_none}
+use Rattle.kf_cert.specs.Order.{stands_at, is_inside, is_in_order}
 
 abbrev none : Fraction
 none = record { num = pos 0; den = 1 }

@@ -16,10 +16,11 @@ use Rattle.kf_refine.specs.Refinements.{HyperTree, Fraction, count}
 use Rattle.kf_refine.proofs.Spreading.{total-list}
 use Rattle.kf_refine.proofs.Totals.{total_monotone}
 use Rattle.kf_cert.specs.Cells.{total_at, column_total}
-use Rattle.kf_cert.specs.Certificates.{EntryTree, value_at, is_inside}
+use Rattle.kf_cert.specs.Certificates.{EntryTree, value_at}
 use Rattle.kf_cert.specs.Rows.{IsWithin, amount_of, share_of, row_amount}
 use Rattle.kf_cert.specs.declared.matrix_rules.shares.Share.{Share}
 use Rattle.kf_cert.proofs.PlaceOrder.{Above, value_none}
+use Rattle.kf_cert.specs.Order.{is_inside}
 
 abbrev none : Fraction
 none = record { num = pos 0; den = 1 }

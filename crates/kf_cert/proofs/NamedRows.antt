@@ -16,12 +16,13 @@ use Rattle.kf_refine.specs.Refinements.{Fraction, entry, IsShaped}
 use Rattle.kf_refine.specs.Views.{fraction_of}
 use Rattle.kf_cert.specs.Rows.{row_tree, rows_tree}
 use Rattle.kf_refine.proofs.Matrices.{rows_shaped, entry_is}
-use Rattle.kf_cert.specs.Certificates.{EntryTree, NamedTree, stands_at, value_at, matrix_of, is_inside, is_in_order}
-use Rattle.kf_cert.specs.CertTexts.{widest, row_entries, rows_entries, named_of}
+use Rattle.kf_cert.specs.Certificates.{EntryTree, NamedTree, value_at, matrix_of}
+use Rattle.kf_cert.specs.CertTexts.{row_entries, named_of}
 use Rattle.kf_cert.specs.Views.{IsLowest}
 use Rattle.kf_cert.specs.Laws.{NamesAll}
 use Rattle.kf_cert.proofs.Denominators.{from_entries}
 use Rattle.kf_cert.proofs.PlaceOrder.{Above, above_before, above_ascends, value_none}
+use Rattle.kf_cert.specs.Order.{stands_at, is_inside, is_in_order, widest, rows_entries}
 
 abbrev none : Fraction
 none = record { num = pos 0; den = 1 }

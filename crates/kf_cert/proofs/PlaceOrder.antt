@@ -5,7 +5,8 @@ use Rattle.std.proofs.Math.IntN.{pos}
 use Rattle.std.proofs.lemmas.Bool.{ltb-true, lt-ltb, eqb-true, eq-eqb, ne_eqb, and_parts, and_left, or_cases, or_left, or_right, cases_eq}
 use Rattle.std.proofs.lemmas.List.{drop_more, length-map}
 use Rattle.kf_refine.specs.Refinements.{Fraction}
-use Rattle.kf_cert.specs.Certificates.{EntryTree, stands_at, comes_before, value_at, ascends}
+use Rattle.kf_cert.specs.Certificates.{EntryTree, value_at, ascends}
+use Rattle.kf_cert.specs.Order.{stands_at, comes_before}
 
 abbrev none : Fraction
 none = record { num = pos 0; den = 1 }

@@ -8,7 +8,8 @@ use Rattle.std.proofs.lemmas.Bool.{and_parts, lt-ltb}
 use Rattle.std.proofs.lemmas.Str.{IsUtf8-append, IsUtf8-nil}
 use Rattle.json.proofs.Printed.Utf8.{IsUtf8-are_ascii, are_ascii}
 use Rattle.serde_json.specs.Data.{string}
-use Rattle.kf_frac.specs.Fractions.{reduced_num, reduced_den, denominator_text, fraction_text}
+use Rattle.kf_frac.specs.Fractions.{reduced_num, reduced_den, fraction_text}
+use Rattle.kf_frac.specs.Parts.{denominator_text}
 use Rattle.kf_value.specs.Values.{ValueTree, ValueTrees, Truth, Whole, Tuple, Set, no_value, more_values, parts}
 use Rattle.kf_value.specs.Targets.{Item, target_values, shown, target_value_text}
 use Rattle.kf_value.specs.Texts.{text, texts, separated}

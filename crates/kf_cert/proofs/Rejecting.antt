@@ -7,8 +7,7 @@ use Rattle.kf_gain.specs.declared.gain.GainFault.TheVariants as fault
 use Rattle.kf_gain.specs.declared.table.Action.{Action}
 use Rattle.kf_gain.specs.Gains.{TableTree}
 use Rattle.kf_refine.specs.Refinements.{HyperTree, count, Fraction, IsShaped, CarriesWeights, Separates}
-use Rattle.kf_cert.specs.Certificates.{EntryTree, NamedTable, NamedTree, Yes, Named, No, is_in_order, matrix_of}
-use Rattle.kf_cert.specs.CertTexts.{rows_entries}
+use Rattle.kf_cert.specs.Certificates.{EntryTree, NamedTable, NamedTree, Yes, Named, No, matrix_of}
 use Rattle.kf_cert.specs.Marks.{IsMarked, MarkedByRules, IsInRange, SumToOne, StandsFor, denominator, over_one}
 use Rattle.kf_cert.specs.Naming.{IsMade, AreNarrow, BecomesFault}
 use Rattle.kf_cert.specs.Rows.{matrix_between}
@@ -20,6 +19,7 @@ use Rattle.kf_cert.specs.declared.mark.Mark.TheVariants.{Accepted, Rejected}
 use Rattle.kf_cert.specs.declared.mark.Rule.TheVariants as rule
 use Rattle.kf_cert.proofs.NamedRows.{shaped_order, shaped_names}
 use Rattle.kf_cert.proofs.Standing.{table_of, stands, names_values, same_width, one_table}
+use Rattle.kf_cert.specs.Order.{is_in_order, rows_entries}
 
 -- ---- the marks of a matrix
 

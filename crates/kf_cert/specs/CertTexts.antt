@@ -1,6 +1,7 @@
 -- Believed: certificates as they are written.
-use Rattle.std.specs.Prelude.{ℕ, ◌+◌, ◌==◌, max, unsigned_abs, List, [], ◌∷◌, ◌++◌, map, length, codes, if◌then◌else◌}
+use Rattle.std.specs.Prelude.{ℕ, ◌==◌, max, unsigned_abs, List, [], ◌∷◌, ◌++◌, map, length, codes, if◌then◌else◌, flat_map}
 use Rattle.std.specs.Fmt.{decimal, signed_decimal}
+use Rattle.std.specs.List.{enumerate_from}
 use Rattle.serde_json.specs.Data.{Data, string, array, object, Items, no_items, item, no_members, member}
 use Rattle.serde_json.specs.Written.{compact_text}
 use Rattle.kf_frac.specs.Fractions.{fraction_text}
@@ -11,6 +12,7 @@ use Rattle.kf_gain.specs.Gains.{TableTree}
 use Rattle.kf_refine.specs.Refinements.{Fraction}
 use Rattle.kf_refine.specs.Verdicts.{VerdictTree, Yes, No}
 use Rattle.kf_cert.specs.Certificates.{EntryTree, NamedTree}
+use mathlib.Core.List.{foldr}
 
 abbrev pub items : List Data → Items
 items [] = no_items
@@ -48,25 +50,17 @@ no_data target t =
 
 -- ---- a matrix by its entries that aren't 0
 
--- how long its longest row is
-abbrev pub widest : List (List Fraction) → ℕ
-widest [] = 0
-widest (row ∷ rows) = max (length row) (widest rows)
-
 -- those of row i, from column j on
 abbrev pub row_entries : ℕ → ℕ → List Fraction → List EntryTree
-row_entries i j [] = []
-row_entries i j (f ∷ row) =
-    (if unsigned_abs f.num == 0 then [] else record { row = i; column = j; value = f } ∷ []) ++ row_entries i (j + 1) row
-
--- those of all rows, from row i on
-abbrev pub rows_entries : ℕ → List (List Fraction) → List EntryTree
-rows_entries i [] = []
-rows_entries i (row ∷ rows) = row_entries i 0 row ++ rows_entries (i + 1) rows
+row_entries i j row =
+    flat_map (λ (c : ℕ × Fraction). if unsigned_abs c.1.num == 0 then [] else record { row = i; column = c.0; value = c.1 } ∷ [])
+    (enumerate_from j row)
 
 -- as many rows as there are, as many columns as the longest has, and the entries that aren't 0 in the order of their places
 abbrev pub named_of : List (List Fraction) → NamedTree
-named_of rows = record { rows = length rows; columns = widest rows; entries = rows_entries 0 rows }
+named_of rows =
+    let entries = flat_map (λ r. row_entries r.0 0 r.1) (enumerate_from 0 rows) in
+    record { rows = length rows; columns = foldr max 0 (map length rows); entries = entries }
 
 -- ---- the text
 

@@ -6,10 +6,12 @@ use Rattle.kf_frac.specs.Fractions.{limit}
 use Rattle.kf_json.specs.Json.{json_of, has_keys, at_key, is_list, members, at_place, is_text, text_of, is_the_text}
 use Rattle.kf_json.specs.Rules.{is_name, first_broken}
 use Rattle.kf_refine.specs.Refinements.{Fraction}
-use Rattle.kf_cert.specs.Numbers.{is_negative, is_whole_text, is_fraction_text, whole_said, numerator_said, denominator_said, fraction_said}
+use Rattle.kf_cert.specs.Numbers.{is_negative, is_fraction_text, whole_said, numerator_said, denominator_said, fraction_said, is_numeral, past_sign}
 use Rattle.kf_cert.specs.declared.cert.CertAction.{CertAction}
 use Rattle.kf_cert.specs.declared.cert.CertError.{CertError}
 use Rattle.kf_cert.specs.declared.cert.CertError.TheVariants as broken
+use Rattle.kf_gain.specs.Tables.{over_at, rest_at, actions_at, name_at, gains_at, is_action}
+use mathlib.Core.List.{foldr}
 
 -- a gain table whose values are known by their texts
 pub record NamedTable : Type 0 where
@@ -37,86 +39,29 @@ pub data CertTree : Type 0 where
 
 -- ---- the matrix of named entries
 
--- an entry stands in row i and column j
-abbrev pub stands_at : ℕ → ℕ → EntryTree → Bool
-stands_at i j e = (e.row == i) && (e.column == j)
-
 -- the value that is named for row i and column j; 0 over 1 where none is
 abbrev pub value_at : List EntryTree → ℕ → ℕ → Fraction
-value_at [] i j = record { num = pos 0; den = 1 }
-value_at (e ∷ entries) i j = if stands_at i j e then e.value else value_at entries i j
+value_at entries i j =
+    foldr (λ (e : EntryTree) other. if (e.row == i) && (e.column == j) then e.value else other) (record { num = pos 0; den = 1 }) entries
 
 -- so many rows and columns, each entry the value that is named for its place
 abbrev pub matrix_of : NamedTree → List (List Fraction)
 matrix_of t = map (λ i. map (λ j. value_at t.entries i j) (range_with_len 0 t.columns)) (range_with_len 0 t.rows)
 
--- an entry's place comes before row i and column j: it is in an earlier row, or in the same row and an earlier column
-abbrev pub comes_before : ℕ → ℕ → EntryTree → Bool
-comes_before i j e = nat_lt e.row i || ((e.row == i) && nat_lt e.column j)
-
--- each place comes before the next
+-- each place comes before the next: it is in an earlier row, or in the same row and an earlier column
 abbrev pub ascends : List EntryTree → Bool
 ascends [] = true
 ascends (e ∷ []) = true
-ascends (e ∷ f ∷ entries) = comes_before f.row f.column e && ascends (f ∷ entries)
-
--- each place is one of the matrix
-abbrev pub is_inside : ℕ → ℕ → EntryTree → Bool
-is_inside rows columns e = nat_lt e.row rows && nat_lt e.column columns
-
--- the places ascend strictly, and all are places of the matrix
-abbrev pub is_in_order : NamedTree → Bool
-is_in_order t = ascends t.entries && list_all (is_inside t.rows t.columns) t.entries
+ascends (e ∷ f ∷ entries) = (nat_lt e.row f.row || ((e.row == f.row) && nat_lt e.column f.column)) && ascends (f ∷ entries)
 
 -- ---- what stands where
 
-abbrev pub verdict_at : Data → Data
-verdict_at d = at_key (codes "verdict") d
-
-abbrev pub matrix_at : Data → Data
-matrix_at d = at_key (codes "matrix") d
-
-abbrev pub rows_at : Data → Data
-rows_at d = at_key (codes "rows") d
-
-abbrev pub columns_at : Data → Data
-columns_at d = at_key (codes "columns") d
-
-abbrev pub entries_at : Data → Data
-entries_at d = at_key (codes "entries") d
-
-abbrev pub over_at : Data → Data
-over_at d = at_key (codes "over") d
-
-abbrev pub rest_at : Data → Data
-rest_at d = at_key (codes "rest") d
-
-abbrev pub actions_at : Data → Data
-actions_at d = at_key (codes "actions") d
-
-abbrev pub name_at : Data → Data
-name_at action = at_key (codes "name") action
-
-abbrev pub gains_at : Data → Data
-gains_at action = at_key (codes "gains") action
-
 abbrev pub says_yes : Data → Bool
-says_yes d = is_the_text (codes "yes") (verdict_at d)
-
-abbrev pub says_no : Data → Bool
-says_no d = is_the_text (codes "no") (verdict_at d)
-
--- the keys of a yes whose matrix stands row by row
-abbrev pub has_matrix_keys : Data → Bool
-has_matrix_keys d = has_keys (codes "format" ∷ codes "matrix" ∷ codes "verdict" ∷ []) d
+says_yes d = is_the_text (codes "yes") (at_key (codes "verdict") d)
 
 -- the keys of a yes whose matrix stands by named entries
 abbrev pub has_entry_keys : Data → Bool
 has_entry_keys d = has_keys (codes "columns" ∷ codes "entries" ∷ codes "format" ∷ codes "rows" ∷ codes "verdict" ∷ []) d
-
--- the keys of a no
-abbrev pub has_table_keys : Data → Bool
-has_table_keys d = has_keys (codes "actions" ∷ codes "format" ∷ codes "over" ∷ codes "rest" ∷ codes "verdict" ∷ []) d
 
 -- the first format, and the second
 abbrev pub is_first_format : Data → Bool
@@ -126,22 +71,6 @@ abbrev pub is_second_format : Data → Bool
 is_second_format d = is_the_text (codes "kuifje-cert-2") (at_key (codes "format") d)
 
 -- ---- the rules, each over the whole value; a later one presupposes those before it
-
--- Form 1: an object whose verdict is one of two texts
-abbrev pub form_1 : Data → Bool
-form_1 d = says_yes d || says_no d
-
--- Form 2: exactly the keys of one of the two forms of a yes, or those of a no
-abbrev pub form_2 : Data → Bool
-form_2 d = if says_yes d then has_matrix_keys d || has_entry_keys d else has_table_keys d
-
--- the format of a yes with these keys
-abbrev pub has_yes_format : Data → Bool
-has_yes_format d = if has_entry_keys d then is_second_format d else is_first_format d
-
--- Form 3: named entries are of the second format, a matrix row by row is of the first, and a no is of either
-abbrev pub form_3 : Data → Bool
-form_3 d = if says_yes d then has_yes_format d else is_first_format d || is_second_format d
 
 -- a text that is a fraction
 abbrev pub is_fraction : Data → Bool
@@ -153,11 +82,11 @@ is_row d = is_list d && list_all is_fraction (members d)
 
 -- a matrix row by row is a list of such lists
 abbrev pub has_rows : Data → Bool
-has_rows d = is_list (matrix_at d) && list_all is_row (members (matrix_at d))
+has_rows d = is_list (at_key (codes "matrix") d) && list_all is_row (members (at_key (codes "matrix") d))
 
--- a text that is a whole number
+-- a text that is a whole number: digits, maybe behind a `-`
 abbrev pub is_whole_number : Data → Bool
-is_whole_number d = is_text d && is_whole_text (text_of d)
+is_whole_number d = is_text d && is_numeral (past_sign (text_of d))
 
 -- a text that is one, without a `-`
 abbrev pub is_size : Data → Bool
@@ -169,19 +98,9 @@ is_entry e = is_list e && ((length (members e) == 3) && (is_size (at_place 0 e) 
 
 -- `rows` and `columns` are such, and the named entries are a list of such lists
 abbrev pub has_entries : Data → Bool
-has_entries d = is_size (rows_at d) && (is_size (columns_at d) && (is_list (entries_at d) && list_all is_entry (members (entries_at d))))
-
--- the matrix stands in the way of its keys
-abbrev pub has_its_matrix : Data → Bool
-has_its_matrix d = if has_entry_keys d then has_entries d else has_rows d
-
--- Form 4: a yes has its matrix in one of these ways
-abbrev pub form_4 : Data → Bool
-form_4 d = not (says_yes d) || has_its_matrix d
-
--- an object with exactly these keys
-abbrev pub is_action : Data → Bool
-is_action a = has_keys (codes "gains" ∷ codes "name" ∷ []) a
+has_entries d =
+    is_size (at_key (codes "rows") d) && (is_size (at_key (codes "columns") d)
+    && (is_list (at_key (codes "entries") d) && list_all is_entry (members (at_key (codes "entries") d))))
 
 -- `over` and `rest` are whole numbers, and `over` is at least 1
 abbrev pub has_numbers : Data → Bool
@@ -191,10 +110,6 @@ has_numbers d = is_whole_number (over_at d) && (is_whole_number (rest_at d) && i
 abbrev pub has_actions : Data → Bool
 has_actions d = is_list (actions_at d) && (nat_le 1 (length (members (actions_at d))) && list_all is_action (members (actions_at d)))
 
--- Form 5: a no has these
-abbrev pub form_5 : Data → Bool
-form_5 d = says_yes d || (has_numbers d && has_actions d)
-
 -- a list of two texts, the second a whole number
 abbrev pub is_gain : Data → Bool
 is_gain g = is_list g && ((length (members g) == 2) && (is_text (at_place 0 g) && is_whole_number (at_place 1 g)))
@@ -202,10 +117,6 @@ is_gain g = is_list g && ((length (members g) == 2) && (is_text (at_place 0 g) &
 -- an action with a name and a list of such
 abbrev pub is_named_action : Data → Bool
 is_named_action a = is_name (name_at a) && (is_list (gains_at a) && list_all is_gain (members (gains_at a)))
-
--- Form 6: each action of a no is such
-abbrev pub form_6 : Data → Bool
-form_6 d = says_yes d || list_all is_named_action (members (actions_at d))
 
 -- at most 2^127 - 1 in absolute value
 abbrev pub is_narrow : ℤ → Bool
@@ -224,7 +135,7 @@ is_narrow_action a = list_all (λ g. is_narrow_whole (at_place 1 g)) (members (g
 
 -- all numbers of a matrix that stands row by row are
 abbrev pub is_narrow_matrix : Data → Bool
-is_narrow_matrix d = list_all (λ row. list_all is_narrow_fraction (members row)) (members (matrix_at d))
+is_narrow_matrix d = list_all (λ row. list_all is_narrow_fraction (members row)) (members (at_key (codes "matrix") d))
 
 -- the row, the column and the value of a named entry are
 abbrev pub is_narrow_entry : Data → Bool
@@ -232,19 +143,13 @@ is_narrow_entry e = is_narrow_whole (at_place 0 e) && (is_narrow_whole (at_place
 
 -- all numbers of a matrix by named entries are
 abbrev pub are_narrow_entries : Data → Bool
-are_narrow_entries d = is_narrow_whole (rows_at d) && (is_narrow_whole (columns_at d) && list_all is_narrow_entry (members (entries_at d)))
-
--- all numbers of a yes are
-abbrev pub is_narrow_yes : Data → Bool
-is_narrow_yes d = if has_entry_keys d then are_narrow_entries d else is_narrow_matrix d
+are_narrow_entries d =
+    is_narrow_whole (at_key (codes "rows") d) && (is_narrow_whole (at_key (codes "columns") d)
+    && list_all is_narrow_entry (members (at_key (codes "entries") d)))
 
 -- all numbers of a table are
 abbrev pub is_narrow_table : Data → Bool
 is_narrow_table d = is_narrow_whole (over_at d) && (is_narrow_whole (rest_at d) && list_all is_narrow_action (members (actions_at d)))
-
--- Wide is broken where some number is wider
-abbrev pub narrow : Data → Bool
-narrow d = if says_yes d then is_narrow_yes d else is_narrow_table d
 
 -- ---- what a certificate says
 
@@ -264,9 +169,9 @@ entry_said e = record {
 
 abbrev pub named_said : Data → NamedTree
 named_said d = record {
-  rows = size_said (rows_at d);
-  columns = size_said (columns_at d);
-  entries = map entry_said (members (entries_at d));
+  rows = size_said (at_key (codes "rows") d);
+  columns = size_said (at_key (codes "columns") d);
+  entries = map entry_said (members (at_key (codes "entries") d));
 }
 
 abbrev pub action_said : Data → CertAction
@@ -283,28 +188,44 @@ table_said d = record {
 }
 
 abbrev pub yes_said : Data → CertTree
-yes_said d = if has_entry_keys d then Named (named_said d) else Yes (map row_said (members (matrix_at d)))
+yes_said d = if has_entry_keys d then Named (named_said d) else Yes (map row_said (members (at_key (codes "matrix") d)))
 
 abbrev pub cert_said : Data → CertTree
 cert_said d = if says_yes d then yes_said d else No (table_said d)
 
 -- ---- the rules in their order
 
--- the entries that a certificate names are in their order
+-- the places of the entries that a certificate names ascend strictly, and all are places of the matrix
 abbrev pub names_in_order : CertTree → Bool
-names_in_order (Yes rows) = true
-names_in_order (Named t) = is_in_order t
-names_in_order (No t) = true
+names_in_order (Named t) = ascends t.entries && list_all (λ e. nat_lt e.row t.rows && nat_lt e.column t.columns) t.entries
+names_in_order c = true
 
--- Form 7: the places of named entries ascend strictly, by row and then by column, and all are places of the matrix
-abbrev pub form_7 : Data → Bool
-form_7 d = names_in_order (cert_said d)
+-- the keys of a yes whose matrix stands row by row
+abbrev pub has_matrix_keys : Data → Bool
+has_matrix_keys d = has_keys (codes "format" ∷ codes "matrix" ∷ codes "verdict" ∷ []) d
 
--- the rules in their order, each with the answer where it is broken
+-- the keys of a no
+abbrev pub has_table_keys : Data → Bool
+has_table_keys d = has_keys (codes "actions" ∷ codes "format" ∷ codes "over" ∷ codes "rest" ∷ codes "verdict" ∷ []) d
+
+-- the format of a yes with these keys
+abbrev pub has_yes_format : Data → Bool
+has_yes_format d = if has_entry_keys d then is_second_format d else is_first_format d
+
+-- the rules in their order, each over the whole value with the answer where it is broken; a later one presupposes those before it: the
+-- verdict is one of two texts; the keys are exactly those of one of the two forms of a yes, or those of a no; named entries are of the
+-- second format, a matrix row by row is of the first, and a no is of either; a yes has its matrix in the way of its keys; a no has its
+-- numbers and actions; its actions have names and gains; no number is too wide; the named entries are in their order
 abbrev pub rules : Data → List (Bool × CertError)
 rules d =
-    (form_1 d, broken.Form 1) ∷ (form_2 d, broken.Form 2) ∷ (form_3 d, broken.Form 3) ∷ (form_4 d, broken.Form 4)
-    ∷ (form_5 d, broken.Form 5) ∷ (form_6 d, broken.Form 6) ∷ (narrow d, broken.Wide) ∷ (form_7 d, broken.Form 7) ∷ []
+    (says_yes d || is_the_text (codes "no") (at_key (codes "verdict") d), broken.Form 1)
+    ∷ ((if says_yes d then has_matrix_keys d || has_entry_keys d else has_table_keys d), broken.Form 2)
+    ∷ ((if says_yes d then has_yes_format d else is_first_format d || is_second_format d), broken.Form 3)
+    ∷ (not (says_yes d) || (if has_entry_keys d then has_entries d else has_rows d), broken.Form 4)
+    ∷ (says_yes d || (has_numbers d && has_actions d), broken.Form 5)
+    ∷ (says_yes d || list_all is_named_action (members (actions_at d)), broken.Form 6)
+    ∷ ((if says_yes d then (if has_entry_keys d then are_narrow_entries d else is_narrow_matrix d) else is_narrow_table d), broken.Wide)
+    ∷ (names_in_order (cert_said d), broken.Form 7) ∷ []
 
 -- the first rule that a JSON value breaks, or what it says
 abbrev pub cert_in : Data → Result CertTree CertError

@@ -5,10 +5,12 @@ pub mod Marks
 pub mod CertTexts
 -- For bodies
 pub mod Cells
+pub mod Forms
 pub mod Laws
 pub mod NamedGains
 pub mod Naming
+pub mod Order
 pub mod Reading
 pub mod Rows
-pub mod Views
 pub mod Shapes
+pub mod Views

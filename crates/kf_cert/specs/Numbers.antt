@@ -1,10 +1,11 @@
 -- Believed: numbers as certificates write them, in texts of any length.
-use Rattle.std.specs.Prelude.{ℕ, ◌&&◌, ◌||◌, ◌==◌, nat_le, ℤ, pos, neg_ℤ, List, [], ◌∷◌, length, Bool, true, false, not, Option, None, Some, codes, bytes_eq, slice_index, if◌then◌else◌}
+use Rattle.std.specs.Prelude.{ℕ, ◌&&◌, ◌||◌, ◌==◌, nat_le, ℤ, pos, neg_ℤ, List, [], ◌∷◌, length, Bool, true, false, not, Option, None, Some, codes, bytes_eq, slice_index, if◌then◌else◌, drop}
 use Rattle.std.specs.Char.{is_ascii_digit}
 use Rattle.std.specs.List.{list_all}
 use Rattle.std.specs.Str.Parse.{digits_value}
 use Rattle.kf_frac.specs.Fractions.{reduced_num, reduced_den}
 use Rattle.kf_refine.specs.Refinements.{Fraction}
+use mathlib.Core.List.{foldr}
 
 -- decimal digits, without a 0 before others
 abbrev pub is_numeral : List ℕ → Bool
@@ -18,31 +19,22 @@ is_negative (b ∷ text) = b == 45
 
 -- what stands behind the `-`, or the whole text
 abbrev pub past_sign : List ℕ → List ℕ
-past_sign [] = []
-past_sign (b ∷ text) = if b == 45 then text else b ∷ text
+past_sign text = if is_negative text then drop 1 text else text
 
 -- what stands before the first `/`
 abbrev pub before_bar : List ℕ → List ℕ
-before_bar [] = []
-before_bar (b ∷ text) = if b == 47 then [] else b ∷ before_bar text
+before_bar text = foldr (λ b front. if b == 47 then [] else b ∷ front) [] text
 
 -- what stands behind it
 abbrev pub behind_bar : List ℕ → Option (List ℕ)
 behind_bar [] = None
 behind_bar (b ∷ text) = if b == 47 then Some text else behind_bar text
 
--- a whole number: digits, maybe behind a `-`
-abbrev pub is_whole_text : List ℕ → Bool
-is_whole_text text = is_numeral (past_sign text)
-
--- the digits of a denominator, which isn't 0
-abbrev pub is_denominator : List ℕ → Bool
-is_denominator digits = is_numeral digits && not (bytes_eq digits (codes "0"))
-
--- a whole number, maybe before a `/` and a denominator
+-- a whole number, maybe before a `/` and the digits of a denominator, which isn't 0
 abbrev pub is_fraction_text : List ℕ → Bool
 is_fraction_text text =
-    is_numeral (before_bar (past_sign text)) && elim (behind_bar text) [ None ↦ true | Some digits ↦ is_denominator digits ]
+    is_numeral (before_bar (past_sign text))
+    && elim (behind_bar text) [ None ↦ true | Some digits ↦ is_numeral digits && not (bytes_eq digits (codes "0")) ]
 
 -- n, or minus n behind a `-`
 abbrev pub with_sign : List ℕ → ℕ → ℤ

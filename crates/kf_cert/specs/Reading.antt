@@ -3,9 +3,11 @@ use Rattle.std.specs.Prelude.{◌&&◌, Bool, if◌then◌else◌}
 use Rattle.std.specs.List.{list_all}
 use Rattle.serde_json.specs.Data.{Data}
 use Rattle.kf_json.specs.Json.{members, at_place, text_of}
-use Rattle.kf_cert.specs.Numbers.{is_whole_text, is_fraction_text, whole_said}
-use Rattle.kf_cert.specs.Certificates.{says_yes, has_entry_keys, matrix_at, rows_at, columns_at, entries_at, over_at, rest_at, actions_at, gains_at, is_narrow_fraction, is_narrow_whole}
+use Rattle.kf_cert.specs.Numbers.{is_fraction_text, whole_said}
+use Rattle.kf_cert.specs.Certificates.{says_yes, has_entry_keys, is_narrow_fraction, is_narrow_whole}
 use Rattle.kf_cert.specs.declared.cert.CertEntry.{CertEntry}
+use Rattle.kf_cert.specs.Forms.{matrix_at, rows_at, columns_at, entries_at, is_whole_text}
+use Rattle.kf_gain.specs.Tables.{over_at, rest_at, actions_at, gains_at}
 
 -- an entry as it is read
 abbrev pub gain_said : Data → CertEntry

@@ -9,13 +9,14 @@ use Rattle.kf_refine.specs.Verdicts.{VerdictTree}
 use Rattle.kf_refine.specs.Verdicts as verdict
 use Rattle.kf_cert.specs.Shapes.{IsWritable}
 use Rattle.kf_refine.specs.Views.{fraction_of, matrix_tree}
-use Rattle.kf_cert.specs.Certificates.{CertTree, Yes, Named, No, EntryTree, NamedTable, NamedTree, is_in_order}
-use Rattle.kf_cert.specs.CertTexts.{named_of, widest}
+use Rattle.kf_cert.specs.Certificates.{CertTree, Yes, Named, No, EntryTree, NamedTable, NamedTree}
+use Rattle.kf_cert.specs.CertTexts.{named_of}
 use Rattle.kf_cert.specs.declared.cert.Cert.{Cert}
 use Rattle.kf_cert.specs.declared.cert.Cert.TheVariants as cert
 use Rattle.kf_cert.specs.declared.cert.CertGain.{CertGain}
 use Rattle.kf_cert.specs.declared.cert.NamedEntry.{NamedEntry}
 use Rattle.kf_cert.specs.declared.cert.NamedMatrix.{NamedMatrix}
+use Rattle.kf_cert.specs.Order.{is_in_order, widest}
 
 abbrev pub named_table : CertGain → NamedTable
 named_table g = record { over = g.over; rest = g.rest; actions = g.actions }

@@ -5,6 +5,8 @@ ghost use Rattle.std.specs.List.{list_all};
 ghost use Rattle.kf_json.specs.Json.{is_list as is_a_list, members as member_list};
 ghost use Rattle.serde_json.specs.View.{view};
 ghost use Rattle.kf_cert.specs.Certificates as rule;
+ghost use Rattle.kf_cert.specs.Forms as single;
+ghost use Rattle.kf_gain.specs.Tables as gain_rule;
 ghost use Rattle.kf_json.specs.Rules.{first_broken};
 ghost use Rattle.kf_json.specs.Seen.{seen};
 
@@ -22,14 +24,14 @@ pub(crate) fn says_yes(value: &Value) -> bool
 
 /// Whether the verdict is no.
 fn says_no(value: &Value) -> bool
-    ensures { result ≡ rule.says_no (view value.now) }
+    ensures { result ≡ single.says_no (view value.now) }
 {
     is_the_text(value.get("verdict"), "no")
 }
 
 /// Whether the verdict is one of the two.
 fn has_verdict(value: &Value) -> bool
-    ensures { result ≡ rule.form_1 (view value.now) }
+    ensures { result ≡ single.form_1 (view value.now) }
 {
     says_yes(value) || says_no(value)
 }
@@ -57,7 +59,7 @@ fn has_table_keys(value: &Value) -> bool
 
 /// Whether the keys are those of its verdict, in one of its forms.
 fn has_its_keys(value: &Value) -> bool
-    ensures { result ≡ rule.form_2 (view value.now) }
+    ensures { result ≡ single.form_2 (view value.now) }
 {
     if says_yes(value) {
         has_matrix_keys(value) || has_entry_keys(value)
@@ -93,7 +95,7 @@ fn has_yes_format(value: &Value) -> bool
 
 /// Whether the format is one of its form.
 fn has_format(value: &Value) -> bool
-    ensures { result ≡ rule.form_3 (view value.now) }
+    ensures { result ≡ single.form_3 (view value.now) }
 {
     if says_yes(value) {
         has_yes_format(value)
@@ -160,8 +162,8 @@ fn is_entry(value: &Value) -> bool
 
 /// Whether the named entries are a list of such lists.
 fn are_entries(value: &Value) -> bool
-    ensures { result ≡ (is_a_list (rule.entries_at (view value.now))
-        && list_all rule.is_entry (member_list (rule.entries_at (view value.now)))) }
+    ensures { result ≡ (is_a_list (single.entries_at (view value.now))
+        && list_all rule.is_entry (member_list (single.entries_at (view value.now)))) }
 {
     let found = value.get("entries");
     is_list(found) && members(found).iter().all(|entry| is_entry(entry))
@@ -176,7 +178,7 @@ fn has_entries(value: &Value) -> bool
 
 /// Whether the matrix stands in the way of its keys.
 fn has_its_matrix(value: &Value) -> bool
-    ensures { result ≡ rule.has_its_matrix (view value.now) }
+    ensures { result ≡ single.has_its_matrix (view value.now) }
 {
     if has_entry_keys(value) {
         has_entries(value)
@@ -187,7 +189,7 @@ fn has_its_matrix(value: &Value) -> bool
 
 /// Whether a yes has such a matrix.
 fn has_matrix(value: &Value) -> bool
-    ensures { result ≡ rule.form_4 (view value.now) }
+    ensures { result ≡ single.form_4 (view value.now) }
 {
     !says_yes(value) || has_its_matrix(value)
 }
@@ -203,14 +205,14 @@ fn has_numbers(value: &Value) -> bool
 
 /// Whether the value is an action's object.
 fn is_action(value: &Value) -> bool
-    ensures { result ≡ rule.is_action (view value.now) }
+    ensures { result ≡ gain_rule.is_action (view value.now) }
 {
     has_keys(value, &["gains", "name"])
 }
 
 /// Whether there is a value, and all are such objects.
 fn are_actions(values: &[Value]) -> bool
-    ensures { result ≡ (nat_le 1 (length values.now) && list_all rule.is_action (map view values.now)) }
+    ensures { result ≡ (nat_le 1 (length values.now) && list_all gain_rule.is_action (map view values.now)) }
 {
     1 <= values.len() && values.iter().all(|action| is_action(action))
 }
@@ -225,7 +227,7 @@ fn has_actions(value: &Value) -> bool
 
 /// Whether a no has these numbers and actions.
 fn has_table(value: &Value) -> bool
-    ensures { result ≡ rule.form_5 (view value.now) }
+    ensures { result ≡ single.form_5 (view value.now) }
 {
     says_yes(value) || (has_numbers(value) && has_actions(value))
 }
@@ -239,8 +241,8 @@ fn is_gain(value: &Value) -> bool
 
 /// Whether the action's gains are a list of such.
 fn has_gains(action: &Value) -> bool
-    ensures { result ≡ (is_a_list (rule.gains_at (view action.now))
-        && list_all rule.is_gain (member_list (rule.gains_at (view action.now)))) }
+    ensures { result ≡ (is_a_list (gain_rule.gains_at (view action.now))
+        && list_all rule.is_gain (member_list (gain_rule.gains_at (view action.now)))) }
 {
     let found = action.get("gains");
     is_list(found) && members(found).iter().all(|gain| is_gain(gain))
@@ -255,7 +257,7 @@ fn is_named_action(action: &Value) -> bool
 
 /// Whether each action of a no is such.
 fn has_named_actions(value: &Value) -> bool
-    ensures { result ≡ rule.form_6 (view value.now) }
+    ensures { result ≡ single.form_6 (view value.now) }
 {
     says_yes(value)
         || members(value.get("actions"))

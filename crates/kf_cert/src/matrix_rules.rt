@@ -2,10 +2,11 @@
 
 ghost use Rattle.std.specs.Prelude.{◌≡◌, ◌≢◌, ◌↔◌, Ok, Err, IfOk, IfErr, IsTrue, map, true};
 ghost use Rattle.kf_cert.specs.declared.mark.CheckError.TheVariants as error;
-ghost use Rattle.kf_cert.specs.Certificates.{Yes, Named, is_in_order, matrix_of};
+ghost use Rattle.kf_cert.specs.Certificates.{Yes, Named, matrix_of};
 ghost use Rattle.kf_cert.specs.Marks.{IsMarked, MarkedByRules};
 ghost use Rattle.kf_cert.specs.Rows.{rows_tree, matrix_between, IsWithin, AreWithin};
 ghost use Rattle.kf_cert.specs.Views.{IsSoundNamed, entry_tree, named_tree};
+ghost use Rattle.kf_cert.specs.Order.{is_in_order};
 ghost use Rattle.kf_refine.specs.Refinements.{IsShaped};
 ghost use Rattle.kf_refine.specs.Views.{hyper_tree, matrix_tree, fraction_of};
 

@@ -5,6 +5,7 @@ ghost use Rattle.std.specs.List.{list_all};
 ghost use Rattle.std.specs.Char.{is_ascii_digit};
 ghost use Rattle.std.specs.Str.Parse.{digits_value};
 ghost use Rattle.kf_cert.specs.Numbers as number;
+ghost use Rattle.kf_cert.specs.Forms as single;
 ghost use Rattle.kf_cert.specs.Certificates.{is_narrow};
 ghost use Rattle.kf_frac.specs.Fractions.{limit, reduced_num, reduced_den};
 ghost use Rattle.kf_frac.specs.Parts.{signed};
@@ -68,21 +69,21 @@ fn is_numeral(text: &str) -> bool
 
 /// Whether the text is the digits of a denominator, which isn't 0.
 fn is_denominator(text: &str) -> bool
-    ensures { result ≡ number.is_denominator text.now }
+    ensures { result ≡ single.is_denominator text.now }
 {
     is_numeral(text) && text != "0"
 }
 
 /// Whether the text is a whole number: digits, maybe behind a `-`.
 pub(crate) fn is_whole_text(text: &str) -> bool
-    ensures { result ≡ number.is_whole_text text.now }
+    ensures { result ≡ single.is_whole_text text.now }
 {
     is_numeral(past_sign(text))
 }
 
 /// Whether the whole number that the text is is at least 1.
 pub(crate) fn is_positive_text(text: &str) -> bool
-    requires { number.is_whole_text text.now ≡ true }
+    requires { single.is_whole_text text.now ≡ true }
     ensures { result ≡ int_le (pos 1) (number.whole_said text.now) }
 {
     !is_negative(text) && text != "0"
@@ -125,7 +126,7 @@ fn with_sign(negative: bool, size: u128) -> i128
 
 /// The whole number that the text is; `None` where it is none, or passes 2^127 - 1 in absolute value.
 pub(crate) fn whole_said(text: &str) -> Option<i128>
-    ensures some { is_some result ≡ (number.is_whole_text text.now && is_narrow (number.whole_said text.now)) }
+    ensures some { is_some result ≡ (single.is_whole_text text.now && is_narrow (number.whole_said text.now)) }
     ensures value { IfSome result (λ z. z ≡ number.whole_said text.now) }
 {
     if !is_whole_text(text) {

@@ -3,20 +3,21 @@
 ghost use Rattle.std.specs.Prelude.{◌≡◌, map};
 ghost use Rattle.std.specs.List.{list_all};
 ghost use Rattle.kf_cert.specs.Certificates as rule;
+ghost use Rattle.kf_cert.specs.Order as order;
 ghost use Rattle.kf_cert.specs.Views.{cert_tree, entry_tree, named_tree};
 
 use crate::{Cert, NamedEntry, NamedMatrix};
 
 /// Whether an entry's place comes before this row and column: it is in an earlier row, or in the same row and an earlier column.
 pub(crate) fn comes_before(entry: &NamedEntry, row: u128, column: u128) -> bool
-    ensures { result ≡ rule.comes_before row column (entry_tree entry.now) }
+    ensures { result ≡ order.comes_before row column (entry_tree entry.now) }
 {
     entry.row < row || (entry.row == row && entry.column < column)
 }
 
 /// Whether an entry stands in this row and column.
 pub(crate) fn stands_at(entry: &NamedEntry, row: u128, column: u128) -> bool
-    ensures { result ≡ rule.stands_at row column (entry_tree entry.now) }
+    ensures { result ≡ order.stands_at row column (entry_tree entry.now) }
 {
     entry.row == row && entry.column == column
 }
@@ -36,21 +37,21 @@ fn are_ascending(entries: &[NamedEntry]) -> bool
 
 /// Whether a place is one of a matrix of so many rows and columns.
 fn is_inside(entry: &NamedEntry, rows: u128, columns: u128) -> bool
-    ensures { result ≡ rule.is_inside rows columns (entry_tree entry.now) }
+    ensures { result ≡ order.is_inside rows columns (entry_tree entry.now) }
 {
     entry.row < rows && entry.column < columns
 }
 
 /// Whether all places are.
 fn are_inside(entries: &[NamedEntry], rows: u128, columns: u128) -> bool
-    ensures { result ≡ list_all (rule.is_inside rows columns) (map entry_tree entries.now) }
+    ensures { result ≡ list_all (order.is_inside rows columns) (map entry_tree entries.now) }
 {
     entries.iter().all(|entry| is_inside(entry, rows, columns))
 }
 
 /// Whether the places ascend strictly, and all are places of the matrix.
 fn is_in_order(matrix: &NamedMatrix) -> bool
-    ensures { result ≡ rule.is_in_order (named_tree matrix.now) }
+    ensures { result ≡ order.is_in_order (named_tree matrix.now) }
 {
     let entries = matrix.entries.as_slice();
     are_ascending(entries) && are_inside(entries, matrix.rows, matrix.columns)

@@ -11,9 +11,10 @@ ghost use Rattle.kf_gain.specs.Views.{table_tree};
 ghost use Rattle.kf_cert.specs.Shapes.{IsWritable, IsWritableAction};
 ghost use Rattle.kf_refine.specs.Views.{fraction_of, matrix_tree, verdict_tree};
 ghost use Rattle.kf_cert.specs.Certificates.{cert_of};
-ghost use Rattle.kf_cert.specs.CertTexts.{action_data, cert_data, cert_text, entry_data, gain_data, named_data, named_of, no_data, row_entries, rows_entries, widest as widest_of};
+ghost use Rattle.kf_cert.specs.CertTexts.{action_data, cert_data, cert_text, entry_data, gain_data, named_data, named_of, no_data, row_entries};
 ghost use Rattle.kf_cert.specs.Rows.{row_tree, rows_tree};
 ghost use Rattle.kf_cert.specs.Views.{read_back, IsSmall, HasSmall};
+ghost use Rattle.kf_cert.specs.Order.{widest as widest_of, rows_entries};
 
 use kf_frac::Frac;
 use kf_gain::{Action, GainEntry, GainTable};

@@ -17,11 +17,11 @@ use Rattle.kf_check.specs.declared.errors.TypeError.{TypeError}
 use Rattle.kf_check.specs.declared.errors.TypeError.TheVariants as broken
 use Rattle.kf_check.specs.declared.variables.Variable as code
 use Rattle.kf_check.specs.Types.{greatest_size, JudgesType}
-use Rattle.kf_check.specs.Kinds.{Known, IsKnown, IsUnknown, AsksDist}
+use Rattle.kf_check.specs.Kinds.{Known, AsksDist}
 use Rattle.kf_check.specs.Sources.{Variable, types_of, known_of, Grows, JudgesDecl, JudgesDecls}
 use Rattle.kf_check.specs.Translation.{dx_of, decl_of, names_of}
 use Rattle.kf_check.specs.Picks.{names_in}
-use Rattle.kf_check.specs.Variables.{variable_of}
+use Rattle.kf_check.specs.Variables.{variable_of, IsKnown, IsUnknown}
 use Rattle.kf_check.specs.SourceAnswers.{AnswersGrowth}
 use Rattle.kf_check.proofs.Behind.{dx_behind}
 use Rattle.kf_check.proofs.Judging.{past}

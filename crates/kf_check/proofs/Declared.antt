@@ -9,12 +9,13 @@ use Rattle.kf_ast.specs.Names.{name}
 use Rattle.kf_ast.specs.TypeForms.{TypeForm}
 use Rattle.kf_ast.specs.Dists.{DistTree}
 use Rattle.kf_ast.specs.Sources.{DeclTree, declared}
-use Rattle.kf_check.specs.Kinds.{IsKnown, IsUnknown, JudgesDist}
+use Rattle.kf_check.specs.Kinds.{JudgesDist}
 use Rattle.kf_check.specs.Translation.{names_of}
 use Rattle.kf_check.specs.Types.{greatest_size, JudgesType}
 use Rattle.kf_check.specs.Sources.{Variable, types_of, known_of, JudgesDecl, JudgesDecls}
 use Rattle.kf_check.specs.Picks.{names_in}
 use Rattle.kf_check.proofs.Kinding.{IsVariable, kinds_in, Differ, slice_get-some, same_ok, asked}
+use Rattle.kf_check.specs.Variables.{IsKnown, IsUnknown}
 
 pub slice_get-push : {A : Type 0} (xs : List A) (x : A) (i : ℕ) (y : A) → slice_get (xs ++ x ∷ []) i ≡ Some y → (slice_get xs i ≡ Some y) ⊎ ((i ≡ length xs) × (x ≡ y))
 slice_get-push [] x zero y h = inr (refl, (cc))

@@ -12,9 +12,10 @@ use Rattle.kf_ast.specs.Exprs as Exprs
 use Rattle.kf_core.specs.declared.ex.Ex.{Ex, the_lemmas as ex_lemmas}
 use Rattle.kf_core.specs.declared.ex.Ex.TheVariants as ex
 use Rattle.kf_core.specs.declared.ex.ExList.{ExList}
-use Rattle.kf_core.specs.Exs.{ExTree, exs}
+use Rattle.kf_core.specs.Exs.{ExTree}
 use Rattle.kf_core.specs.Views.{ex_tree, ex_items}
 use Rattle.kf_core.specs.Exs as Exs
+use Rattle.kf_core.specs.Each.{exs}
 
 pub expr_tree-Number : (x : Expr) (n : ℕ) → x.node ≡ node.Number n → expr_tree x ≡ expr_at x.at (Number n)
 expr_tree-Number x n is = search (rules, expr_lemmas)

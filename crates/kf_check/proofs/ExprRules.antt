@@ -13,13 +13,14 @@ use Rattle.kf_ast.specs.Exprs.{ExprTree, ExprTrees, no_exprs, more_exprs, expr_a
 use Rattle.kf_ast.specs.Built.{expr_count, IsBuilt, AreBuilt}
 use Rattle.kf_ops.specs.Fitting.{Takes}
 use Rattle.kf_core.specs.declared.ex.Ex.{Ex}
-use Rattle.kf_core.specs.Exs.{more_exs, exs}
+use Rattle.kf_core.specs.Exs.{more_exs}
 use Rattle.kf_core.specs.Views.{ex_tree}
 use Rattle.kf_core.specs.Exs as ex
+use Rattle.kf_core.specs.Each.{exs}
 use Rattle.kf_check.specs.declared.errors.TypeError.{TypeError}
 use Rattle.kf_check.specs.declared.errors.TypeError.TheVariants as broken
 use Rattle.kf_check.specs.declared.typed.TypedEx.{TypedEx}
-use Rattle.kf_check.specs.Kinds.{Known, IsUnknown, IsCommon, IsPart, IsResult, Judges, JudgesAll}
+use Rattle.kf_check.specs.Kinds.{Known, IsCommon, IsPart, IsResult, Judges, JudgesAll}
 use Rattle.kf_check.specs.Translation.{ex_of, exs_of}
 use Rattle.kf_check.proofs.Kinding.{same_ok}
 use Rattle.kf_check.proofs.LawsKinds.{not_unknown}
@@ -27,6 +28,7 @@ use Rattle.kf_check.specs.Picks.{names_in, IsFound, HasNoCommon, HasNoPart, HasN
 use Rattle.kf_check.specs.Answers.{AnswersEx}
 use Rattle.kf_check.proofs.Each.{Each, around}
 use Rattle.kf_check.proofs.Each as each
+use Rattle.kf_check.specs.Variables.{IsUnknown}
 
 module _ (known : List Known) where
   -- an expression has this kind, and becomes this one

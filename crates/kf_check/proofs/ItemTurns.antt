@@ -13,11 +13,11 @@ use Rattle.kf_ast.specs.Sources.{ItemTree, item}
 use Rattle.kf_check.specs.declared.errors.TypeError.{TypeError}
 use Rattle.kf_check.specs.declared.errors.TypeError.TheVariants as broken
 use Rattle.kf_check.specs.declared.variables.Variable as code
-use Rattle.kf_check.specs.Kinds.{Known, IsKnown, IsUnknown}
-use Rattle.kf_check.specs.Sources.{Variable, types_of, known_of, Carries, JudgesItem, JudgesItems}
+use Rattle.kf_check.specs.Kinds.{Known}
+use Rattle.kf_check.specs.Sources.{Variable, types_of, known_of, JudgesItem, JudgesItems}
 use Rattle.kf_check.specs.Translation.{AreItems}
 use Rattle.kf_check.specs.Translation as becomes
-use Rattle.kf_check.specs.Variables.{variable_of, AreCopied}
+use Rattle.kf_check.specs.Variables.{variable_of, AreCopied, IsKnown, IsUnknown, Carries}
 use Rattle.kf_check.specs.SourceAnswers.{AnswersGrowth, Stands, HasSame}
 use Rattle.kf_check.proofs.Judging.{past}
 use Rattle.kf_check.proofs.DeclTurns.{no_room, has_room}

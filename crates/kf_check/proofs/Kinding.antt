@@ -14,7 +14,7 @@ use Rattle.kf_ast.specs.Exprs as expr
 use Rattle.kf_ast.specs.Dists.{CaseTree, case_of, DistTree, dist_at, Sure, UniformSet, UniformRange, Choose, Flip}
 use Rattle.kf_ast.specs.Stmts.{StmtTree, StmtShape, StmtTrees, stmt_at, Skip, Assign, Observe, If, While, no_stmts, more_stmts, stmts}
 use Rattle.kf_ast.specs.Built.{expr_count, IsBuilt, IsShapeBuilt, AreBuilt, AreCasesBuilt, IsDistBuilt, IsStmtBuilt, IsStmtShapeBuilt, AreStmtsBuilt}
-use Rattle.kf_core.specs.Exs.{ExTree, ExTrees, no_exs, more_exs, exs}
+use Rattle.kf_core.specs.Exs.{ExTree, ExTrees, no_exs, more_exs}
 use Rattle.kf_core.specs.Views.{exs_list, sts_list}
 use Rattle.kf_core.specs.Exs as ex
 use Rattle.kf_core.specs.Sts.{StTree, StTrees, no_sts, more_sts, sts}
@@ -22,11 +22,13 @@ use Rattle.kf_core.specs.Sts as st
 use Rattle.kf_core.specs.Checked.{Kinded, EachKinded, AllKinded, CasesKinded, DistKinded, IsSound, AreSound}
 use Rattle.kf_ops.specs.Places.{pattern_kind}
 use Rattle.kf_core.specs.Checked as has
+use Rattle.kf_core.specs.Each.{exs}
 use Rattle.kf_check.specs.declared.errors.TypeError.{TypeError}
-use Rattle.kf_check.specs.Kinds.{Known, IsKnown, IsCommon, Judges, JudgesShape, JudgesAll, JudgesPair, JudgesCases, JudgesDist, AsksDist}
+use Rattle.kf_check.specs.Kinds.{Known, IsCommon, Judges, JudgesShape, JudgesAll, JudgesPair, JudgesCases, JudgesDist, AsksDist}
 use Rattle.kf_check.specs.Picks.{names_in}
 use Rattle.kf_check.specs.Statements.{JudgesStmt, JudgesStmtShape, JudgesStmts}
 use Rattle.kf_check.specs.Translation.{place_of, ex_of, ex_of_shape, exs_of, dx_case_of, dx_of, st_of, st_of_shape, sts_of}
+use Rattle.kf_check.specs.Variables.{IsKnown}
 
 abbrev pub kinds_in : List Known → List KindTree
 kinds_in known = map (λ v. v.kind) known

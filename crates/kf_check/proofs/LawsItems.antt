@@ -5,12 +5,13 @@ use Rattle.kf_value.specs.Kinds.{KindTree, kind_of}
 use Rattle.kf_value.specs.Types.{TypeTree}
 use Rattle.kf_ast.specs.Names.{name}
 use Rattle.kf_ast.specs.Sources.{ItemTree, item}
-use Rattle.kf_check.specs.Kinds.{Known, IsKnown, IsUnknown}
+use Rattle.kf_check.specs.Kinds.{Known}
 use Rattle.kf_check.specs.Translation.{names_of}
 use Rattle.kf_check.specs.Sources.{Variable, known_of}
 use Rattle.kf_check.proofs.Kinding.{Differ, slice_get-some}
 use Rattle.kf_check.proofs.LawsChoices.{same_text}
 use Rattle.kf_check.proofs.LawsKinds.{Finding, finding}
+use Rattle.kf_check.specs.Variables.{IsKnown, IsUnknown}
 
 -- ---- what stands in a list
 

@@ -2,10 +2,11 @@
 use Rattle.std.proofs.Common.{◌≡◌, ℕ, suc, zero, List, [], ◌∷◌, slice_get, Some, refl, sym, ap, ◌∙◌, ◌⊎◌, inl, inr}
 use Rattle.std.proofs.lemmas.List.Elements.{All-head, All-tail, All-nil, All-cons}
 use Rattle.kf_value.specs.Kinds.{KindTree, KindTrees, no_kind, more_kinds, kind_parts}
-use Rattle.kf_check.specs.Kinds.{Known, IsKnown, IsUnknown}
+use Rattle.kf_check.specs.Kinds.{Known}
 use Rattle.kf_check.specs.Picks.{names_in}
 use Rattle.kf_check.proofs.Kinding.{Differ, slice_get-some}
 use Rattle.kf_check.proofs.LawsChoices.{same_text}
+use Rattle.kf_check.specs.Variables.{IsKnown, IsUnknown}
 
 -- ---- names
 

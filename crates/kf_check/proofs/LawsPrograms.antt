@@ -10,7 +10,7 @@ use Rattle.kf_core.specs.Programs.{ProgramTree}
 use Rattle.kf_check.specs.declared.errors.TypeError.{TypeError}
 use Rattle.kf_check.specs.declared.errors.TypeError.TheVariants as broken
 use Rattle.kf_check.specs.Statements.{JudgesStmts}
-use Rattle.kf_check.specs.Sources.{Variable, types_of, known_of, JudgesDecls, JudgesItems, JudgesSource, IsBroken}
+use Rattle.kf_check.specs.Sources.{Variable, types_of, known_of, JudgesDecls, JudgesItems, JudgesSource}
 use Rattle.kf_check.specs.Translation.{AreItems, IsTarget, Typed, names_of, decl_of, st_of}
 use Rattle.kf_check.specs.Translation as aims
 use Rattle.kf_check.specs.Laws.{IsWellBuilt, TypedOrBroken, OneTyped, CheckedIfTyped}
@@ -21,6 +21,7 @@ use Rattle.kf_check.proofs.LawsItems.{in_at, one_type}
 use Rattle.kf_check.proofs.One.{one_decls, one_items}
 use Rattle.kf_check.proofs.Some.{some_decls, some_items, some_stmts}
 use Rattle.kf_check.proofs.Programs.{no_variable, broken_decls, broken_target, broken_body, target_types, typed}
+use Rattle.kf_check.specs.Variables.{IsBroken}
 
 -- ---- a source has a program, or a first broken rule
 

@@ -13,9 +13,10 @@ use Rattle.std.proofs.lemmas.Bool.{false_from_ne_true}
 use Rattle.indexmap.specs.IndexMap.{insert_entry}
 use Rattle.kf_value.specs.Views.{kind_tree}
 use Rattle.kf_check.specs.declared.names.Named.{Named}
-use Rattle.kf_check.specs.Kinds.{Known, IsKnown, IsUnknown}
+use Rattle.kf_check.specs.Kinds.{Known}
 use Rattle.kf_check.specs.Picks.{names_in, IsFound}
 use Rattle.kf_check.proofs.Kinding.{IsVariable, place_first, slice_get-some}
+use Rattle.kf_check.specs.Variables.{IsKnown, IsUnknown}
 
 module _ {Z : Type 0} where
   abbrev pub known_by : String Z × Named → Known

@@ -14,10 +14,10 @@ use Rattle.kf_ops.specs.Places.{pattern_kind}
 use Rattle.kf_check.specs.declared.errors.TypeError.{TypeError}
 use Rattle.kf_check.specs.declared.errors.TypeError.TheVariants as broken
 use Rattle.kf_check.specs.Judgements.{Judgement, Is, Picks, Where, After}
-use Rattle.kf_check.specs.Types.{greatest_size, greatest_base, Sized, JudgesType, JudgesTypeShape, JudgesTypes}
-use Rattle.kf_check.specs.Kinds.{Known, IsUnknown, HasName, Fit, IsResult, IsCommon, IsPart, Judges, JudgesShape, JudgesAll, Asks, JudgesPair, JudgesCases, JudgesDistShape, JudgesDist, dist_place, AsksDist}
+use Rattle.kf_check.specs.Types.{greatest_size, Sized, JudgesType, JudgesTypeShape, JudgesTypes}
+use Rattle.kf_check.specs.Kinds.{Known, HasName, Fit, IsResult, IsCommon, IsPart, Judges, JudgesShape, JudgesAll, Asks, JudgesPair, JudgesCases, JudgesDistShape, JudgesDist, dist_place, AsksDist}
 use Rattle.kf_check.specs.Statements.{JudgesStmt, JudgesStmtShape, JudgesStmts}
-use Rattle.kf_check.specs.Sources.{Variable, types_of, known_of, Grows, JudgesDecl, JudgesDecls, Carries, JudgesItem, JudgesItems, JudgesWhole, JudgesSource}
+use Rattle.kf_check.specs.Sources.{Variable, types_of, known_of, Grows, JudgesDecl, JudgesDecls, JudgesItem, JudgesItems, JudgesWhole, JudgesSource}
 use Rattle.kf_check.specs.Translation.{names_of}
 use Rattle.kf_check.specs.Laws.{OneJudgement}
 use Rattle.kf_check.specs.Picks.{names_in}
@@ -26,6 +26,7 @@ use Rattle.kf_check.proofs.Declared.{none_differ, differ-declared, variables_dif
 use Rattle.kf_check.proofs.LawsFits.{gives_one}
 use Rattle.kf_check.proofs.LawsKinds.{one_known, kind_list, kind_list-kind_parts}
 use Rattle.kf_check.proofs.LawsItems.{in_at, one_type}
+use Rattle.kf_check.specs.Variables.{IsUnknown, greatest_base, Carries}
 
 abbrev pub HasOne : {A : Type 0} → Judgement A → Type 0
 HasOne {A} j = (r q : Result A TypeError) → j r → j q → r ≡ q

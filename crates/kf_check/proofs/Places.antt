@@ -13,11 +13,12 @@ use Rattle.kf_ast.specs.Sources.{DeclTree, declared, ItemTree, item, SourceTree,
 use Rattle.kf_check.specs.declared.errors.TypeError.{TypeError}
 use Rattle.kf_check.specs.declared.errors.TypeError.TheVariants as broken
 use Rattle.kf_check.specs.Judgements.{Judgement, Is, Picks, Where, After}
-use Rattle.kf_check.specs.Types.{greatest_size, greatest_base, Sized, JudgesType, JudgesTypeShape, JudgesTypes}
-use Rattle.kf_check.specs.Kinds.{Known, IsUnknown, HasName, IsResult, IsCommon, IsPart, Judges, JudgesShape, JudgesAll, Asks, JudgesPair, JudgesCases, JudgesDistShape, JudgesDist, dist_place, AsksDist}
+use Rattle.kf_check.specs.Types.{greatest_size, Sized, JudgesType, JudgesTypeShape, JudgesTypes}
+use Rattle.kf_check.specs.Kinds.{Known, HasName, IsResult, IsCommon, IsPart, Judges, JudgesShape, JudgesAll, Asks, JudgesPair, JudgesCases, JudgesDistShape, JudgesDist, dist_place, AsksDist}
 use Rattle.kf_check.specs.Statements.{JudgesStmt, JudgesStmtShape, JudgesStmts}
-use Rattle.kf_check.specs.Sources.{Variable, types_of, known_of, Grows, JudgesDecl, JudgesDecls, Carries, JudgesItem, JudgesItems, JudgesWhole, JudgesSource}
+use Rattle.kf_check.specs.Sources.{Variable, types_of, known_of, Grows, JudgesDecl, JudgesDecls, JudgesItem, JudgesItems, JudgesWhole, JudgesSource}
 use Rattle.kf_check.specs.Laws.{BrokenIsTold}
+use Rattle.kf_check.specs.Variables.{IsUnknown, greatest_base, Carries}
 
 abbrev IsTold : {A : Type 0} → Judgement A → Type 0
 IsTold j = (e : TypeError) → j (Err e) → e ≡ broken.Mem → ⊥

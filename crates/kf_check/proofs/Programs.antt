@@ -12,10 +12,10 @@ use Rattle.kf_core.specs.Programs.{ProgramTree}
 use Rattle.kf_check.specs.declared.errors.TypeError.{TypeError}
 use Rattle.kf_check.specs.Statements.{JudgesStmts}
 use Rattle.kf_check.specs.declared.errors.TypeError.TheVariants as broken
-use Rattle.kf_check.specs.Sources.{Variable, types_of, known_of, JudgesDecls, JudgesItems, JudgesSource, IsBroken}
+use Rattle.kf_check.specs.Sources.{Variable, types_of, known_of, JudgesDecls, JudgesItems, JudgesSource}
 use Rattle.kf_check.specs.Translation.{AreItems, IsTarget, Typed, names_of, decl_of, st_of}
 use Rattle.kf_check.specs.Translation as becomes
-use Rattle.kf_check.specs.Variables.{AreDeclared, AreCopied}
+use Rattle.kf_check.specs.Variables.{AreDeclared, AreCopied, IsBroken}
 use Rattle.kf_check.proofs.Kinding.{Differ, slice_get-some, same_ok}
 use Rattle.kf_check.proofs.Declared.{variables_differ, counted}
 use Rattle.kf_check.proofs.DeclFacts.{facts_of}

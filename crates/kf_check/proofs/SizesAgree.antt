@@ -10,8 +10,9 @@ use Rattle.kf_ast.specs.TypeForms.{TypeForm, TypeShape, TypeForms, type_at, no_t
 use Rattle.kf_ast.specs.TypeForms as form
 use Rattle.kf_check.specs.declared.errors.TypeError.{TypeError}
 use Rattle.kf_check.specs.Judgements.{Is, After}
-use Rattle.kf_check.specs.Types.{greatest_size, greatest_base, Sized, JudgesType, JudgesTypeShape, JudgesTypes}
+use Rattle.kf_check.specs.Types.{greatest_size, Sized, JudgesType, JudgesTypeShape, JudgesTypes}
 use Rattle.kf_check.specs.Laws.{plain_type, plain_shape, plain_types, IsFault, SizesAgree}
+use Rattle.kf_check.specs.Variables.{greatest_base}
 
 -- what is found is this, and has no fault; or this is its first fault
 abbrev pub Same : {A : Type 0} → Option TyFault → A → Result A TypeError → Type 0

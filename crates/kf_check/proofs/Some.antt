@@ -18,15 +18,16 @@ use Rattle.kf_ast.specs.Built.{IsDistBuilt, IsStmtBuilt, IsStmtShapeBuilt, AreSt
 use Rattle.kf_check.specs.declared.errors.TypeError.{TypeError}
 use Rattle.kf_check.specs.declared.errors.TypeError.TheVariants as broken
 use Rattle.kf_check.specs.Judgements.{Judgement, Is, Picks, Where, After}
-use Rattle.kf_check.specs.Types.{greatest_size, greatest_base, Sized, JudgesType, JudgesTypeShape, JudgesTypes}
-use Rattle.kf_check.specs.Kinds.{Known, IsUnknown, HasName, Fit, IsResult, IsCommon, IsPart, Judges, JudgesShape, JudgesAll, Asks, JudgesPair, JudgesCases, JudgesDist, dist_place, AsksDist}
+use Rattle.kf_check.specs.Types.{greatest_size, Sized, JudgesType, JudgesTypeShape, JudgesTypes}
+use Rattle.kf_check.specs.Kinds.{Known, HasName, Fit, IsResult, IsCommon, IsPart, Judges, JudgesShape, JudgesAll, Asks, JudgesPair, JudgesCases, JudgesDist, dist_place, AsksDist}
 use Rattle.kf_check.specs.Statements.{JudgesStmt, JudgesStmtShape, JudgesStmts}
-use Rattle.kf_check.specs.Sources.{Variable, types_of, known_of, Grows, JudgesDecl, JudgesDecls, Carries, JudgesItem, JudgesItems}
+use Rattle.kf_check.specs.Sources.{Variable, types_of, known_of, Grows, JudgesDecl, JudgesDecls, JudgesItem, JudgesItems}
 use Rattle.kf_check.proofs.Judging.{past}
 use Rattle.kf_check.proofs.LawsChoices.{both, at_most, same_kind, all_or_not}
 use Rattle.kf_check.proofs.LawsFits.{Fitting, fitting}
 use Rattle.kf_check.proofs.LawsKinds.{Finding, finding, not_unknown, kind_list, kind_list-kind_parts, kind_parts-kind_list}
 use Rattle.kf_check.proofs.LawsItems.{Declared, declared_or_not, known_at, in_at, at_in, Stands, standing}
+use Rattle.kf_check.specs.Variables.{IsUnknown, greatest_base, Carries}
 
 abbrev pub HasSome : {A : Type 0} → Judgement A → Type 0
 HasSome {A} j = (r : Result A TypeError) × j r

@@ -18,10 +18,10 @@ use Rattle.kf_check.specs.declared.errors.TypeError.TheVariants as broken
 use Rattle.kf_check.specs.declared.variables.Variable as code
 use Rattle.kf_check.specs.Kinds.{Known}
 use Rattle.kf_check.specs.Statements.{JudgesStmts}
-use Rattle.kf_check.specs.Sources.{Variable, types_of, known_of, JudgesDecls, JudgesItems, IsBroken}
+use Rattle.kf_check.specs.Sources.{Variable, types_of, known_of, JudgesDecls, JudgesItems}
 use Rattle.kf_check.specs.Translation.{IsTarget, names_of, st_of}
 use Rattle.kf_check.specs.Picks.{names_in}
-use Rattle.kf_check.specs.Variables.{variable_of, AreCopied}
+use Rattle.kf_check.specs.Variables.{variable_of, AreCopied, IsBroken}
 use Rattle.kf_check.proofs.Declared.{names_of_known}
 use Rattle.kf_check.proofs.Programs.{fits_shape, some_variables, no_variable, one_copied}
 

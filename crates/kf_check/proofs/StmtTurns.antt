@@ -23,7 +23,7 @@ use Rattle.kf_core.specs.Sts.{StTree, sts}
 use Rattle.kf_core.specs.Sts as st
 use Rattle.kf_check.specs.declared.errors.TypeError.{TypeError}
 use Rattle.kf_check.specs.declared.errors.TypeError.TheVariants as broken
-use Rattle.kf_check.specs.Kinds.{Known, IsUnknown, JudgesDist, AsksDist}
+use Rattle.kf_check.specs.Kinds.{Known, JudgesDist, AsksDist}
 use Rattle.kf_check.specs.Statements.{JudgesStmt, JudgesStmts}
 use Rattle.kf_check.specs.Translation.{place_of, dx_of, st_of, sts_of}
 use Rattle.kf_check.proofs.Judging.{past}
@@ -32,6 +32,7 @@ use Rattle.kf_check.proofs.LawsKinds.{not_unknown}
 use Rattle.kf_check.specs.Answers.{AnswersAskedDx}
 use Rattle.kf_check.specs.Picks.{names_in, IsFound}
 use Rattle.kf_check.specs.SourceAnswers.{AnswersSt, AnswersSts}
+use Rattle.kf_check.specs.Variables.{IsUnknown}
 
 -- ---- the tree of each form
 

@@ -13,10 +13,11 @@ use Rattle.kf_ast.specs.TypeForms as form
 use Rattle.kf_ast.specs.declared.ty_tree.TyTree.{TyTree}
 use Rattle.kf_check.specs.declared.errors.TypeError.{TypeError}
 use Rattle.kf_check.specs.declared.errors.TypeError.TheVariants as broken
-use Rattle.kf_check.specs.Types.{greatest_size, greatest_base, Sized, JudgesType, JudgesTypes}
+use Rattle.kf_check.specs.Types.{greatest_size, Sized, JudgesType, JudgesTypes}
 use Rattle.kf_check.proofs.DeclTurns.{product_grows}
 use Rattle.kf_check.proofs.Each.{Each, around}
 use Rattle.kf_check.proofs.Each as each
+use Rattle.kf_check.specs.Variables.{greatest_base}
 
 -- a written type is this type
 abbrev pub IsType : TyTree → Ty → Type 0

@@ -15,16 +15,9 @@ pub record Known : Type 0 where
   pub name : List ℕ
   pub kind : KindTree
 
--- the variable of this name is the one with this number, and has this kind
-abbrev pub IsKnown : List Known → List ℕ → ℕ → KindTree → Type 0
-IsKnown known n i k = slice_get known i ≡ Some (record { name = n; kind = k })
-
-abbrev pub IsUnknown : List Known → List ℕ → Type 0
-IsUnknown known n = All (λ v. v.name ≡ n → ⊥) known
-
 -- some variable of this name is known, and has this kind
 abbrev pub HasName : List Known → List ℕ → KindTree → Type 0
-HasName known n k = (i : ℕ) × IsKnown known n i k
+HasName known n k = (i : ℕ) × (slice_get known i ≡ Some (record { name = n; kind = k }))
 
 -- the kinds are those of the row's patterns, where `Any` stands for this kind
 abbrev pub Fit : Row → KindTree → List KindTree → Type 0
@@ -42,6 +35,13 @@ IsCommon (j ∷ js) k = (j ≡ k) × All (λ i. i ≡ j) js
 -- a tuple's part has this kind
 abbrev pub IsPart : KindTree → ℕ → KindTree → Type 0
 IsPart j n k = (ks : List KindTree) × (j ≡ TupleKind (kind_parts ks)) × (slice_get ks n ≡ Some k)
+
+-- what stands here is of this kind, and is to be of that one
+abbrev pub Asks : ℕ → KindTree → KindTree → Judgement KindTree
+Asks at j k = Where (j ≡ k) k (broken.Clash at)
+
+abbrev pub dist_place : DistTree → ℕ
+dist_place (dist_at at shape) = at
 
 module _ (known : List Known) where
   abbrev mutual
@@ -63,39 +63,32 @@ module _ (known : List Known) where
     JudgesAll no_exprs = Is []
     JudgesAll (more_exprs x xs) = After (Judges x) (λ k. After (JudgesAll xs) (λ ks. Is (k ∷ ks)))
 
--- what stands here is of this kind, and is to be of that one
-abbrev pub Asks : ℕ → KindTree → KindTree → Judgement KindTree
-Asks at j k = Where (j ≡ k) k (broken.Clash at)
+  -- two expressions one after the other, of which the first is to be of this kind and the second a whole number
+  abbrev pub JudgesPair : KindTree → ExprTree → ExprTree → Judgement KindTree
+  JudgesPair k x y =
+      After (Judges x)
+      (λ j. After (Judges y)
+      (λ i. After (Asks (place x) j k)
+      (λ _. After (Asks (place y) i WholeKind)
+      (λ _. Is k))))
 
--- two expressions one after the other, of which the first is to be of this kind and the second a whole number
-abbrev pub JudgesPair : List Known → KindTree → ExprTree → ExprTree → Judgement KindTree
-JudgesPair known k x y =
-    After (Judges known x)
-    (λ j. After (Judges known y)
-    (λ i. After (Asks (place x) j k)
-    (λ _. After (Asks (place y) i WholeKind)
-    (λ _. Is k))))
+  -- the cases of a `choose` whose values are to be of this kind
+  abbrev pub JudgesCases : KindTree → List CaseTree → Judgement KindTree
+  JudgesCases k [] = Is k
+  JudgesCases k (case_of x y ∷ cs) = After (JudgesPair k x y) (λ _. JudgesCases k cs)
 
--- the cases of a `choose` whose values are to be of this kind
-abbrev pub JudgesCases : List Known → KindTree → List CaseTree → Judgement KindTree
-JudgesCases known k [] = Is k
-JudgesCases known k (case_of x y ∷ cs) = After (JudgesPair known k x y) (λ _. JudgesCases known k cs)
+  -- the kind of a distribution's values; of those of a `choose` it is the first one's
+  abbrev pub JudgesDistShape : ℕ → DistShape → Judgement KindTree
+  JudgesDistShape at (Sure x) = Judges x
+  JudgesDistShape at (UniformSet x) = After (Judges x) (λ j. Picks (λ k. j ≡ SetKind k) (broken.Clash (place x)))
+  JudgesDistShape at (UniformRange x y) = JudgesPair WholeKind x y
+  JudgesDistShape at (Choose []) = λ r. ⊥
+  JudgesDistShape at (Choose (case_of x y ∷ cs)) = After (Judges x) (λ k. JudgesCases k (case_of x y ∷ cs))
+  JudgesDistShape at (Flip num den) = Where ((1 ≤ den) × (num ≤ den)) TruthKind (broken.BadFlip at)
 
--- the kind of a distribution's values; of those of a `choose` it is the first one's
-abbrev pub JudgesDistShape : List Known → ℕ → DistShape → Judgement KindTree
-JudgesDistShape known at (Sure x) = Judges known x
-JudgesDistShape known at (UniformSet x) = After (Judges known x) (λ j. Picks (λ k. j ≡ SetKind k) (broken.Clash (place x)))
-JudgesDistShape known at (UniformRange x y) = JudgesPair known WholeKind x y
-JudgesDistShape known at (Choose []) = λ r. ⊥
-JudgesDistShape known at (Choose (case_of x y ∷ cs)) = After (Judges known x) (λ k. JudgesCases known k (case_of x y ∷ cs))
-JudgesDistShape known at (Flip num den) = Where ((1 ≤ den) × (num ≤ den)) TruthKind (broken.BadFlip at)
+  abbrev pub JudgesDist : DistTree → Judgement KindTree
+  JudgesDist (dist_at at shape) = JudgesDistShape at shape
 
-abbrev pub JudgesDist : List Known → DistTree → Judgement KindTree
-JudgesDist known (dist_at at shape) = JudgesDistShape known at shape
-
-abbrev pub dist_place : DistTree → ℕ
-dist_place (dist_at at shape) = at
-
--- a distribution whose values are to be of this kind
-abbrev pub AsksDist : List Known → KindTree → DistTree → Judgement KindTree
-AsksDist known k d = After (JudgesDist known d) (λ j. Asks (dist_place d) j k)
+  -- a distribution whose values are to be of this kind
+  abbrev pub AsksDist : KindTree → DistTree → Judgement KindTree
+  AsksDist k d = After (JudgesDist d) (λ j. Asks (dist_place d) j k)

@@ -14,8 +14,9 @@ use Rattle.kf_core.specs.Checked.{IsChecked}
 use Rattle.kf_check.specs.declared.errors.TypeError.{TypeError}
 use Rattle.kf_check.specs.declared.errors.TypeError.TheVariants as broken
 use Rattle.kf_check.specs.Types.{greatest_size, JudgesType}
-use Rattle.kf_check.specs.Sources.{JudgesSource, IsBroken}
+use Rattle.kf_check.specs.Sources.{JudgesSource}
 use Rattle.kf_check.specs.Translation.{Typed}
+use Rattle.kf_check.specs.Variables.{IsBroken}
 
 -- operators have as many arguments as they take, and no list is too short
 abbrev pub IsWellBuilt : SourceTree → Type 0

@@ -3,8 +3,9 @@ use Rattle.std.specs.Prelude.{◌≡◌, ℕ, List, map}
 use Rattle.kf_value.specs.Kinds.{KindTree, SetKind}
 use Rattle.kf_ops.specs.Rows.{Row}
 use Rattle.kf_ops.specs.Places.{IsRow}
-use Rattle.kf_check.specs.Kinds.{Known, IsKnown, Fit, IsCommon, IsPart}
+use Rattle.kf_check.specs.Kinds.{Known, Fit, IsCommon, IsPart}
 use Rattle.kf_check.specs.Translation.{place_of}
+use Rattle.kf_check.specs.Variables.{IsKnown}
 
 abbrev pub names_in : List Known → List (List ℕ)
 names_in known = map (λ v. v.name) known

@@ -1,5 +1,6 @@
 -- Believed: the rules of declarations, targets and whole sources.
-use Rattle.std.specs.Prelude.{ℕ, ◌*◌, ◌^◌, ◌<◌, ◌≤◌, Bool, true, false, List, [], ◌∷◌, ◌++◌, length, map, Contains, Option, Some, None, Ok, Err}
+use Rattle.std.specs.Prelude.{ℕ, ◌*◌, ◌^◌, ◌<◌, ◌≤◌, true, false, List, [], ◌∷◌, ◌++◌, length, map, Contains, Option, Some, None, Ok, Err, ◌≡◌}
+use Rattle.std.specs.List.{All}
 use Rattle.kf_value.specs.Types.{TypeTree, count, product}
 use Rattle.kf_ast.specs.Names.{name}
 use Rattle.kf_ast.specs.Stmts.{stmts}
@@ -9,7 +10,7 @@ use Rattle.kf_check.specs.declared.errors.TypeError.{TypeError}
 use Rattle.kf_check.specs.declared.errors.TypeError.TheVariants as broken
 use Rattle.kf_check.specs.Judgements.{Judgement, Is, Picks, Where, After}
 use Rattle.kf_check.specs.Types.{greatest_size, JudgesType}
-use Rattle.kf_check.specs.Kinds.{Known, IsUnknown, AsksDist}
+use Rattle.kf_check.specs.Kinds.{Known, AsksDist}
 use Rattle.kf_check.specs.Statements.{JudgesStmts}
 
 -- a declared variable
@@ -32,7 +33,7 @@ Grows ts t at =
 -- a declaration behind those of these variables: its name, its type, room for it, and its distribution, in which only they are known
 abbrev pub JudgesDecl : List Variable → DeclTree → Judgement Variable
 JudgesDecl vs (declared visible (name n at) y d) =
-    After (Where (IsUnknown (known_of vs) n) n (broken.Twice at))
+    After (Where (All (λ v. v.name ≡ n → ⊥) (known_of vs)) n (broken.Twice at))
     (λ _. After (JudgesType greatest_size y)
     (λ t. After (Grows (types_of vs) t at)
     (λ _. After (AsksDist (known_of vs) (kind_of t) d)
@@ -43,17 +44,13 @@ abbrev pub JudgesDecls : List Variable → List DeclTree → Judgement (List Var
 JudgesDecls vs [] = Is vs
 JudgesDecls vs (d ∷ ds) = After (JudgesDecl vs d) (λ v. JudgesDecls (vs ++ v ∷ []) ds)
 
--- where there are variables of these types, an item `old` of this type adds a carried copy, and another item none
-abbrev pub Carries : Bool → List TypeTree → TypeTree → ℕ → Judgement (List TypeTree)
-Carries false ts t at = Is ts
-Carries true ts t at = After (Grows ts t at) (λ _. Is (ts ++ t ∷ []))
-
--- an item of a target behind these ones, where there are variables of these types, carried copies among them: the types behind it
+-- an item of a target behind these ones, where there are variables of these types, carried copies among them: the types behind it, to which
+-- an item `old` adds a carried copy
 abbrev pub JudgesItem : List Variable → List ItemTree → List TypeTree → ItemTree → Judgement (List TypeTree)
 JudgesItem vs stood ts (item old (name n at)) =
     After (Picks (λ t. Contains vs (record { name = n; type = t })) (broken.Unknown at))
     (λ t. After (Where ((at' : ℕ) → ¬ Contains stood (item old (name n at'))) t (broken.Twice at))
-    (λ _. Carries old ts t at))
+    (λ _. elim old [ false ↦ Is ts | true ↦ After (Grows ts t at) (λ _. Is (ts ++ t ∷ [])) ]))
 
 abbrev pub JudgesItems : List Variable → List ItemTree → List TypeTree → List ItemTree → Judgement (List TypeTree)
 JudgesItems vs stood ts [] = Is ts
@@ -71,7 +68,3 @@ JudgesWhole (source ds is xs) =
 unfoldable pub JudgesSource : SourceTree → Option TypeError → Type 0
 JudgesSource s None = JudgesWhole s (Ok tt)
 JudgesSource s (Some e) = JudgesWhole s (Err e)
-
--- this is the source's first broken rule
-abbrev pub IsBroken : SourceTree → TypeError → Type 0
-IsBroken s e = JudgesSource s (Some e)

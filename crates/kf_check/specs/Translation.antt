@@ -19,11 +19,11 @@ use Rattle.kf_core.specs.Sts.{StTree, StTrees, no_sts, more_sts}
 use Rattle.kf_core.specs.Sts as st
 use Rattle.kf_core.specs.Programs.{ProgramTree}
 use Rattle.kf_check.specs.Sources.{Variable, types_of, JudgesSource, JudgesDecls, JudgesItems}
+use mathlib.Core.List.{foldr}
 
 -- the place of a name, counted from 0
 abbrev pub place_of : List (List ℕ) → List ℕ → ℕ
-place_of [] n = 0
-place_of (m ∷ names) n = if bytes_eq m n then 0 else suc (place_of names n)
+place_of names n = foldr (λ m later. if bytes_eq m n then 0 else suc later) 0 names
 
 -- where variables have these names
 module _ (names : List (List ℕ)) where

@@ -6,12 +6,9 @@ use Rattle.kf_value.specs.Types.{TypeTree, Boolean, Range, TupleOf, SetOf, type_
 use Rattle.kf_check.specs.declared.errors.TypeError.TheVariants as broken
 use Rattle.kf_check.specs.Judgements.{Judgement, Is, Where, After}
 
--- a type may have 65,536 values, the base of a set 16
+-- a type may have 65,536 values; the base of a set 16
 abbrev pub greatest_size : ℕ
 greatest_size = 65536
-
-abbrev pub greatest_base : ℕ
-greatest_base = 16
 
 -- a type that is written here, if it has at most so many values
 abbrev pub Sized : ℕ → ℕ → TypeTree → Judgement TypeTree
@@ -27,7 +24,7 @@ abbrev mutual
   JudgesTypeShape limit at (form.Range lo hi) =
       After (Where (in_bounds lo hi ≡ true) (Range lo hi) (broken.BadRange at)) (Sized limit at)
   JudgesTypeShape limit at (form.TupleOf xs) = After (JudgesTypes xs) (λ ts. Sized limit at (TupleOf (type_parts ts)))
-  JudgesTypeShape limit at (form.SetOf x) = After (JudgesType greatest_base x) (λ t. Sized limit at (SetOf t))
+  JudgesTypeShape limit at (form.SetOf x) = After (JudgesType 16 x) (λ t. Sized limit at (SetOf t))
 
   -- the parts of a tuple
   pub JudgesTypes : TypeForms → Judgement (List TypeTree)

@@ -5,10 +5,9 @@ ghost use Rattle.kf_ast.specs.Views.{decl_tree, dist_tree};
 ghost use Rattle.kf_ast.specs.Built.{IsDistBuilt, AreDeclsBuilt};
 ghost use Rattle.kf_ops.specs.Fitting.{Takes};
 ghost use Rattle.kf_value.specs.Kinds.{kind_of as kind_of_type};
-ghost use Rattle.kf_check.specs.Kinds.{IsUnknown};
 ghost use Rattle.kf_check.specs.Sources.{known_of, types_of};
 ghost use Rattle.kf_check.specs.Views.{known_in, flags_in};
-ghost use Rattle.kf_check.specs.Variables.{variable_of, variables_in};
+ghost use Rattle.kf_check.specs.Variables.{variable_of, variables_in, IsUnknown};
 ghost use Rattle.kf_check.specs.SourceAnswers.{AnswersDecl, AnswersDecls};
 
 use crate::TypeError;

@@ -23,8 +23,8 @@ pub struct Names {
 impl Names {
     ghost use Rattle.std.specs.Prelude.{◌≡◌, ◌<◌, false, [], ◌∷◌, ◌++◌, get_or, MatchOption, OnOk, OnErr};
     ghost use Rattle.kf_value.specs.Views.{kind_tree};
-    ghost use Rattle.kf_check.specs.Kinds.{IsUnknown};
     ghost use Rattle.kf_check.specs.Picks.{IsFound};
+    ghost use Rattle.kf_check.specs.Variables.{IsUnknown};
     ghost use Rattle.kf_check.specs.Views.{known_in, flags_in};
 
     /// No variable is known.

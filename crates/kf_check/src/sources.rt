@@ -5,10 +5,10 @@ ghost use Rattle.kf_ast.specs.Views.{decl_tree, decl_items, item_tree, target_it
 ghost use Rattle.kf_core.specs.Views.{program_tree};
 ghost use Rattle.kf_core.specs.Checked.{IsChecked};
 ghost use Rattle.kf_check.specs.Laws.{IsWellBuilt};
-ghost use Rattle.kf_check.specs.Sources.{IsBroken, known_of, types_of};
+ghost use Rattle.kf_check.specs.Sources.{known_of, types_of};
 ghost use Rattle.kf_check.specs.SourceAnswers.{AnswersDecls, AnswersTarget};
 ghost use Rattle.kf_check.specs.Translation.{Typed};
-ghost use Rattle.kf_check.specs.Variables.{variables_in, AreCopied};
+ghost use Rattle.kf_check.specs.Variables.{variables_in, AreCopied, IsBroken};
 ghost use Rattle.kf_check.specs.Views.{known_in};
 
 use crate::TypeError;

@@ -9,9 +9,9 @@ use Rattle.std.proofs.lemmas.List.Sums.{sum_by-cons, get_or-le-sum_by}
 use Rattle.kf_frac.specs.Fractions.{limit}
 use Rattle.kf_column.specs.declared.entry.Entry.{Entry}
 use Rattle.kf_column.specs.Columns.{total, proportional}
-use Rattle.kf_column.specs.Shapes.{IsBelow, IsShape, as_inner}
+use Rattle.kf_column.specs.Shapes.{IsBelow, IsShape, as_inner, list_order}
 use Rattle.kf_column.specs.Joint.{mass}
-use Rattle.kf_column.specs.Hypers.{Inner, IsInner, IsHyper, list_order, class_total}
+use Rattle.kf_column.specs.Hypers.{Inner, IsInner, IsHyper, class_total}
 use Rattle.kf_column.specs.Classes.{ClassesOf, HasInner, total_in}
 use Rattle.kf_column.proofs.Ordered.{Ordered, one_class, own_totals}
 use Rattle.kf_column.proofs.Scaling.{proportional_reduced, proportional_itself}

@@ -10,13 +10,14 @@ use Rattle.std.proofs.lemmas.List.Elements.{All-head, All-tail}
 use Rattle.std.proofs.lemmas.List.Sums.{sum_by-cons}
 use Rattle.kf_column.specs.declared.entry.Entry.{Entry}
 use Rattle.kf_column.specs.Columns.{weight_at, total, proportional}
-use Rattle.kf_column.specs.Hypers.{Inner, IsInner, IsHyper, list_order, class_total}
+use Rattle.kf_column.specs.Hypers.{Inner, IsInner, IsHyper, class_total}
 use Rattle.kf_column.specs.Laws.{AtMostOneHyper}
 use Rattle.kf_column.proofs.Weights.{weight_at-cons, weight_at_head}
 use Rattle.kf_column.proofs.Proportions.{AreProportional, proportional_all}
 use Rattle.kf_column.proofs.Posteriors.{same_inner}
 use Rattle.kf_column.proofs.Gathering.{list_total}
 use Rattle.kf_column.proofs.Scaling.{total-cons}
+use Rattle.kf_column.specs.Shapes.{list_order}
 
 abbrev pub In : {X : Type 0} → X → List X → Type 0
 In x [] = ⊥

@@ -7,13 +7,13 @@ use Rattle.std.proofs.lemmas.List.Elements.{All-nil}
 use Rattle.std.proofs.lemmas.Simd.{map-map}
 use Rattle.kf_column.specs.declared.entry.Entry.{Entry}
 use Rattle.kf_column.specs.Columns.{IsColumn, weight_at, total, proportional}
-use Rattle.kf_column.specs.Hypers.{Inner, IsInner, IsHyper, class_total, list_order}
+use Rattle.kf_column.specs.Hypers.{Inner, IsInner, IsHyper, class_total}
 use Rattle.kf_column.specs.Averages.{scaled, joint_column}
 use Rattle.kf_column.specs.Joint.{mass}
 use Rattle.kf_column.specs.Classes.{HasInner, ClassesOf}
 use Rattle.kf_column.specs.Laws.{class_weight}
 use Rattle.kf_column.specs.Merged.{SameBeliefs, AreMerged}
-use Rattle.kf_column.specs.Shapes.{IsBelow, as_inner}
+use Rattle.kf_column.specs.Shapes.{IsBelow, as_inner, list_order}
 use Rattle.kf_column.proofs.Abstraction.{is_hyper, hyper_by_totals}
 use Rattle.kf_column.proofs.AtMostOne.{at_most_one}
 use Rattle.kf_column.proofs.ClassSums.{column_of, all_whole, sums_columns, sums_totals, sums_mass}

@@ -11,12 +11,12 @@ use Rattle.std.proofs.lemmas.List.Elements.{All-map, All-head, All-tail, All-con
 use Rattle.std.proofs.lemmas.List.Sums.{sum_by-cons, get_or-le-sum_by}
 use Rattle.kf_column.specs.declared.entry.Entry.{Entry}
 use Rattle.kf_column.specs.Columns.{IsColumn, weight_at, total, proportional}
-use Rattle.kf_column.specs.Hypers.{IsInner, class_total, list_order}
+use Rattle.kf_column.specs.Hypers.{IsInner, class_total}
 use Rattle.kf_column.specs.Averages.{scaled, joint_column}
 use Rattle.kf_column.specs.Joint.{mass}
 use Rattle.kf_column.specs.Classes.{ClassesOf, HasInner, IsWhole, total_in}
 use Rattle.kf_column.specs.Laws.{class_weight}
-use Rattle.kf_column.specs.Shapes.{IsBelow, as_inner}
+use Rattle.kf_column.specs.Shapes.{IsBelow, as_inner, list_order}
 use Rattle.kf_column.proofs.AtMostOne.{if_above}
 use Rattle.kf_column.proofs.Ordered.{Ordered, own_totals, proportional-swap, apart}
 use Rattle.kf_column.proofs.Posteriors.{same_inner}

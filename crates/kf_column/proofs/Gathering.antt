@@ -7,7 +7,8 @@ use Rattle.std.specs.Cmp.{IsTotalOrder, then_total, on_total, nat_cmp_total}
 use Rattle.std.proofs.lemmas.Bool.{eqb-true}
 use Rattle.std.specs.Cmp.Lexicographic.{lists_total}
 use Rattle.kf_column.specs.declared.entry.Entry.{Entry}
-use Rattle.kf_column.specs.Hypers.{list_order, entry_order}
+use Rattle.kf_column.specs.Hypers.{entry_order}
+use Rattle.kf_column.specs.Shapes.{list_order}
 
 then_equal : (a b : Ordering) → ordering_then a b ≡ Equal → (a ≡ Equal) × (b ≡ Equal)
 then_equal Less b e = absurd (cc)

@@ -11,13 +11,14 @@ use Rattle.std.proofs.Math.Nat.{mul_comm}
 use Rattle.std.proofs.lemmas.List.Sums.{sum_by-cons}
 use Rattle.kf_column.specs.declared.entry.Entry.{Entry}
 use Rattle.kf_column.specs.Columns.{proportional, weight_at}
-use Rattle.kf_column.specs.Hypers.{IsInner, list_order}
+use Rattle.kf_column.specs.Hypers.{IsInner}
 use Rattle.kf_column.specs.Classes.{AreAscending, total_in}
 use Rattle.kf_column.proofs.Gathering.{list_total}
 use Rattle.kf_column.proofs.Inserting.{paired}
 use Rattle.kf_column.proofs.Proportions.{proportional_all, all_proportional, bool_cases}
 use Rattle.kf_column.proofs.Posteriors.{same_inner}
 use Rattle.kf_column.proofs.Scaling.{two_ways, proportional_itself}
+use Rattle.kf_column.specs.Shapes.{list_order}
 
 abbrev Pair : Type 0
 Pair = List Entry × ℕ

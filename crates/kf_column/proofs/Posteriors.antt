@@ -8,9 +8,10 @@ use Rattle.kf_frac.specs.Divisors.{gcd_of}
 use Rattle.kf_frac.proofs.CommonDivisors.{gcd_is, gcd_multiples, gcd_positive}
 use Rattle.kf_column.specs.declared.entry.Entry.{Entry}
 use Rattle.kf_column.specs.Columns.{weight_at}
-use Rattle.kf_column.specs.Hypers.{IsInner, HasNoCommonFactor}
+use Rattle.kf_column.specs.Hypers.{IsInner}
 use Rattle.kf_column.proofs.Weights.{Above, weight_at_head, weight_at_other, weight_below, same_column, above_column}
 use Rattle.kf_column.proofs.Proportions.{AreProportional}
+use Rattle.kf_column.specs.Shapes.{HasNoCommonFactor}
 
 pub weight_of_head : (low : ℕ) (e : Entry) (es : List Entry) → Above low (e ∷ es) → weight_at (e ∷ es) e.value ≡ e.weight
 weight_of_head low e es (from, some, rest) = omega (arith, weight_at_head e es e.value refl, weight_below (e.value + 1) es e.value rest (omega arith))

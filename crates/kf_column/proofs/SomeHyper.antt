@@ -10,9 +10,8 @@ use Rattle.kf_frac.specs.Divisors.{gcd_of}
 use Rattle.kf_frac.proofs.CommonDivisors.{gcd_is}
 use Rattle.kf_column.specs.declared.entry.Entry.{Entry}
 use Rattle.kf_column.specs.Columns.{IsColumn, total}
-use Rattle.kf_column.specs.Hypers.{list_order}
 use Rattle.kf_column.specs.Classes.{IsCommonFactor, HasInner, ClassesOf}
-use Rattle.kf_column.specs.Shapes.{as_inner}
+use Rattle.kf_column.specs.Shapes.{as_inner, list_order}
 use Rattle.kf_column.specs.Laws.{SomeHyper}
 use Rattle.kf_column.proofs.Abstraction.{is_hyper}
 use Rattle.kf_column.proofs.Factors.{quotient, reduced_is}

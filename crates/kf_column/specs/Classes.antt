@@ -4,9 +4,9 @@ use Rattle.std.specs.List.Sorted.{IsStrictlySortedBy}
 use Prim.Native.Nat.{◌∣◌}
 use Rattle.kf_column.specs.declared.entry.Entry.{Entry}
 use Rattle.kf_column.specs.Columns.{total, proportional}
-use Rattle.kf_column.specs.Shapes.{IsBelow}
+use Rattle.kf_column.specs.Shapes.{IsBelow, list_order}
 use Rattle.kf_column.specs.Joint.{mass}
-use Rattle.kf_column.specs.Hypers.{IsInner, list_order, class_total}
+use Rattle.kf_column.specs.Hypers.{IsInner, class_total}
 use Rattle.kf_column.specs.Averages.{scaled}
 
 -- the greatest number that divides every weight

@@ -18,7 +18,7 @@ values column = map (λ e. e.value) column
 -- a column names each of its values once, in ascending order and with a weight
 pub record IsColumn (column : List Entry) : Type 0 where
   pub some : column ≢ []
-  pub ascending : IsStrictlyIncreasing (map (λ e. e.value) column)
+  pub ascending : IsStrictlyIncreasing (values column)
   pub positive : All (λ e. 0 < e.weight) column
 
 -- two columns normalise to one distribution: at any two values that they name their weights stand in one ratio

@@ -8,14 +8,10 @@ use Prim.Native.Nat.{◌∣◌}
 use Rattle.kf_column.specs.declared.entry.Entry.{Entry}
 use Rattle.kf_column.specs.Columns.{IsColumn, total, proportional}
 
--- only 1 divides every weight
-abbrev pub HasNoCommonFactor : List Entry → Type 0
-HasNoCommonFactor column = (d : ℕ) → All (λ e. d ∣ e.weight) column → d ≡ 1
-
--- a posterior in whole numbers, of which each is written in one way
+-- a posterior in whole numbers, of which each is written in one way: only 1 divides every weight
 pub record IsInner (entries : List Entry) : Type 0 where
   pub column : IsColumn entries
-  pub reduced : HasNoCommonFactor entries
+  pub reduced : (d : ℕ) → All (λ e. d ∣ e.weight) entries → d ≡ 1
 
 -- an inner, and the sum of all weights of its class: its outer times the scale
 pub record Inner : Type 0 where
@@ -25,9 +21,6 @@ pub record Inner : Type 0 where
 -- by the first entry that differs, its value before its weight; a proper prefix comes first
 abbrev pub entry_order : Entry → Entry → Ordering
 entry_order a b = ordering_then (nat_cmp a.value b.value) (nat_cmp a.weight b.weight)
-
-abbrev pub list_order : List Entry → List Entry → Ordering
-list_order = slice_cmp entry_order
 
 -- the sum of all weights of the columns that are proportional to this one
 abbrev pub class_total : List (List Entry) → List Entry → ℕ
@@ -40,4 +33,4 @@ pub record IsHyper (columns : List (List Entry)) (inners : List Inner) : Type 0 
   pub totals : All (λ i. i.total ≡ class_total columns i.entries) inners
   pub used : All (λ i. 0 < i.total) inners
   pub inner : All (λ i. IsInner i.entries) inners
-  pub ascending : IsStrictlySortedBy list_order (map (λ i. i.entries) inners)
+  pub ascending : IsStrictlySortedBy (slice_cmp entry_order) (map (λ i. i.entries) inners)

@@ -17,7 +17,7 @@ use Rattle.kf_ops.specs.Values.{inserted}
 use Rattle.kf_core.specs.Checked.{DistKinded, CasesKinded, sure, uniform_set, uniform_range, choose, flip, none, more}
 use Rattle.kf_core.specs.ChoiceLaws.{AreChoices, ChoicesAreShares, ChoicesKeepKinds}
 use Rattle.kf_core.specs.Results.{then_ok}
-use Rattle.kf_core.specs.Choices.{Weighted, Chosen, ChoiceFault, RangeLong, with_value, once, some_of, each_from, weighed, case_listed, cases_listed, listed, weight_in, gathered, common_factor, lowest}
+use Rattle.kf_core.specs.Choices.{Weighted, Chosen, ChoiceFault, RangeLong, with_value, once, some_of, each_from, weighed, case_listed, listed, weight_in, gathered, common_factor, lowest}
 use Rattle.kf_core.specs.Dxs.{DxCaseTree, case_of, DxShape, dx_at}
 use Rattle.kf_core.specs.Evaluation.{Evaluated, ev, set_of}
 use Rattle.kf_core.specs.Laws.{AreOfKinds, GivesKind}
@@ -25,6 +25,7 @@ use Rattle.kf_core.proofs.Gcds.{over, factor_divides, lowest_factor, over_positi
 use Rattle.kf_core.proofs.Keeping.{keeps}
 use Rattle.kf_core.proofs.SetLiterals.{each_set_of, set_of_ascends}
 use Rattle.kf_core.proofs.Shares.{weighty, with_weights, passes_test, gathered_positive, values_over, lowest_share}
+use Rattle.kf_core.specs.Each.{cases_listed}
 
 -- ---- shares
 

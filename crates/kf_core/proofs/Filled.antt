@@ -7,8 +7,10 @@ use Rattle.kf_value.specs.Values.{ValueTree, truth}
 use Rattle.kf_core.specs.Choices.{total}
 use Rattle.kf_core.specs.Dxs.{DxTree}
 use Rattle.kf_core.specs.Sts.{StTree, StTrees, Skip, Assign, Observe, If, While, no_sts, more_sts}
-use Rattle.kf_core.specs.Runs.{Run, Halted, Tried, tried, place, LoopBound, joined, onward, chain, choice_run, branched, silent, shown, stay, stopped, moved, replaced, assigned, guarded, looped, runs, all_runs, declared, leaks}
+use Rattle.kf_core.specs.Runs.{Run, Halted, Tried, tried, place, LoopBound, joined, chain, choice_run, branched, stay, stopped, replaced, assigned, guarded, looped, runs, all_runs, declared, leaks}
 use Rattle.kf_core.proofs.Measures.{Full}
+use Rattle.kf_core.specs.Each.{moved, onward}
+use Rattle.kf_core.specs.Leaks.{silent, shown}
 
 abbrev pub Filled : Tried → Type 0
 Filled (Ok ws) = Full ws

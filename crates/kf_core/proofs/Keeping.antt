@@ -20,13 +20,14 @@ use Rattle.kf_ops.specs.declared.row.Op.TheVariants as op
 use Rattle.kf_ops.specs.declared.row.Pat.{Pat}
 use Rattle.kf_ops.specs.declared.row.Pat.TheVariants as pat
 use Rattle.kf_ops.proofs.EachRow.{each_row, row_at}
-use Rattle.kf_core.specs.Exs.{ExTree, exs}
+use Rattle.kf_core.specs.Exs.{ExTree}
 use Rattle.kf_core.specs.Results.{then_ok}
-use Rattle.kf_core.specs.Evaluation.{Evaluated, ev, evs, all_values, operated, operator_at, at_row, set_of, part_of}
+use Rattle.kf_core.specs.Evaluation.{Evaluated, ev, evs, all_values, operated, operator_at, set_of, part_of}
 use Rattle.kf_core.specs.Checked.{Kinded, EachKinded, AllKinded, truth as truth_kinded, whole, slot, apply, tuple, set, part, none, more, no_more, and_more}
 use Rattle.kf_core.specs.Laws.{AreOfKinds, GivesKind}
 use Rattle.kf_core.proofs.StoreKinds.{all_have_kind, each_well_formed}
 use Rattle.kf_core.proofs.SetLiterals.{each_set_of, set_of_ascends}
+use Rattle.kf_core.specs.Each.{at_row, exs}
 
 -- ---- a value among others
 

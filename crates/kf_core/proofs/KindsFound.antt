@@ -8,11 +8,12 @@ use Rattle.kf_ops.specs.declared.row.Pat.{Pat}
 use Rattle.kf_ops.specs.declared.row.Pat.TheVariants as pat
 use Rattle.kf_ops.specs.Rows.{Row, operators}
 use Rattle.kf_ops.specs.Places.{IsRow, pattern_kind}
-use Rattle.kf_core.specs.Exs.{ExTree, ExTrees, Const, Slot, Apply, Tuple, SetOf, Part, no_exs, more_exs, exs}
+use Rattle.kf_core.specs.Exs.{ExTree, ExTrees, Const, Slot, Apply, Tuple, SetOf, Part, no_exs, more_exs}
 use Rattle.kf_core.specs.Views.{exs_list}
 use Rattle.kf_core.specs.Checked.{Kinded, EachKinded, AllKinded}
 use Rattle.kf_core.specs.Checked as rule
 use Rattle.kf_core.proofs.Settled.{decided, is_yes, either_way, at_most, same_list, same_kind, Told, is_one, after, after_some}
+use Rattle.kf_core.specs.Each.{exs}
 
 -- ---- operators
 

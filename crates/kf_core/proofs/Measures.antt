@@ -6,8 +6,9 @@ use Rattle.std.proofs.Math.Nat.{dvd-add, dvd-mul_right, mul-one, div-one}
 use Rattle.std.proofs.lemmas.Nat.Gcd.{dvd_trans}
 use Rattle.kf_value.specs.Values.{ValueTree}
 use Rattle.kf_core.specs.Choices.{Weighted}
-use Rattle.kf_core.specs.Runs.{Run, Halted, joined, onward, chain, choice_run, stay}
+use Rattle.kf_core.specs.Runs.{Run, Halted, joined, chain, choice_run, stay}
 use Rattle.kf_core.proofs.Sums.{adds, adds_joined, share_divides, share_of_share, share_of_sum, first_positive, second_positive}
+use Rattle.kf_core.specs.Each.{onward}
 
 -- a value for weight on a store, additive where the weight is of some form
 pub record Measure : Type 1 where

@@ -1,6 +1,6 @@
 -- The number of the target's value in a store is what the store becomes at the target's variables.
 use Rattle.std.proofs.Common.{◌≡◌, ℕ, suc, ◌*◌, ◌<◌, ◌==◌, false, List, [], ◌∷◌, length, map, get_or, slice_get, Option, Some, None, refl, sym, ap, subst, ◌∙◌, arith}
-use Rattle.std.specs.Option.{option_map}
+use Rattle.std.specs.Option.{option_map, unwrap_or}
 use Rattle.std.specs.List.{All, IsDistinct, AllByRecursion as Each}
 use Rattle.std.proofs.lemmas.List.Elements.{All-from_recursion}
 use Rattle.std.proofs.lemmas.Option.{slice_get-map, slice_get-get_or, slice_get_within, get_or_from_slice_get}
@@ -85,8 +85,7 @@ size_is [] = refl
 size_is (x ∷ items) = ap (λ n. count x.ty * n) (size_is items)
 
 abbrev number_or : Option ℕ → ℕ
-number_or (Some m) = m
-number_or None = 0
+number_or m = unwrap_or m 0
 
 module _ (p : ProgramTree) (checked : IsChecked p) where
   abbrev target_types : List TypeTree

@@ -7,12 +7,14 @@ use Rattle.kf_value.specs.Types.{TypeTree}
 use Rattle.kf_value.specs.Values.{ValueTree}
 use Rattle.kf_core.specs.Dxs.{DxTree}
 use Rattle.kf_core.specs.Choices.{Weighted}
-use Rattle.kf_core.specs.Runs.{Run, Halted, Tried, LoopBound, tried, place, replaced, stay, stopped, moved, chain, assigned, branched, guarded, looped, silent, shown}
+use Rattle.kf_core.specs.Runs.{Run, Halted, Tried, LoopBound, tried, place, replaced, stay, stopped, chain, assigned, branched, guarded, looped}
 use Rattle.kf_core.specs.Results.{then_ok}
 use Rattle.kf_core.specs.Support.{StoreSet, Passed, step, same, each_moved, assign_pass, can_be, where_guard, either_pass, guard_pass, bounded, loop_pass}
 use Rattle.kf_core.proofs.Among.{Among, among_weaker, among_map, among_mapped, among_image}
 use Rattle.kf_core.proofs.RunEnds.{End, HasEnd, Then, Picked, Side, on_true, on_false, on_fault, side, side_of, chain_ends, ends_chain, branched_ends, ends_branched, picks_true, picks_false}
 use Rattle.kf_core.proofs.PassTells.{Tells, From, Lists, Holds, tells_same, then_tells, either_tells, step_tells}
+use Rattle.kf_core.specs.Each.{moved}
+use Rattle.kf_core.specs.Leaks.{silent, shown}
 
 abbrev pub Follows : (StoreSet → Passed StoreSet) → (ℕ → List Run) → Type 0
 Follows passed from = (ns : StoreSet) → Tells Holds (passed ns) (From Holds ns (λ n. HasEnd (from n)))

@@ -10,9 +10,10 @@ use Rattle.std.specs.FinSet.{contains, from_list, items, union, contains-from_li
 use Rattle.std.proofs.lemmas.Cmp.{nat_cmp_total, ranked}
 use Rattle.kf_core.specs.Runs.{Halted}
 use Rattle.kf_core.specs.Results.{then_ok}
-use Rattle.kf_core.specs.Support.{StoreSet, Passed, each_pass, ascending, step, either_pass}
+use Rattle.kf_core.specs.Support.{StoreSet, Passed, ascending, step, either_pass}
 use Rattle.kf_core.proofs.Among.{Among, among_weaker, among_left, among_right, among_either, among_image, among_of_image, among_map, among_mapped}
 use Rattle.kf_core.proofs.RunEnds.{End, Goes, Then, among_from_test, test_from_among}
+use Rattle.kf_core.specs.Each.{each_pass}
 
 -- its fault is an end; and where it has none, nothing ends in a fault, and what it reaches is where something ends
 abbrev pub Tells : {A : Type 0} → (A → ℕ → Type 0) → Passed A → (End → Type 0) → Type 0

@@ -19,13 +19,14 @@ use Rattle.kf_column.specs.Columns.{IsColumn, weight_at}
 use Rattle.kf_column.specs.Traces.{Row, trace_order}
 use Rattle.kf_column.proofs.AtMostOne.{In}
 use Rattle.kf_column.proofs.Weights.{Above, column_above}
-use Rattle.kf_core.specs.Joint.{Cell, is_cell_at, weight_of, trace_weight, HasTrace}
+use Rattle.kf_core.specs.Joint.{Cell, weight_of, trace_weight}
 use Rattle.kf_core.specs.JointLaws.{RowsExist}
 use Rattle.kf_core.specs.Rows.{AreRowsOf}
 use Rattle.kf_core.proofs.Measures.{Full}
 use Rattle.kf_core.proofs.OneTable.{as_tuples, in_from_contains, contains_from_in, listed_parts}
 use Rattle.kf_core.proofs.Stores.{lists_decide, lists_order-itself}
 use Rattle.kf_core.proofs.Sums.{adds, each_is, sum_filtered, sum_is}
+use Rattle.kf_core.specs.Each.{HasTrace, is_cell_at}
 
 abbrev Trace : Type 0
 Trace = List ValueTree

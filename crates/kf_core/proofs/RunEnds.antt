@@ -5,10 +5,11 @@ use Rattle.std.specs.List.{list_any}
 use Rattle.std.proofs.lemmas.List.Folds.{Any-from_list_any, list_any-from_Any}
 use Rattle.kf_value.specs.Values.{ValueTree, truth}
 use Rattle.kf_core.specs.Choices.{Weighted, total}
-use Rattle.kf_core.specs.Runs.{Run, Halted, Tried, joined, onward, chain, choice_run, branched}
+use Rattle.kf_core.specs.Runs.{Run, Halted, Tried, joined, chain, choice_run, branched}
 use Rattle.kf_core.specs.Support.{can_be}
 use Rattle.kf_core.specs.SupportLaws.{AllEnd}
 use Rattle.kf_core.proofs.Among.{Among, among_weaker, among_map, among_mapped, among_image, among_of_image, among_flat, flat_among, among_at, any_from_among, among_from_any}
+use Rattle.kf_core.specs.Each.{onward}
 
 abbrev pub End : Type 0
 End = Result ℕ Halted

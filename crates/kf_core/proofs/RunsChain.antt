@@ -4,9 +4,10 @@ use Rattle.std.proofs.Math.Nat.{mul_assoc, one-mul}
 use Rattle.std.proofs.lemmas.Grind.{flat_map-append}
 use Rattle.std.proofs.lemmas.List.{map-append}
 use Rattle.kf_core.specs.Sts.{sts}
-use Rattle.kf_core.specs.Runs.{Run, joined, onward, chain, stay, runs, all_runs}
+use Rattle.kf_core.specs.Runs.{Run, joined, chain, stay, runs, all_runs}
 use Rattle.kf_core.specs.SupportLaws.{RunsChain}
 use Rattle.kf_core.proofs.RunEnds.{End}
+use Rattle.kf_core.specs.Each.{onward}
 
 -- ---- one run and another
 

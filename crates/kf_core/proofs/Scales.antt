@@ -18,9 +18,10 @@ use Rattle.kf_core.specs.Choices.{Weighted, Chosen, listed, gathered, lowest, to
 use Rattle.kf_core.specs.ChoiceLaws.{ChoicesAreShares}
 use Rattle.kf_core.specs.Dxs.{DxTree, DxShape, dx_at}
 use Rattle.kf_core.specs.Sts.{StTree, StTrees, Skip, Assign, Observe, If, While, no_sts, more_sts, sts}
-use Rattle.kf_core.specs.Runs.{Run, Halted, Tried, LoopBound, placed_at, tried, store_at, place, ended, stay, stopped, joined, onward, chain, choice_run, branched, silent, shown, moved, replaced, assigned, guarded, looped, runs, all_runs, declared, copied, program_runs, leaks}
-use Rattle.kf_core.specs.Scale.{common_scale}
+use Rattle.kf_core.specs.Runs.{Run, Halted, Tried, LoopBound, tried, store_at, place, ended, stay, stopped, joined, chain, choice_run, branched, replaced, assigned, guarded, looped, runs, all_runs, declared, copied, program_runs, leaks}
 use Rattle.kf_core.specs.SupportLaws.{CommonScaleIsLeast, ScalesArePositive}
+use Rattle.kf_core.specs.Each.{placed_at, moved, common_scale, onward}
+use Rattle.kf_core.specs.Leaks.{silent, shown}
 
 abbrev Scaled : List Run → Type 0
 Scaled rs = Each (λ r. 0 < r.scale) rs

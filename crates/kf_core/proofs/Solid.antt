@@ -15,16 +15,18 @@ use Rattle.kf_ops.specs.Values.{inserted}
 use Rattle.kf_core.specs.Checked.{DistKinded, sure, uniform_set, uniform_range, choose, flip, IsSound, AreSound, skip, assign, observe, if_else, while, none, more, IsChecked}
 use Rattle.kf_core.specs.ChoiceLaws.{ChoicesAreShares}
 use Rattle.kf_core.specs.Results.{then_ok}
-use Rattle.kf_core.specs.Choices.{Weighted, Chosen, ChoiceFault, RangeLong, with_value, once, some_of, each_from, weighed, case_listed, cases_listed, listed, gathered, common_factor, lowest, total, weight_in}
+use Rattle.kf_core.specs.Choices.{Weighted, Chosen, ChoiceFault, RangeLong, with_value, once, some_of, each_from, weighed, case_listed, listed, gathered, common_factor, lowest, total, weight_in}
 use Rattle.kf_core.specs.Dxs.{DxTree, DxCaseTree, case_of, DxShape, dx_at}
 use Rattle.kf_core.specs.Evaluation.{Evaluated, ev, set_of}
 use Rattle.kf_core.specs.Programs.{ProgramTree}
 use Rattle.kf_core.specs.Sts.{StTree, StTrees, Skip, Assign, Observe, If, While, no_sts, more_sts, sts}
-use Rattle.kf_core.specs.Runs.{Run, Halted, Tried, tried, placed_at, store_at, place, LoopBound, ended, stay, stopped, joined, onward, chain, choice_run, branched, silent, shown, moved, replaced, assigned, guarded, looped, runs, all_runs, declared, copied, program_runs, leaks}
+use Rattle.kf_core.specs.Runs.{Run, Halted, Tried, tried, store_at, place, LoopBound, ended, stay, stopped, joined, chain, choice_run, branched, replaced, assigned, guarded, looped, runs, all_runs, declared, copied, program_runs, leaks}
 use Rattle.kf_core.proofs.Shares.{passes_test}
 use Rattle.kf_core.proofs.Scales.{Weighty, weighty}
 use Rattle.kf_core.proofs.Measures.{Full}
 use Rattle.kf_core.proofs.Filled.{Filled, Solid, AllSolid, DeclsSolid}
+use Rattle.kf_core.specs.Each.{cases_listed, placed_at, moved, onward}
+use Rattle.kf_core.specs.Leaks.{silent, shown}
 
 -- ---- what is listed has some weight
 

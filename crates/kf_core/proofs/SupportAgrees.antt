@@ -6,13 +6,14 @@ use Rattle.kf_value.specs.Types.{TypeTree}
 use Rattle.kf_core.specs.Dxs.{DxTree}
 use Rattle.kf_core.specs.Sts.{StTree, StTrees, Skip, Assign, Observe, If, While, no_sts, more_sts, sts}
 use Rattle.kf_core.specs.Programs.{ProgramTree}
-use Rattle.kf_core.specs.Runs.{Run, Halted, tried, place, chain, assigned, runs, all_runs, declared, copied, program_runs, leaks, silent}
+use Rattle.kf_core.specs.Runs.{Run, Halted, tried, place, chain, assigned, runs, all_runs, declared, copied, program_runs, leaks}
 use Rattle.kf_core.specs.Support.{StoreSet, Passed, assign_pass, pass, all_pass, declare_pass, program_pass}
 use Rattle.kf_core.specs.SupportLaws.{Agrees, PassAgrees, BlockAgrees, ProgramAgrees, FaultIsOfARun}
 use Rattle.kf_core.proofs.Among.{any_from_among, among_from_any}
 use Rattle.kf_core.proofs.RunEnds.{End, HasEnd, all_end, none_halts}
 use Rattle.kf_core.proofs.PassTells.{Tells, From, Holds, tells_same, from_first, first_from, from_moved, moved_from}
 use Rattle.kf_core.proofs.PassFollows.{Follows, stay_follows, chain_follows, guard_follows, observe_follows, assign_follows, loop_follows}
+use Rattle.kf_core.specs.Leaks.{silent}
 
 -- ---- statements, blocks and declarations
 

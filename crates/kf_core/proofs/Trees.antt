@@ -2,11 +2,12 @@
 use Rattle.std.proofs.Common.{◌≡◌, ℕ, map, rules, Box, Global}
 use Rattle.kf_value.specs.Views.{value_tree}
 use Rattle.kf_value.specs.declared.value.Value.{Value}
-use Rattle.kf_core.specs.Exs.{Const, Slot, Apply, Tuple, SetOf, Part, exs}
+use Rattle.kf_core.specs.Exs.{Const, Slot, Apply, Tuple, SetOf, Part}
 use Rattle.kf_core.specs.Views.{ex_tree, ex_items}
 use Rattle.kf_core.specs.declared.ex.Ex.{Ex, the_lemmas}
 use Rattle.kf_core.specs.declared.ex.Ex.TheVariants as ex
 use Rattle.kf_core.specs.declared.ex.ExList.{ExList}
+use Rattle.kf_core.specs.Each.{exs}
 
 pub ex_tree-Const : (v : Value) → ex_tree (ex.Const v) ≡ Const (value_tree v)
 ex_tree-Const v = search (rules, the_lemmas)

@@ -9,10 +9,12 @@ use Rattle.kf_value.specs.Values.{ValueTree, truth}
 use Rattle.kf_core.specs.Choices.{Weighted, total}
 use Rattle.kf_core.specs.Dxs.{DxTree}
 use Rattle.kf_core.specs.Sts.{StTree, StTrees, Skip, Assign, Observe, If, While, no_sts, more_sts}
-use Rattle.kf_core.specs.Runs.{Run, Halted, Tried, tried, place, LoopBound, chain, branched, silent, shown, stay, stopped, moved, replaced, assigned, guarded, looped, runs, all_runs, declared, leaks}
+use Rattle.kf_core.specs.Runs.{Run, Halted, Tried, tried, place, LoopBound, chain, branched, stay, stopped, replaced, assigned, guarded, looped, runs, all_runs, declared, leaks}
 use Rattle.kf_core.proofs.Sums.{adds, adds_same}
 use Rattle.kf_core.proofs.Measures.{Measure, Trace, Ends, end_value, RunsWithin, runs_value, ahead, Full, chain_runs, choices_run, choices_first, ChosenWithin, stay_value}
 use Rattle.kf_core.proofs.Filled.{Filled, Solid, AllSolid, DeclsSolid, looped_full, moved_some, side_full, all_full, declared_full, chain_full}
+use Rattle.kf_core.specs.Each.{moved}
+use Rattle.kf_core.specs.Leaks.{silent, shown}
 
 -- weight itself
 abbrev pub all_weight : Trace → Measure

@@ -6,10 +6,11 @@ use Rattle.kf_value.specs.Targets.{Item}
 use Rattle.kf_value.specs.Kinds.{KindTree, TruthKind, WholeKind, TupleKind, SetKind, kind_parts, kind_of}
 use Rattle.kf_ops.specs.Rows.{Row}
 use Rattle.kf_ops.specs.Places.{IsRow, pattern_kind}
-use Rattle.kf_core.specs.Exs.{ExTree, Const, Slot, Apply, Tuple, SetOf, Part, exs}
+use Rattle.kf_core.specs.Exs.{ExTree, Const, Slot, Apply, Tuple, SetOf, Part}
 use Rattle.kf_core.specs.Dxs.{DxTree, dx_at, DxCaseTree, case_of, Sure, UniformSet, UniformRange, Choose, Flip}
 use Rattle.kf_core.specs.Sts.{StTree, Skip, Assign, Observe, If, While, sts}
 use Rattle.kf_core.specs.Programs.{ProgramTree}
+use Rattle.kf_core.specs.Each.{exs}
 
 mutual
   -- where variables have these kinds, the expression has this one

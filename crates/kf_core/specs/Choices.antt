@@ -1,12 +1,13 @@
 -- Believed: what a distribution chooses in a store: values with whole weights, or its first fault.
-use Rattle.std.specs.Prelude.{ℕ, zero, suc, pos, negsuc, ◌-ℤ◌, ◌+◌, ◌-◌, ◌/◌, ℤ, true, false, List, [], ◌∷◌, ◌++◌, map, nat_lt, if◌then◌else◌, Result, Ok, Err, filter, sum_by}
+use Rattle.std.specs.Prelude.{ℕ, zero, suc, pos, negsuc, ◌-ℤ◌, ◌+◌, ◌-◌, ◌/◌, ℤ, true, false, List, [], ◌∷◌, map, nat_lt, if◌then◌else◌, Result, Ok, Err, filter, sum_by}
 use Rattle.kf_frac.specs.Divisors.{gcd_of}
 use Rattle.kf_value.specs.Values.{ValueTree, Truth, whole, elements, is_equal}
 use Rattle.kf_value.specs.Types.{Range, values, counted}
 use Rattle.kf_ops.specs.Values.{Fault}
-use Rattle.kf_core.specs.Results.{then_ok}
+use Rattle.kf_core.specs.Results.{then_ok, each_ok}
 use Rattle.kf_core.specs.Evaluation.{Evaluated, ev, set_of}
 use Rattle.kf_core.specs.Dxs.{DxCaseTree, case_of, DxShape, Sure, UniformSet, UniformRange, Choose, Flip}
+use mathlib.Core.List.{foldr}
 
 -- a value and its weight
 pub record Weighted : Type 0 where
@@ -49,17 +50,12 @@ weighed value (pos (suc n)) = with_value value (λ v. Ok (record { value = v; we
 abbrev pub case_listed : List ValueTree → DxCaseTree → Chosen
 case_listed s (case_of x y) = with_value (ev s y) (λ w. weighed (ev s x) (whole w))
 
--- the cases in order, up to the first fault
-abbrev pub cases_listed : List ValueTree → List DxCaseTree → Chosen
-cases_listed s [] = Ok []
-cases_listed s (c ∷ cs) = then_ok (case_listed s c) (λ ws. then_ok (cases_listed s cs) (λ others. Ok (ws ++ others)))
-
 -- the values as they are written, each with its weight: a value may stand there twice
 abbrev pub listed : List ValueTree → DxShape → Chosen
 listed s (Sure x) = with_value (ev s x) (λ v. Ok (once v ∷ []))
 listed s (UniformSet x) = with_value (ev s x) (λ v. some_of (map once (elements v)))
 listed s (UniformRange x y) = with_value (ev s x) (λ a. with_value (ev s y) (λ b. each_from (whole a) (whole b)))
-listed s (Choose cs) = then_ok (cases_listed s cs) some_of
+listed s (Choose cs) = then_ok (each_ok (case_listed s) cs) some_of
 listed s (Flip num den) = Ok (record { value = Truth true; weight = num } ∷ record { value = Truth false; weight = den - num } ∷ [])
 
 -- how much weight a value has in all
@@ -72,8 +68,7 @@ gathered ws = map (λ v. record { value = v; weight = weight_in ws v }) (set_of 
 
 -- the greatest number that divides all weights
 abbrev pub common_factor : List Weighted → ℕ
-common_factor [] = 0
-common_factor (w ∷ ws) = gcd_of w.weight (common_factor ws)
+common_factor ws = foldr (λ (w : Weighted) d. gcd_of w.weight d) 0 ws
 
 -- the same weights in lowest terms
 abbrev pub lowest : List Weighted → List Weighted

@@ -1,7 +1,7 @@
 -- Believed: the value of an expression in a store, or its first fault (Gibbons et al. 2020 leave expressions open; these are this
 -- language's).
-use Rattle.std.specs.Prelude.{ℕ, false, if◌then◌else◌, List, [], ◌∷◌, get_or, slice_get, Option, Some, None, Result, Ok, Err}
-use Rattle.std.specs.Option.{option_map}
+use Rattle.std.specs.Prelude.{ℕ, false, if◌then◌else◌, List, [], ◌∷◌, get_or, slice_get, Option, Result, Ok}
+use Rattle.std.specs.Option.{option_map, option_map_or}
 use Rattle.kf_value.specs.Values.{ValueTree, Truth, parts, parts_list, truth}
 use Rattle.kf_value.specs.Values as value
 use Rattle.kf_ops.specs.Rows.{operators}
@@ -10,6 +10,7 @@ use Rattle.kf_ops.specs.declared.row.Op.{Op}
 use Rattle.kf_ops.specs.declared.row.Op.TheVariants as op
 use Rattle.kf_core.specs.Results.{then_ok}
 use Rattle.kf_core.specs.Exs.{ExTree, ExTrees, Const, Slot, Apply, Tuple, SetOf, Part, no_exs, more_exs}
+use mathlib.Core.List.{foldr}
 
 abbrev pub Evaluated : Type 0
 Evaluated = Result ValueTree Fault
@@ -31,14 +32,9 @@ operated code es = then_ok (all_values es) (applied code)
 abbrev pub operator_at : ℕ → Option Op
 operator_at row = option_map (λ r. r.code) (slice_get operators row)
 
-abbrev pub at_row : Option Op → List Evaluated → Evaluated
-at_row (Some code) es = operated code es
-at_row None es = Ok (Truth false)
-
 -- members of a set, each once and ascending
 abbrev pub set_of : List ValueTree → List ValueTree
-set_of [] = []
-set_of (v ∷ vs) = inserted v (set_of vs)
+set_of vs = foldr inserted [] vs
 
 -- a part of a tuple, counted from 0; a checked expression takes no part that isn't there
 abbrev pub part_of : ℕ → ValueTree → ValueTree
@@ -49,7 +45,7 @@ abbrev mutual
   pub ev : List ValueTree → ExTree → Evaluated
   ev s (Const v) = Ok v
   ev s (Slot i) = Ok (get_or s i (Truth false))
-  ev s (Apply row xs) = at_row (operator_at row) (evs s xs)
+  ev s (Apply row xs) = option_map_or (λ code. operated code (evs s xs)) (operator_at row) (Ok (Truth false))
   ev s (Tuple xs) = then_ok (all_values (evs s xs)) (λ vs. Ok (value.Tuple (parts vs)))
   ev s (SetOf xs) = then_ok (all_values (evs s xs)) (λ vs. Ok (value.Set (parts (set_of vs))))
   ev s (Part x k) = then_ok (ev s x) (λ v. Ok (part_of k v))

@@ -1,5 +1,5 @@
 -- Believed: expressions of a checked program as plain trees.
-use Rattle.std.specs.Prelude.{ℕ, List, [], ◌∷◌}
+use Rattle.std.specs.Prelude.{ℕ}
 use Rattle.kf_value.specs.Values.{ValueTree}
 
 mutual
@@ -14,8 +14,3 @@ mutual
   pub data ExTrees : Type 0 where
     no_exs : ExTrees
     more_exs : ExTree → ExTrees → ExTrees
-
--- a list of expressions as the parts of a tree
-abbrev pub exs : List ExTree → ExTrees
-exs [] = no_exs
-exs (x ∷ xs) = more_exs x (exs xs)

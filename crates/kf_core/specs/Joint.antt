@@ -1,6 +1,7 @@
 -- Believed: the joint of a program: whole weights of traces and target values, over the scale of all runs.
-use Rattle.std.specs.Prelude.{ℕ, ◌*◌, ◌/◌, ◌<◌, Bool, false, ◌&&◌, ◌==◌, List, [], ◌∷◌, map, get_or, filter, sum_by, flat_map, None, Some, Ok, Err}
+use Rattle.std.specs.Prelude.{ℕ, ◌*◌, ◌/◌, false, ◌&&◌, ◌==◌, List, [], ◌∷◌, map, get_or, filter, sum_by, flat_map, Ok, Err}
 use Rattle.std.specs.Cmp.Lexicographic.{pointwise}
+use Rattle.std.specs.Option.{unwrap_or}
 use Rattle.kf_value.specs.Values.{ValueTree, Truth, is_equal}
 use Rattle.kf_core.specs.Programs.{ProgramTree}
 use Rattle.kf_core.specs.Runs.{Run, store_at, store_number, program_runs}
@@ -18,7 +19,7 @@ target_values_at p n = map (λ slot. get_or (store_at p.types n) slot (Truth fal
 
 -- their number among the target's values
 abbrev pub target_number : ProgramTree → ℕ → ℕ
-target_number p n = elim (store_number (map (λ i. i.ty) p.target) (target_values_at p n)) [ Some m ↦ m | None ↦ 0 ]
+target_number p n = unwrap_or (store_number (map (λ i. i.ty) p.target) (target_values_at p n)) 0
 
 -- the cell of a run that ends, its store numbered anew, and its weight brought from its own scale to this one
 abbrev pub cell_of : (ℕ → ℕ) → ℕ → Run → List Cell
@@ -35,17 +36,10 @@ cells number scale rs = flat_map (cell_of number scale) rs
 abbrev pub joint_of : ℕ → ProgramTree → List Cell
 joint_of turns p = cells (target_number p) (scale_of turns p) (program_runs turns p)
 
-abbrev pub is_cell_at : List ValueTree → ℕ → Cell → Bool
-is_cell_at t x c = pointwise is_equal c.trace t && (c.value == x)
-
 -- the joint weight of a trace and a target value: the sum over the runs that have both
 abbrev pub weight_of : List Cell → List ValueTree → ℕ → ℕ
-weight_of joint t x = sum_by (λ c. c.weight) (filter (is_cell_at t x) joint)
+weight_of joint t x = sum_by (λ c. c.weight) (filter (λ c. pointwise is_equal c.trace t && (c.value == x)) joint)
 
 -- the weight of a trace: the sum over the runs that have it
 abbrev pub trace_weight : List Cell → List ValueTree → ℕ
 trace_weight joint t = sum_by (λ c. c.weight) (filter (λ c. pointwise is_equal c.trace t) joint)
-
--- some weight lies on the trace
-abbrev pub HasTrace : List Cell → List ValueTree → Type 0
-HasTrace joint t = 0 < trace_weight joint t

@@ -14,9 +14,11 @@ pub mod Rows
 pub mod Pushing
 -- For bodies
 pub mod Checked
-pub mod Views
-pub mod Laws
 pub mod ChoiceLaws
-pub mod SupportLaws
+pub mod Each
 pub mod JointLaws
+pub mod Laws
+pub mod Leaks
 pub mod Ready
+pub mod SupportLaws
+pub mod Views

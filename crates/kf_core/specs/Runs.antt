@@ -1,8 +1,10 @@
 -- Believed: runs: every way through statements from a store, to its end or to a fault, with its trace and its weight (Gibbons et al.
 -- 2020, weighted pairs of trace and state; the loop here has a bound on its turns). A store is named by its number in the shape.
-use Rattle.std.specs.Prelude.{ℕ, suc, zero, ◌*◌, List, [], ◌∷◌, ◌++◌, Bool, true, false, map, take, length, get_or, slice_set, if◌then◌else◌, Option, None, Some, Result, Ok, Err, flat_map}
+use Rattle.std.specs.Prelude.{ℕ, suc, zero, ◌*◌, List, [], ◌∷◌, ◌++◌, Bool, true, false, map, take, length, get_or, slice_set, if◌then◌else◌, Option, Result, Ok, Err, flat_map}
 use Rattle.std.specs.List.{position}
 use Rattle.std.specs.Cmp.Lexicographic.{pointwise}
+use Rattle.std.specs.Result.{result_map_both}
+use Rattle.std.specs.Option.{option_map_or, unwrap_or}
 use Rattle.kf_value.specs.Values.{ValueTree, Truth, truth, is_equal}
 use Rattle.kf_value.specs.Types.{TypeTree}
 use Rattle.kf_value.specs.Stores.{stores}
@@ -44,12 +46,8 @@ replaced ts i v n = store_number ts (slice_set (store_at ts n) i v)
 abbrev pub Tried : Type 0
 Tried = Result (List Weighted) Halted
 
-abbrev pub placed_at : ℕ → Result (List Weighted) ChoiceFault → Tried
-placed_at at (Ok ws) = Ok ws
-placed_at at (Err f) = Err (record { cause = Choosing f; at = at })
-
 abbrev pub tried : List TypeTree → DxTree → ℕ → Tried
-tried ts (dx_at at d) n = placed_at at (choices (store_at ts n) d)
+tried ts (dx_at at d) n = result_map_both (λ ws. ws) (λ f. record { cause = Choosing f; at = at }) (choices (store_at ts n) d)
 
 abbrev pub place : DxTree → ℕ
 place (dx_at at d) = at
@@ -68,13 +66,9 @@ stopped cause at = ended (Err (record { cause = cause; at = at }))
 abbrev pub joined : Run → Run → Run
 joined r q = record { trace = r.trace ++ q.trace; end = q.end; weight = r.weight * q.weight; scale = r.scale * q.scale }
 
-abbrev pub onward : (ℕ → List Run) → Run → Result ℕ Halted → List Run
-onward next r (Ok n) = map (joined r) (next n)
-onward next r (Err f) = r ∷ []
-
 -- each run goes on from where it ends
 abbrev pub chain : List Run → (ℕ → List Run) → List Run
-chain rs next = flat_map (λ r. onward next r r.end) rs
+chain rs next = flat_map (λ (r : Run). elim r.end [ Ok n ↦ map (joined r) (next n) | Err f ↦ r ∷ [] ]) rs
 
 -- a choice as a run that leaks what it leaks
 abbrev pub choice_run : (ValueTree → List ValueTree) → ℕ → ℕ → Weighted → Run
@@ -85,28 +79,18 @@ abbrev pub branched : (ValueTree → List ValueTree) → ℕ → (ValueTree → 
 branched leak n next (Ok ws) = flat_map (λ w. map (joined (choice_run leak n (total ws) w)) (next w.value)) ws
 branched leak n next (Err f) = ended (Err f)
 
-abbrev pub silent : ValueTree → List ValueTree
-silent v = []
-
-abbrev pub shown : ValueTree → List ValueTree
-shown v = v ∷ []
-
--- what an assignment leaks: the value, where the variable is visible
+-- what an assignment leaks: the value, where the variable is visible; a guard and an observation always leak it
 abbrev pub leaks : Bool → ValueTree → List ValueTree
-leaks true = shown
-leaks false = silent
-
-abbrev pub moved : ℕ → Option ℕ → List Run
-moved at (Some n) = stay n
-moved at None = stopped OutOfRange at
+leaks true v = v ∷ []
+leaks false v = []
 
 -- variable i takes a value
 abbrev pub assigned : (ValueTree → List ValueTree) → List TypeTree → ℕ → DxTree → ℕ → List Run
-assigned leak ts i d n = branched leak n (λ v. moved (place d) (replaced ts i v n)) (tried ts d n)
+assigned leak ts i d n = branched leak n (λ v. option_map_or stay (replaced ts i v n) (stopped OutOfRange (place d))) (tried ts d n)
 
 -- the guard's value is leaked and decides
 abbrev pub guarded : (ℕ → Tried) → (ℕ → List Run) → (ℕ → List Run) → ℕ → List Run
-guarded guard taken left n = branched shown n (λ v. if truth v then taken n else left n) (guard n)
+guarded guard taken left n = branched (leaks true) n (λ v. if truth v then taken n else left n) (guard n)
 
 -- a loop of at most so many turns, whose guard stands at this place
 abbrev pub looped : ℕ → (ℕ → Tried) → ℕ → (ℕ → List Run) → ℕ → List Run
@@ -118,7 +102,7 @@ abbrev mutual
   pub runs : List TypeTree → ℕ → StTree → ℕ → List Run
   runs ts turns Skip n = stay n
   runs ts turns (Assign i d visible) n = assigned (leaks visible) ts i d n
-  runs ts turns (Observe d) n = branched shown n (λ v. stay n) (tried ts d n)
+  runs ts turns (Observe d) n = branched (leaks true) n (λ v. stay n) (tried ts d n)
   runs ts turns (If d xs ys) n = guarded (tried ts d) (all_runs ts turns xs) (all_runs ts turns ys) n
   runs ts turns (While d xs) n = looped turns (tried ts d) (place d) (all_runs ts turns xs) n
 
@@ -129,7 +113,7 @@ abbrev mutual
 -- declarations from variable i on, each an assignment that leaks nothing, whether or not the variable is visible
 abbrev pub declared : List TypeTree → ℕ → List DxTree → ℕ → List Run
 declared ts i [] n = stay n
-declared ts i (d ∷ ds) n = chain (assigned silent ts i d n) (declared ts (suc i) ds)
+declared ts i (d ∷ ds) n = chain (assigned (leaks false) ts i d n) (declared ts (suc i) ds)
 
 -- the values of a store where each carried copy has the value of its variable
 abbrev pub carried : ProgramTree → List ValueTree → List ValueTree
@@ -137,7 +121,7 @@ carried p s = take (length p.decls) s ++ map (λ c. get_or s c (Truth false)) p.
 
 -- the number of that store; a checked program's copies are of their variables' types
 abbrev pub copied : ProgramTree → ℕ → ℕ
-copied p n = elim (store_number p.types (carried p (store_at p.types n))) [ Some m ↦ m | None ↦ n ]
+copied p n = unwrap_or (store_number p.types (carried p (store_at p.types n))) n
 
 -- the runs of the declarations from the first store, and behind them of the body
 abbrev pub program_runs : ℕ → ProgramTree → List Run

@@ -1,6 +1,7 @@
 -- Believed: statements of a checked program as plain trees.
-use Rattle.std.specs.Prelude.{ℕ, Bool, List, [], ◌∷◌}
+use Rattle.std.specs.Prelude.{ℕ, Bool, List}
 use Rattle.kf_core.specs.Dxs.{DxTree}
+use mathlib.Core.List.{foldr}
 
 mutual
   pub data StTree : Type 0 where
@@ -17,5 +18,4 @@ mutual
 
 -- a list of statements as a block
 abbrev pub sts : List StTree → StTrees
-sts [] = no_sts
-sts (s ∷ ss) = more_sts s (sts ss)
+sts ss = foldr more_sts no_sts ss

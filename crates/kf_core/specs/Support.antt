@@ -1,16 +1,18 @@
 -- Believed: the support pass: which stores are reached, statement by statement, or the first fault.
-use Rattle.std.specs.Prelude.{ℕ, suc, zero, Bool, true, false, not, List, [], ◌∷◌, ◌++◌, map, Option, None, Some, Result, Ok, Err}
+use Rattle.std.specs.Prelude.{ℕ, suc, zero, Bool, true, false, not, List, [], ◌∷◌, map, Option, None, Some, Result, Ok, Err}
 use Rattle.std.specs.List.{list_any}
 use Rattle.std.specs.Ordering.{nat_cmp}
 use Rattle.std.specs.BTreeSet.{insert_key}
 use Rattle.std.specs.FinSet.{FinSet, from_list, items, retain, union}
+use Rattle.std.specs.Result.{result_map_both}
 use Rattle.kf_value.specs.Types.{TypeTree}
 use Rattle.kf_value.specs.Values.{truth}
-use Rattle.kf_core.specs.Results.{then_ok}
+use Rattle.kf_core.specs.Results.{then_ok, each_ok}
 use Rattle.kf_core.specs.Dxs.{DxTree}
 use Rattle.kf_core.specs.Sts.{StTree, StTrees, Skip, Assign, Observe, If, While, no_sts, more_sts, sts}
 use Rattle.kf_core.specs.Programs.{ProgramTree}
 use Rattle.kf_core.specs.Runs.{OutOfRange, LoopBound, Halted, Tried, tried, place, replaced, copied}
+use mathlib.Core.List.{foldr}
 
 abbrev pub StoreSet : Type 0
 StoreSet = FinSet nat_cmp
@@ -19,24 +21,17 @@ StoreSet = FinSet nat_cmp
 abbrev pub Passed : Type 0 → Type 0
 Passed A = Result A Halted
 
--- all that is reached from stores in turn, or the fault of the first that has one
-abbrev pub each_pass : (ℕ → Passed (List ℕ)) → List ℕ → Passed (List ℕ)
-each_pass next [] = Ok []
-each_pass next (n ∷ ns) = then_ok (next n) (λ ms. then_ok (each_pass next ns) (λ others. Ok (ms ++ others)))
-
 -- the numbers of a list, each once and ascending
 abbrev pub ascending : List ℕ → List ℕ
-ascending [] = []
-ascending (n ∷ ns) = insert_key nat_cmp (ascending ns) n
+ascending ns = foldr (λ n others. insert_key nat_cmp others n) [] ns
 
 -- the stores of a set are tried in ascending number
 abbrev pub step : (ℕ → Passed (List ℕ)) → StoreSet → Passed StoreSet
-step next ns = then_ok (each_pass next (ascending (items ns))) (λ ms. Ok (from_list ms))
+step next ns = then_ok (each_ok next (ascending (items ns))) (λ ms. Ok (from_list ms))
 
 -- the store itself, once for each choice
 abbrev pub same : ℕ → Tried → Passed (List ℕ)
-same n (Ok ws) = Ok (map (λ w. n) ws)
-same n (Err f) = Err f
+same n chosen = result_map_both (λ ws. map (λ w. n) ws) (λ f. f) chosen
 
 -- where each choice leads: out of range is a fault behind those of the choices
 abbrev pub each_moved : ℕ → List (Option ℕ) → Passed (List ℕ)

@@ -8,7 +8,7 @@ use Rattle.kf_core.specs.Sts.{StTree, sts}
 use Rattle.kf_core.specs.Programs.{ProgramTree}
 use Rattle.kf_core.specs.Runs.{Run, Halted, chain, runs, all_runs, program_runs}
 use Rattle.kf_core.specs.Support.{StoreSet, Passed, step, pass, all_pass, program_pass}
-use Rattle.kf_core.specs.Scale.{common_scale}
+use Rattle.kf_core.specs.Each.{common_scale}
 
 -- no run stops at a fault
 abbrev pub AllEnd : List Run → Type 0

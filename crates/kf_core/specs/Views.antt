@@ -13,10 +13,11 @@ use Rattle.kf_core.specs.declared.ex.ExList.{ExList, ExList-F, out-ExList}
 use Rattle.kf_core.specs.declared.program.Program.{Program}
 use Rattle.kf_core.specs.declared.st.St.{St, fold-St, St-F}
 use Rattle.kf_core.specs.declared.st.StList.{StList, StList-F, out-StList}
-use Rattle.kf_core.specs.Exs.{ExTree, ExTrees, Const, Slot, Apply, Tuple, SetOf, Part, no_exs, more_exs, exs}
+use Rattle.kf_core.specs.Exs.{ExTree, ExTrees, Const, Slot, Apply, Tuple, SetOf, Part, no_exs, more_exs}
 use Rattle.kf_core.specs.Dxs.{DxCaseTree, case_of, DxShape, Sure, UniformSet, UniformRange, Choose, Flip, DxTree, dx_at}
 use Rattle.kf_core.specs.Sts.{StTree, StTrees, Skip, Assign, Observe, If, While, no_sts, more_sts, sts}
 use Rattle.kf_core.specs.Programs.{ProgramTree}
+use Rattle.kf_core.specs.Each.{exs}
 
 -- the expressions of a list of them
 abbrev pub exs_list : ExTrees → List ExTree

@@ -16,11 +16,6 @@ asks_lines words = false
 abbrev pub asked_task : List (List ℕ) → Option Task
 asked_task words = if asks_lines words then lines_task words else task_of words
 
--- the first of two questions, or the second
-abbrev pub one_of : Bool → Question → Question → Question
-one_of true first second = first
-one_of false first second = second
-
 -- what the words' task comes to over files
 abbrev pub Asked : List (List ℕ) → Question
-Asked words = one_of (asks_lines words) (LinesOutcome words) (Outcome words)
+Asked words = elim (asks_lines words) [ true ↦ LinesOutcome words | false ↦ Outcome words ]

@@ -1,2 +1,4 @@
 -- Believed
 pub mod Asked
+-- For bodies
+pub mod Either

@@ -6,8 +6,9 @@ use Rattle.kf_value.specs.Values.{ValueTree, Truth, Tuple as TupleValue, Set, pa
 use Rattle.kf_core.specs.Results.{then_ok}
 use Rattle.kf_core.specs.Exs.{ExTree, ExTrees, Const, Slot, Apply, Tuple, SetOf, Part, no_exs, more_exs}
 use Rattle.kf_core.specs.Dxs.{DxCaseTree, case_of, DxShape, Sure, UniformSet, UniformRange, Choose, Flip}
-use Rattle.kf_core.specs.Evaluation.{ev, evs, all_values, at_row, operator_at, part_of, set_of}
-use Rattle.kf_core.specs.Choices.{choices, listed, case_listed, cases_listed, gathered, lowest, with_value, weighed, once, some_of, each_from}
+use Rattle.kf_core.specs.Evaluation.{ev, evs, all_values, operator_at, part_of, set_of}
+use Rattle.kf_core.specs.Choices.{choices, listed, case_listed, gathered, lowest, with_value, weighed, once, some_of, each_from}
+use Rattle.kf_core.specs.Each.{at_row, cases_listed}
 use Rattle.kf_eval.specs.Reads.{reads, some_reads, case_reads, dist_reads}
 
 either_left : (a b : Bool) → a ≡ true → (a || b) ≡ true

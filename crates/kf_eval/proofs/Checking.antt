@@ -26,21 +26,23 @@ use Rattle.kf_ops.specs.declared.row.Op.{Op}
 use Rattle.kf_ops.specs.declared.row.Op.TheVariants as op
 use Rattle.kf_ops.proofs.EachRow.{each_row, row_at}
 use Rattle.kf_core.specs.Runs.{store_at}
-use Rattle.kf_core.specs.Exs.{ExTree, Const, Slot, Apply, Tuple, SetOf, Part, exs}
-use Rattle.kf_core.specs.Views.{exs_list, ex_tree}
+use Rattle.kf_core.specs.Exs.{ExTree, Const, Slot, Apply, Tuple, SetOf, Part}
+use Rattle.kf_core.specs.Views.{exs_list, ex_items, ex_tree}
 use Rattle.kf_core.specs.Results.{then_ok}
-use Rattle.kf_core.specs.Evaluation.{Evaluated, ev, evs, all_values, operated, operator_at, at_row}
+use Rattle.kf_core.specs.Evaluation.{Evaluated, ev, evs, all_values, operated, operator_at}
 use Rattle.kf_core.specs.Checked.{Kinded, EachKinded, AllKinded, truth as truth_kinded, whole, slot, apply, tuple, set, part, none, more, no_more, and_more}
 use Rattle.kf_core.specs.Laws.{AreOfKinds, GivesKind, KeepsKinds, StoresHaveKinds}
 use Rattle.kf_core.specs.declared.ex.Ex.{Ex}
+use Rattle.kf_core.specs.declared.ex.ExList.{ExList}
 use Rattle.kf_core.specs.declared.ex.Ex.TheVariants as ex
 use Rattle.kf_core.proofs.Keeping.{EachGives, all_given, fitting, joined, kinded_length}
-use Rattle.kf_core.proofs.Trees.{ex_tree-Slot, ex_tree-Part}
+use Rattle.kf_core.proofs.Trees.{ex_tree-Slot, ex_tree-Part, ex_tree-Apply}
 use Rattle.kf_eval.specs.Answers.{Answers, IsFaultOf, at_all, error_of}
 use Rattle.kf_eval.specs.declared.fault.EvalError.{EvalError}
 use Rattle.kf_eval.specs.declared.fault.EvalError.TheVariants as error
 use Rattle.kf_eval.specs.Kinds.{shape_kinds, IsKinded, AreKinded, HasPart}
 use Rattle.kf_core.proofs.Stores.{store_is}
+use Rattle.kf_core.specs.Each.{at_row, exs}
 
 -- ---- parts of a checked expression
 
@@ -160,6 +162,13 @@ pub store_kinds : StoresHaveKinds → (shape : Shape) (n : ℕ) → n < product 
 store_kinds stores shape n below = stores (shape_types shape) n (store_at (shape_types shape) n) shape.formed (store_is (shape_types shape) n below)
 
 -- ---- variables
+
+-- an operator's call as it is taken apart
+pub apply_tree : (e : Ex) (row n : ℕ) (args : ExList) (xs : List Ex) → e ≡ ex.Apply row args → n ≡ row → xs ≡ ex_items args
+    → Apply n (exs (map ex_tree xs)) ≡ ex_tree e
+apply_tree e row n args xs is same items =
+    ap (λ (k : ℕ). Apply k (exs (map ex_tree xs))) same ∙ ap (λ (ys : List Ex). Apply row (exs (map ex_tree ys))) items
+    ∙ sym (ap ex_tree is ∙ ex_tree-Apply row args)
 
 pub slot_within : (shape : Shape) (e : Ex) (i n : ℕ) → e ≡ ex.Slot i → n ≡ i → IsKinded (shape_kinds shape) (ex_tree e) → n < length (shape_types shape)
 slot_within shape e i n is same h =

@@ -7,13 +7,14 @@ use Rattle.kf_value.specs.Kinds.{KindTree}
 use Rattle.kf_value.specs.Values.{ValueTree, is_equal, order, parts}
 use Rattle.kf_value.specs.Values as value
 use Rattle.kf_core.specs.Evaluation.{Evaluated, all_values, ev, evs}
-use Rattle.kf_core.specs.Exs.{ExTree, exs}
+use Rattle.kf_core.specs.Exs.{ExTree}
 use Rattle.kf_core.specs.Results.{then_ok}
 use Rattle.kf_core.specs.Views.{ex_items, ex_tree}
 use Rattle.kf_core.specs.declared.ex.Ex.{Ex}
 use Rattle.kf_core.specs.declared.ex.Ex.TheVariants as ex
 use Rattle.kf_core.specs.declared.ex.ExList.{ExList}
 use Rattle.kf_core.proofs.Trees.{ex_tree-Tuple}
+use Rattle.kf_core.specs.Each.{exs}
 use Rattle.kf_eval.specs.Answers.{Compares}
 use Rattle.kf_eval.specs.Kinds.{AreKinded, IsKinded}
 use Rattle.kf_eval.proofs.Checking.{parts_kinded}

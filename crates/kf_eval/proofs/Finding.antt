@@ -11,13 +11,14 @@ use Rattle.kf_value.proofs.Trees.{parts_list-parts}
 use Rattle.kf_ops.specs.Values.{inserted, is_in}
 use Rattle.kf_ops.specs.declared.row.Op.TheVariants as op
 use Rattle.kf_core.specs.Evaluation.{all_values, ev, evs, operated, set_of}
-use Rattle.kf_core.specs.Exs.{ExTree, exs}
+use Rattle.kf_core.specs.Exs.{ExTree}
 use Rattle.kf_core.specs.Results.{then_ok}
 use Rattle.kf_core.specs.Views.{ex_items, ex_tree}
 use Rattle.kf_core.specs.declared.ex.Ex.{Ex}
 use Rattle.kf_core.specs.declared.ex.Ex.TheVariants as ex
 use Rattle.kf_core.specs.declared.ex.ExList.{ExList}
 use Rattle.kf_core.proofs.Trees.{ex_tree-SetOf}
+use Rattle.kf_core.specs.Each.{exs}
 use Rattle.kf_eval.specs.Kinds.{AreKinded, IsKinded}
 use Rattle.kf_eval.proofs.Checking.{members_kinded}
 use Rattle.kf_eval.proofs.Comparing.{one_more, two_evaluated}

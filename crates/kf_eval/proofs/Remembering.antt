@@ -13,8 +13,9 @@ use Rattle.kf_value.specs.declared.shape.Shape.{Shape}
 use Rattle.kf_value.proofs.Places.{slice_get-append_left, slice_get-append_right}
 use Rattle.kf_core.specs.Choices.{choices}
 use Rattle.kf_core.specs.Dxs.{DxShape, DxTree, dx_at}
-use Rattle.kf_core.specs.Runs.{store_at, placed_at, tried}
+use Rattle.kf_core.specs.Runs.{store_at, tried}
 use Rattle.kf_core.proofs.Stores.{store_is, length-store}
+use Rattle.kf_core.specs.Each.{placed_at}
 use Rattle.kf_eval.specs.Memos.{IsChosen, IsKeptAt, IsMemoOf, kept, number_in}
 use Rattle.kf_eval.specs.Reads.{dist_reads, number_behind, span}
 use Rattle.kf_eval.specs.declared.choice.Choice.{Choice}

@@ -16,15 +16,16 @@ use Rattle.kf_ops.specs.declared.row.OpRow.{OpRow}
 use Rattle.kf_ops.proofs.EachRow.{each_row, row_at}
 use Rattle.kf_core.specs.Choices.{once, gathered, lowest, with_value}
 use Rattle.kf_core.specs.Dxs.{dx_at}
-use Rattle.kf_core.specs.Evaluation.{Evaluated, ev, evs, all_values, operated, operator_at, at_row}
-use Rattle.kf_core.specs.Exs.{ExTree, ExTrees, Const, Slot, Apply, Tuple, SetOf, Part, no_exs, more_exs, exs}
+use Rattle.kf_core.specs.Evaluation.{Evaluated, ev, evs, all_values, operated, operator_at}
+use Rattle.kf_core.specs.Exs.{ExTree, ExTrees, Const, Slot, Apply, Tuple, SetOf, Part, no_exs, more_exs}
 use Rattle.kf_core.specs.declared.dx.DxNode.{DxNode}
 use Rattle.kf_core.specs.declared.dx.DxNode.TheVariants as d
 use Rattle.kf_core.specs.declared.ex.Ex.{Ex}
 use Rattle.kf_core.specs.Results.{then_ok}
-use Rattle.kf_core.specs.Runs.{placed_at, store_at, tried}
+use Rattle.kf_core.specs.Runs.{store_at, tried}
 use Rattle.kf_core.specs.Views.{dx_shape, ex_tree}
 use Rattle.kf_core.proofs.Plain.{sure_choice}
+use Rattle.kf_core.specs.Each.{at_row, placed_at, exs}
 use Rattle.kf_eval.specs.Totals.{divides, has_divisor, is_total, has_value, have_values, IsAlwaysSure}
 
 -- ---- the code's row

@@ -25,12 +25,13 @@ use Rattle.kf_core.specs.ChoiceLaws.{ChoicesKeepKinds}
 use Rattle.kf_core.specs.Laws.{AreOfKinds}
 use Rattle.kf_core.specs.Choices as core
 use Rattle.kf_core.specs.Results.{then_ok}
-use Rattle.kf_core.specs.Choices.{Chosen, ChoiceFault, Arithmetic, NoWeight, NegativeWeight, RangeLong, with_value, once, some_of, each_from, weighed, case_listed, cases_listed, gathered, common_factor, lowest, choices, total}
+use Rattle.kf_core.specs.Choices.{Chosen, ChoiceFault, Arithmetic, NoWeight, NegativeWeight, RangeLong, with_value, once, some_of, each_from, weighed, case_listed, gathered, common_factor, lowest, choices, total}
 use Rattle.kf_core.specs.Dxs.{DxCaseTree, DxShape, DxTree, case_of, dx_at, Sure, UniformSet, UniformRange, Choose}
 use Rattle.kf_core.specs.Evaluation.{Evaluated, ev}
 use Rattle.kf_core.specs.Exs.{ExTree}
 use Rattle.kf_core.proofs.Gcds.{over}
 use Rattle.kf_core.proofs.Plain.{plain_choices, sure_choice}
+use Rattle.kf_core.specs.Each.{cases_listed}
 use Rattle.kf_eval.specs.Answers.{IsFaultOf}
 use Rattle.kf_eval.specs.Choices.{choice_error, weighted_tree, IsChoiceFaultOf}
 use Rattle.kf_eval.specs.Gathering.{added}

@@ -3,8 +3,8 @@
 ghost use Rattle.std.specs.Prelude.{◌≡◌, ◌<◌, ℕ, true, All, Contains, IfOk, length, map};
 ghost use Rattle.std.specs.List.{list_any};
 ghost use Rattle.kf_value.specs.Shapes.{shape_types};
-ghost use Rattle.kf_core.specs.Exs.{exs as exs_tree};
 ghost use Rattle.kf_core.specs.Views.{dx_case_tree, dx_shape, ex_tree};
+ghost use Rattle.kf_core.specs.Each.{exs as exs_tree};
 ghost use Rattle.kf_eval.specs.Reads.{case_reads as case_reads_at, dist_reads as dist_reads_at, reads as reads_at, some_reads as some_reads_at};
 
 use kf_core::{Dx, DxCase, DxNode, Ex};

@@ -4,10 +4,11 @@ ghost use Rattle.std.specs.Prelude.{◌≡◌, ◌<◌, length, map, IfSome, Ok,
 ghost use Rattle.kf_value.specs.Values.{Truth};
 ghost use Rattle.kf_value.specs.Shapes.{shape_types, shape_size};
 ghost use Rattle.kf_core.specs.Runs.{store_at};
-ghost use Rattle.kf_core.specs.Exs.{Apply, exs as exs_tree};
+ghost use Rattle.kf_core.specs.Exs.{Apply};
 ghost use Rattle.kf_core.specs.Results.{then_ok};
 ghost use Rattle.kf_core.specs.Views.{ex_tree};
 ghost use Rattle.kf_core.specs.Evaluation.{ev, evs, all_values, operated};
+ghost use Rattle.kf_core.specs.Each.{exs as exs_tree};
 ghost use Rattle.kf_ops.specs.Values.{applied};
 ghost use Rattle.kf_ops.specs.declared.row.Op.TheVariants as op;
 ghost use Rattle.kf_eval.specs.Answers.{Compares};

@@ -2,8 +2,8 @@
 
 ghost use Rattle.std.specs.Prelude.{◌≡◌, true, map, slice_get};
 ghost use Rattle.kf_ops.specs.Rows.{operators as rows};
-ghost use Rattle.kf_core.specs.Exs.{exs as exs_tree};
 ghost use Rattle.kf_core.specs.Views.{dx_tree, ex_tree};
+ghost use Rattle.kf_core.specs.Each.{exs as exs_tree};
 ghost use Rattle.kf_eval.specs.Totals.{IsAlwaysSure, divides as divides_at, has_divisor as has_divisor_at, has_value as has_value_at, have_values as have_values_at, is_total as is_total_at};
 
 use kf_core::{Dx, DxNode, Ex};

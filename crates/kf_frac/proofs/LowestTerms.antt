@@ -6,8 +6,8 @@ use Rattle.std.proofs.lemmas.Bool.{cond-true, cond-false, eq-eqb, ne_eqb}
 use Rattle.std.proofs.lemmas.List.{append-nil}
 use Rattle.std.specs.Fmt.{decimal, signed_decimal}
 use Rattle.kf_frac.specs.Divisors.{gcd_of}
-use Rattle.kf_frac.specs.Fractions.{reduced_num, reduced_den, limit, denominator_text, fraction_text}
-use Rattle.kf_frac.specs.Parts.{signed, PartsFit}
+use Rattle.kf_frac.specs.Fractions.{reduced_num, reduced_den, limit, fraction_text}
+use Rattle.kf_frac.specs.Parts.{signed, PartsFit, denominator_text}
 use Rattle.kf_frac.proofs.CommonDivisors.{gcd_is, gcd_quotients}
 
 -- ---- signs

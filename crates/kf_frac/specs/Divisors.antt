@@ -1,5 +1,6 @@
 -- Believed: common divisors and common multiples of whole numbers.
-use Rattle.std.specs.Prelude.{ℕ, zero, suc, ◌*◌, ◌%◌, ◌==◌, ◌&&◌, max, Bool, List, [], ◌∷◌, if◌then◌else◌}
+use Rattle.std.specs.Prelude.{ℕ, zero, suc, ◌*◌, ◌%◌, ◌==◌, ◌&&◌, max, Bool, List, if◌then◌else◌}
+use mathlib.Core.List.{foldr}
 
 -- whether d divides both a and b
 abbrev pub divides_both : ℕ → ℕ → ℕ → Bool
@@ -25,5 +26,4 @@ lcm_of a b = first_multiple (a * b) 1 a b
 
 -- the least common multiple of all these positive numbers; 1 of none
 abbrev pub common_multiple : List ℕ → ℕ
-common_multiple [] = 1
-common_multiple (d ∷ ds) = lcm_of d (common_multiple ds)
+common_multiple ds = foldr lcm_of 1 ds

@@ -15,13 +15,9 @@ reduced_den n d = d / gcd_of (unsigned_abs n) d
 abbrev pub limit : ℕ
 limit = 2 ^ 127 - 1
 
--- a denominator with its bar; none where it is 1
-abbrev pub denominator_text : ℕ → List ℕ
-denominator_text d = if d == 1 then [] else codes "/" ++ decimal d
-
--- the text of n / d in lowest terms
+-- the text of n / d in lowest terms, a denominator with its bar only where it isn't 1
 unfoldable pub fraction_text : ℤ → ℕ → List ℕ
-fraction_text n d = signed_decimal (reduced_num n d) ++ denominator_text (reduced_den n d)
+fraction_text n d = signed_decimal (reduced_num n d) ++ (if reduced_den n d == 1 then [] else codes "/" ++ decimal (reduced_den n d))
 
 -- how many n-ths part / whole is, where n is a multiple of its denominator in lowest terms
 abbrev pub parts_of : ℕ → ℕ → ℕ → ℕ

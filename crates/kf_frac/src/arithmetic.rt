@@ -3,8 +3,8 @@ ghost use Rattle.std.specs.Ordering.{int_cmp};
 ghost use Rattle.kf_frac.specs.Arithmetic.{sum_num, sum_over};
 ghost use Rattle.kf_frac.specs.Divisors.{lcm_of};
 ghost use Rattle.kf_frac.specs.Fractions.{limit, reduced_num, reduced_den};
-ghost use Rattle.kf_frac.specs.Parts.{PartsFit, signed};
-ghost use Rattle.kf_frac.specs.Views.{num_of, den_of, value_of};
+ghost use Rattle.kf_frac.specs.Parts.{PartsFit, signed, value_of};
+ghost use Rattle.kf_frac.specs.Views.{num_of, den_of};
 
 use crate::making::{lowest_terms, sign_and_size};
 use crate::product::Product;

@@ -1,7 +1,7 @@
 ghost use Rattle.std.specs.Prelude.{◌≡◌, ◌+◌, ◌-◌, ◌*◌, ◌^◌, ◌<◌, ◌≤◌, ◌↔◌, IfSome, IsSome, SomeIff};
 ghost use Rattle.std.specs.Ordering.{nat_cmp};
 ghost use Rattle.kf_frac.specs.Fractions.{limit};
-ghost use Rattle.kf_frac.specs.Views.{value_of};
+ghost use Rattle.kf_frac.specs.Parts.{value_of};
 
 use crate::LIMIT;
 use std::cmp::Ordering;

@@ -15,9 +15,10 @@ use Rattle.kf_gain.specs.Gains.{TableTree}
 use Rattle.kf_gain.specs.Shapes.{IsTableShape}
 use Rattle.kf_json.specs.Json.{json_of, members, at_place, text_of, whole_of, is_whole}
 use Rattle.kf_json.specs.Rules.{are_distinct, first_broken}
-use Rattle.kf_gain.specs.Tables.{over_at, rest_at, actions_at, gains_at, action_names, value_texts, form_1, form_2, form_3, form_4, form_5, form_6, narrow, some_action, is_narrow, all_known, all_once, form_rules, value_rules, fault_in, IsAction, IsTableOf, IsAnswerFor, IsTable}
+use Rattle.kf_gain.specs.Tables.{over_at, rest_at, actions_at, gains_at, action_names, value_texts, narrow, is_narrow, form_rules, value_rules, fault_in, IsAction, IsTableOf, IsAnswerFor, IsTable}
 use Rattle.kf_gain.specs.Reading.{IsRead}
 use Rattle.kf_gain.proofs.Entries.{contains_cases, contains_none, split_and}
+use Rattle.kf_gain.specs.Forms.{form_1, form_2, form_3, form_4, form_5, form_6, some_action, all_known, all_once}
 
 -- ---- the first broken rule
 

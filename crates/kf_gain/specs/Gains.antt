@@ -1,7 +1,8 @@
 -- Believed: gain functions: what an adversary may do, and what each of its actions gains at each value (Alvim et al. 2020).
-use Rattle.std.specs.Prelude.{ℕ, ◌==◌, ℤ, List, [], ◌∷◌, if◌then◌else◌}
+use Rattle.std.specs.Prelude.{ℕ, ◌==◌, ℤ, List, if◌then◌else◌}
 use Rattle.kf_gain.specs.declared.table.Action.{Action}
 use Rattle.kf_gain.specs.declared.table.GainEntry.{GainEntry}
+use mathlib.Core.List.{foldr}
 
 -- a gain; where it has a table, that is given by a T: by its file's name, or as it was read
 pub data GainOf (T : Type 0) : Type 0 where
@@ -21,8 +22,7 @@ pub record TableTree : Type 0 where
 
 -- the gain of an action at a value
 abbrev pub gain_at : ℤ → List GainEntry → ℕ → ℤ
-gain_at rest [] x = rest
-gain_at rest (e ∷ gains) x = if e.value == x then e.gain else gain_at rest gains x
+gain_at rest gains x = foldr (λ (e : GainEntry) other. if e.value == x then e.gain else other) rest gains
 
 abbrev pub over_of : GainOf TableTree → ℕ
 over_of (Table t) = t.over

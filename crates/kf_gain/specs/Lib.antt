@@ -5,6 +5,7 @@ pub mod Vulnerabilities
 pub mod Tables
 -- For bodies
 pub mod Falling
+pub mod Forms
 pub mod Laws
 pub mod Reading
 pub mod Shapes

@@ -40,80 +40,49 @@ value_texts action = map (λ g. text_of (at_place 0 g)) (members (gains_at actio
 abbrev pub action_names : Data → List (List ℕ)
 action_names d = map (λ a. text_of (name_at a)) (members (actions_at d))
 
--- ---- the rules, each over the whole value; a later one presupposes those before it
-
--- Form 1: an object with exactly these keys
-abbrev pub form_1 : Data → Bool
-form_1 d = has_keys (codes "actions" ∷ codes "format" ∷ codes "over" ∷ codes "rest" ∷ []) d
-
--- Form 2: the format is this one
-abbrev pub form_2 : Data → Bool
-form_2 d = is_the_text (codes "kuifje-gain-1") (at_key (codes "format") d)
-
--- Form 3: `over` and `rest` are whole numbers, and `over` is at least 1
-abbrev pub form_3 : Data → Bool
-form_3 d = is_whole (over_at d) && is_whole (rest_at d) && int_le (pos 1) (whole_of (over_at d))
+-- ---- what stands in a table
 
 -- an object with exactly these keys
 abbrev pub is_action : Data → Bool
 is_action a = has_keys (codes "gains" ∷ codes "name" ∷ []) a
 
--- Form 4: the actions are a list of such
-abbrev pub form_4 : Data → Bool
-form_4 d = is_list (actions_at d) && list_all is_action (members (actions_at d))
-
--- Form 5: each action's name is a name
-abbrev pub form_5 : Data → Bool
-form_5 d = list_all (λ a. is_name (name_at a)) (members (actions_at d))
-
 -- a list of a text and a whole number
 abbrev pub is_gain : Data → Bool
 is_gain g = is_list g && (length (members g) == 2) && is_text (at_place 0 g) && is_whole (at_place 1 g)
-
--- a list of such
-abbrev pub are_gains : Data → Bool
-are_gains gs = is_list gs && list_all is_gain (members gs)
-
--- Form 6: each action's gains are gains
-abbrev pub form_6 : Data → Bool
-form_6 d = list_all (λ a. are_gains (gains_at a)) (members (actions_at d))
 
 -- at most 1,000,000,000 in absolute value
 abbrev pub is_narrow : ℤ → Bool
 is_narrow z = nat_le (unsigned_abs z) 1000000000
 
--- Wide is broken where some number is wider
+-- no number of a table is wider
 abbrev pub narrow : Data → Bool
 narrow d = is_narrow (whole_of (over_at d)) && is_narrow (whole_of (rest_at d))
     && list_all (λ a. list_all (λ g. is_narrow (whole_of (at_place 1 g))) (members (gains_at a))) (members (actions_at d))
-
--- Empty is broken where there is no action
-abbrev pub some_action : Data → Bool
-some_action d = not (length (members (actions_at d)) == 0)
 
 -- some value of the target prints as this text
 abbrev pub is_value_text : List Item → List ℕ → Bool
 is_value_text items bytes = list_any (λ vs. bytes_eq (shown vs) bytes) (target_values items)
 
--- Unknown is broken where some text is none of these
-abbrev pub all_known : List Item → Data → Bool
-all_known items d = list_all (λ a. list_all (is_value_text items) (value_texts a)) (members (actions_at d))
+-- ---- the rules in their order, each over the whole value with the answer where it is broken; a later one presupposes those before it
 
--- Twice is broken where an action names a value twice, or two actions have one name; a value has one text
-abbrev pub all_once : Data → Bool
-all_once d = list_all (λ a. are_distinct (value_texts a)) (members (actions_at d)) && are_distinct (action_names d)
-
--- ---- the rules in their order, each with the answer where it is broken
-
--- those on the file alone
+-- those on the file alone: an object with exactly these keys; its format; `over` and `rest`, of which `over` is at least 1; a list of
+-- actions; their names; a list of gains in each; no number is too wide; there is an action
 abbrev pub form_rules : Data → List (Bool × TableError)
 form_rules d =
-    (form_1 d, broken.Form 1) ∷ (form_2 d, broken.Form 2) ∷ (form_3 d, broken.Form 3) ∷ (form_4 d, broken.Form 4)
-    ∷ (form_5 d, broken.Form 5) ∷ (form_6 d, broken.Form 6) ∷ (narrow d, broken.Wide) ∷ (some_action d, broken.Empty) ∷ []
+    (has_keys (codes "actions" ∷ codes "format" ∷ codes "over" ∷ codes "rest" ∷ []) d, broken.Form 1)
+    ∷ (is_the_text (codes "kuifje-gain-1") (at_key (codes "format") d), broken.Form 2)
+    ∷ (is_whole (over_at d) && is_whole (rest_at d) && int_le (pos 1) (whole_of (over_at d)), broken.Form 3)
+    ∷ (is_list (actions_at d) && list_all is_action (members (actions_at d)), broken.Form 4)
+    ∷ (list_all (λ a. is_name (name_at a)) (members (actions_at d)), broken.Form 5)
+    ∷ (list_all (λ a. is_list (gains_at a) && list_all is_gain (members (gains_at a))) (members (actions_at d)), broken.Form 6)
+    ∷ (narrow d, broken.Wide) ∷ (not (length (members (actions_at d)) == 0), broken.Empty) ∷ []
 
--- those on the values that it names
+-- those on the values that it names: each text is one of a value's; no action names a value twice, and no two actions have one name; a
+-- value has one text
 abbrev pub value_rules : List Item → Data → List (Bool × TableError)
-value_rules items d = (all_known items d, broken.Unknown) ∷ (all_once d, broken.Twice) ∷ []
+value_rules items d =
+    (list_all (λ a. list_all (is_value_text items) (value_texts a)) (members (actions_at d)), broken.Unknown)
+    ∷ (list_all (λ a. are_distinct (value_texts a)) (members (actions_at d)) && are_distinct (action_names d), broken.Twice) ∷ []
 
 abbrev pub fault_in : List Item → Data → Option TableError
 fault_in items d = first_broken (form_rules d) (first_broken (value_rules items d) None)

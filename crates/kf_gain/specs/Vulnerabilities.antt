@@ -7,6 +7,7 @@ use Rattle.kf_column.specs.Hypers.{Inner}
 use Rattle.kf_column.specs.Averages.{joint_column, average_weight}
 use Rattle.kf_gain.specs.Gains.{GainOf, Guessing, Table, TableTree}
 use Rattle.kf_gain.specs.Worth.{IsVulnerability}
+use mathlib.Core.List.{foldr}
 
 -- the sum of all columns: what is known before anything is seen; it names the values of weight, ascending
 pub record IsAverage (inners : List Inner) (column : List Entry) : Type 0 where
@@ -28,8 +29,7 @@ IsPosterior g (i ∷ inners) z =
 
 -- the greatest absolute value
 abbrev pub greatest : List ℤ → ℕ
-greatest [] = 0
-greatest (z ∷ zs) = max (unsigned_abs z) (greatest zs)
+greatest zs = foldr max 0 (map unsigned_abs zs)
 
 -- all gains that a table has
 abbrev pub gains_of : TableTree → List ℤ

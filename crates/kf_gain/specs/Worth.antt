@@ -6,11 +6,11 @@ use Rattle.kf_column.specs.Columns.{weight_at, values}
 use Rattle.kf_gain.specs.declared.table.Action.{Action}
 use Rattle.kf_gain.specs.declared.table.GainEntry.{GainEntry}
 use Rattle.kf_gain.specs.Gains.{GainOf, Bayes, Tries, Guessing, Table, TableTree, gain_at}
+use mathlib.Core.List.{foldr}
 
 -- what an action gains from a column: the sum of weight times gain
 abbrev pub gained : ℤ → List GainEntry → List Entry → ℤ
-gained rest gains [] = pos 0
-gained rest gains (e ∷ column) = pos e.weight *ℤ gain_at rest gains e.value +ℤ gained rest gains column
+gained rest gains column = foldr (λ (e : Entry) others. pos e.weight *ℤ gain_at rest gains e.value +ℤ others) (pos 0) column
 
 -- what guesses in this order cost: the sum of weight times position, the first of which is n
 abbrev pub cost_from : List Entry → ℕ → List ℕ → ℕ

@@ -19,9 +19,9 @@ use Rattle.std.proofs.lemmas.List.Elements.{All-head, All-tail, All-cons}
 use Rattle.kf_column.specs.declared.entry.Entry.{Entry}
 use Rattle.kf_hyper.specs.declared.class.Class.{Class}
 use Rattle.kf_column.specs.Columns.{total, proportional}
-use Rattle.kf_column.specs.Hypers.{IsInner, list_order}
+use Rattle.kf_column.specs.Hypers.{IsInner}
 use Rattle.kf_column.specs.Joint.{mass}
-use Rattle.kf_column.specs.Shapes.{IsBelow}
+use Rattle.kf_column.specs.Shapes.{IsBelow, list_order}
 use Rattle.kf_column.specs.Classes.{ClassesOf, AreAscending}
 use Rattle.kf_hyper.specs.ClassViews.{class_of}
 use Rattle.kf_column.proofs.Gathering.{same_list, list_total}

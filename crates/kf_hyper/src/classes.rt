@@ -6,8 +6,8 @@ ghost use Rattle.std.specs.List.Sorted.{IsSortedBy};
 ghost use Rattle.kf_frac.specs.Fractions.{limit};
 ghost use Rattle.kf_column.specs.declared.entry.Entry.{Entry};
 ghost use Rattle.kf_column.specs.Joint.{mass};
-ghost use Rattle.kf_column.specs.Hypers.{list_order};
 ghost use Rattle.kf_column.specs.Classes.{ClassesOf, AreAscending};
+ghost use Rattle.kf_column.specs.Shapes.{list_order};
 ghost use Rattle.kf_hyper.specs.ClassViews.{class_of};
 
 use crate::Column;

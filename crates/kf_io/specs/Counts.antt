@@ -1,5 +1,5 @@
 -- For bodies: what a call does to counts of faults.
-use Rattle.std.specs.Prelude.{◌≡◌, ℕ, ◌≤◌, List, Result, OnOk, OnErr}
+use Rattle.std.specs.Prelude.{◌≡◌, ℕ, ◌≤◌, List, Result, OnOk, OnErr, ◌+◌, ◌-◌, ◌^◌, min}
 use Rattle.kf_io.specs.Faults.{Rose}
 
 -- a call on one name: no name's count falls, a fault raises the count of this name, and without one each count stays
@@ -13,3 +13,7 @@ pub record CountsFault {T E : Type 0} (before now : ℕ) (result : Result T E) :
   pub later : before ≤ now
   pub failed : OnErr result (Rose before now)
   pub same : OnOk result (now ≡ before)
+
+-- the count after one more: it ends at 2^64 - 1 and stays there
+abbrev pub raised : ℕ → ℕ
+raised count = min (count + 1) (2 ^ 64 - 1)

@@ -3,8 +3,8 @@ use Rattle.std.specs.Prelude.{◌≡◌, ◌≢◌, ◌⊎◌, ℕ, Bool, List, 
 use Rattle.std.specs.List.{find}
 use Rattle.std.specs.Option.{option_map_or}
 use Rattle.std.specs.Str.{bytes_eq}
-use Rattle.kf_io.specs.Faults.{raised}
 use Rattle.kf_io.specs.declared.lists.FileEntry.{FileEntry}
+use Rattle.kf_io.specs.Counts.{raised}
 
 -- whether a file has this name
 abbrev pub has_name : List ℕ → FileEntry → Bool

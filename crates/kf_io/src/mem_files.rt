@@ -1,7 +1,6 @@
 ghost use Rattle.std.specs.Prelude.{◌≡◌, ◌<◌, ◌≤◌, ◌↔◌, List, ℕ, Some, position, length, IfOk, OnOk, OnErr, IsErr};
 ghost use Rattle.kf_io.specs.Entries.{has_name, bytes_of, faults_of, fresh_files, ReadFails, RaisesOne};
-ghost use Rattle.kf_io.specs.Faults.{raised};
-ghost use Rattle.kf_io.specs.Counts.{CountsFaults};
+ghost use Rattle.kf_io.specs.Counts.{CountsFaults, raised};
 ghost use Rattle.kf_io.specs.Reads.{Gives};
 
 use crate::give::give;

@@ -1,6 +1,5 @@
 ghost use Rattle.std.specs.Prelude.{◌≡◌, ◌<◌, ◌≤◌, ◌+◌, ◌++◌, ◌↔◌, [], Some, length, take, IfOk, OnErr, IsOk, IsErr};
-ghost use Rattle.kf_io.specs.Faults.{raised};
-ghost use Rattle.kf_io.specs.Counts.{CountsFault};
+ghost use Rattle.kf_io.specs.Counts.{CountsFault, raised};
 ghost use Rattle.kf_io.specs.Sinks.{fresh_sink, certain_room, write_count, WriteFails};
 
 use crate::{CallList, Failed, Mem, Sink};

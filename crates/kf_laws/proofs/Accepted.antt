@@ -1,7 +1,8 @@
 -- The status of a check that the law of certificates speaks of.
 use Rattle.std.proofs.Common.{◌≡◌, ◌⊎◌, inl, inr, true, ℕ, List, ap, ◌∙◌}
 use Rattle.kf_load.specs.Steps.{Refused}
-use Rattle.kf_top.specs.Ends.{Answer, showing, refusing}
+use Rattle.kf_top.specs.Ends.{Answer}
+use Rattle.kf_top.specs.Steps.{showing, refusing}
 
 -- a shown yes has the status 0, and a refusal its own
 pub accepted_or_refused : (status : ℕ) (answer : Answer) (bytes : List ℕ) (r : Refused) → status ≡ answer.status

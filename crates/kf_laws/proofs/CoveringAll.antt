@@ -21,13 +21,15 @@ use Rattle.kf_text.specs.Texts.{hyper_text}
 use Rattle.kf_text.specs.VerdictTexts.{verdict_text}
 use Rattle.kf_load.specs.Steps.{Each, Gives}
 use Rattle.kf_load.specs.Texts.{File, LongCleared, Text, cleared}
-use Rattle.kf_top.specs.Answer.{AreHypers, CommandOutcome, HyperOf, Shown, is_yes, most_pivots}
-use Rattle.kf_top.specs.Ends.{Answer, showing}
-use Rattle.kf_top.specs.Outcome.{ClearedOf, FullOf, few_stores}
+use Rattle.kf_top.specs.Answer.{AreHypers, CommandOutcome, HyperOf, Shown, is_yes}
+use Rattle.kf_top.specs.Ends.{Answer}
+use Rattle.kf_top.specs.Outcome.{FullOf, few_stores}
+use Rattle.kf_top.specs.Steps.{most_pivots, showing, ClearedOf}
 use Rattle.kf_laws.specs.Held.{held}
 use Rattle.kf_laws.specs.Laws.{AreQuietAnswers, CoversAllPriors, IsCoversAnswer, NoIsSeparated, QuietIsNoBetter, asks_covers}
 use Rattle.kf_laws.specs.Refusals.{RefusalsAreReasoned}
-use Rattle.kf_words.specs.Task.{Command, Covers, Hyper, Quiet, on_file}
+use Rattle.kf_words.specs.Task.{Command, Covers, Hyper, Quiet}
+use Rattle.kf_words.specs.OfWords.{on_file}
 use Rattle.kf_laws.proofs.ClearedPrograms.{IsTyped, every_done, few_typed, long_same, same_program, texts_typed}
 use Rattle.kf_laws.proofs.OneAnswer.{HasOne}
 use Rattle.kf_laws.proofs.ShownAnswers.{command_shown, printed, task_shown, verdict_of}

@@ -3,10 +3,12 @@ use Rattle.std.proofs.Common.{◌≡◌, ◌≢◌, ℕ, List, [], ◌∷◌, �
 use Rattle.std.specs.List.{AllByRecursion as Every}
 use Rattle.std.proofs.lemmas.Bool.{cases_eq}
 use Rattle.std.proofs.lemmas.List.Elements.{recursion_from_All}
-use Rattle.kf_load.specs.Readings.{IsRead, ReadAs, WasRead}
+use Rattle.kf_load.specs.Readings.{IsRead, WasRead}
 use Rattle.kf_load.specs.Texts.{File}
+use Rattle.kf_load.specs.Refusals.{ReadAs}
 use Rattle.kf_top.specs.Ends.{Answer, AreNamed, CausesOf, Defined, IsAnswerTo, Question, Sunk, names_of}
-use Rattle.kf_top.specs.Outcome.{Outcome, SomeOutcome, TaskOutcome}
+use Rattle.kf_top.specs.Outcome.{Outcome, TaskOutcome}
+use Rattle.kf_top.specs.Steps.{SomeOutcome}
 use Rattle.kf_words.specs.Task.{Task, tables_of, task_of}
 use Rattle.kf_laws.specs.EndsOver.{CausesEndOver, EndsOver, HeldAnswered}
 use Rattle.kf_laws.specs.Held.{IsAnswerOver, IsHeldAnswer, held, held_file, program_names, table_names}
@@ -63,7 +65,7 @@ held_ends task question contents before now out err status causes =
     let decided : status ≢ 3 → status ≢ 4 → status ≢ 12 → HeldAnswered task question contents out err status =
     λ read written memory.
     let a = causes.answered written memory in
-    record { answer = a.answer; is_answer = told_answer contents before now task question a.answer a.defined (λ three. read (a.shows.status_is ∙ three)); shows = a.shows } in
+    record { answer = a.answer; is_answer = told_answer contents before now task question a.answer a.defined (λ three. read (a.status_is ∙ three)); shows = record { status_is = a.status_is; out_took = a.out_took; err_took = a.err_took } } in
     record {
       decided = decided;
       part = λ four.

@@ -15,9 +15,10 @@ use Rattle.kf_order.specs.Channels.{CapacityIsLeaked, IsNotNegative, LeakageIsBo
 use Rattle.kf_text.specs.CapacityTexts.{capacity_text}
 use Rattle.kf_text.specs.ReportTexts.{report_text}
 use Rattle.kf_top.specs.Answer.{CapacityIn, CommandOutcome, GainIn, IsChannelTree, ReportOf, Shown, initial, is_narrow, wide_channel}
-use Rattle.kf_top.specs.Ends.{Answer, showing}
-use Rattle.kf_top.specs.Outcome.{ClearedOf}
-use Rattle.kf_words.specs.Task.{Capacity, Command, Leak, on_file, tables_of}
+use Rattle.kf_top.specs.Ends.{Answer}
+use Rattle.kf_top.specs.Steps.{showing, ClearedOf}
+use Rattle.kf_words.specs.Task.{Capacity, Command, Leak, tables_of}
+use Rattle.kf_words.specs.OfWords.{on_file}
 use Rattle.kf_laws.specs.Held.{held}
 use Rattle.kf_laws.specs.Laws.{AreLeakAnswers, CapacityBoundsLeaks, IsWithin, Meets}
 use Rattle.kf_laws.specs.Refusals.{RefusalsAreReasoned}

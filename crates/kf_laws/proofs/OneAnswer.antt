@@ -14,8 +14,9 @@ use Rattle.kf_parse.specs.Answers.{IsRefused}
 use Rattle.kf_parse.specs.Laws.{OneProgram, NotBoth, OneRefusal}
 use Rattle.kf_ast.specs.Sources.{SourceTree}
 use Rattle.kf_check.specs.declared.errors.TypeError.{TypeError}
-use Rattle.kf_check.specs.Sources.{JudgesSource, IsBroken}
+use Rattle.kf_check.specs.Sources.{JudgesSource}
 use Rattle.kf_check.specs.Laws.{OneJudgement, OneTyped}
+use Rattle.kf_check.specs.Variables.{IsBroken}
 use Rattle.kf_core.specs.JointLaws.{RowsAreOne, HypersAreOne}
 use Rattle.kf_core.specs.Programs.{ProgramTree}
 use Rattle.kf_core.proofs.OneTable.{one_list}
@@ -39,8 +40,9 @@ use Rattle.kf_gain.specs.Laws.{OneAverage, OneReport}
 use Rattle.kf_gain.specs.TableLaws.{OneTable}
 use Rattle.kf_gain.specs.Vulnerabilities.{IsWidth, width}
 use Rattle.kf_report.specs.Reports.{Leakage, IsLeakage}
-use Rattle.kf_attack.specs.Attacks.{ReachTree, AreAttacks, IsReach}
+use Rattle.kf_attack.specs.Attacks.{ReachTree, IsReach}
 use Rattle.kf_attack.specs.Laws.{OneAttacks, OneReach}
+use Rattle.kf_attack.specs.Views.{AreAttacks}
 use Rattle.kf_make.specs.Making.{make_source}
 use Rattle.kf_refine.specs.Refinements.{HyperTree}
 use Rattle.kf_refine.specs.Verdicts.{VerdictTree}
@@ -50,18 +52,20 @@ use Rattle.kf_refine.specs.Views.{IsProper}
 use Rattle.kf_cert.specs.Certificates.{CertTree, cert_of}
 use Rattle.kf_cert.specs.Laws.{OneMark}
 use Rattle.kf_load.specs.Steps.{Refused, Step, After, Each, Gives, refusal}
-use Rattle.kf_load.specs.Texts.{File, Fault, Text, bad_text, token_fault, syntax_fault, type_fault, IsBad, TokensOf, SourceOf, ProgramOf, TextWith, TypedOf, TextOf, cleared, long_enough, LongCleared, source_of}
+use Rattle.kf_load.specs.Texts.{File, Fault, Text, token_fault, syntax_fault, type_fault, IsBad, TokensOf, SourceOf, ProgramOf, TextWith, TypedOf, TextOf, cleared, long_enough, LongCleared, source_of}
+use Rattle.kf_load.specs.Refusals.{bad_text}
 use Rattle.kf_prior.specs.FullSources.{full_source}
-use Rattle.kf_quiet.specs.Blames.{BlameTree}
 use Rattle.kf_quiet.specs.Laws.{OnlyOneBlames}
+use Rattle.kf_quiet.specs.Summaries.{SummaryTree}
 use Rattle.kf_silent.specs.Quiet.{quiet_joint}
 use Rattle.kf_run.specs.Laws.{OnlyOneTrail}
 use Rattle.kf_words.specs.Jobs.{IsInRange}
 use Rattle.kf_words.specs.Laws.{TasksInRange}
 use Rattle.kf_words.specs.Task.{Command, Composition, Hyper, Traces, Channel, Trail, Capacity, Compose, Leak, Attack, Reach, Make, Refine, Check, Covers, Quiet, Blame, Task, task_of}
-use Rattle.kf_top.specs.Answer.{Shown, usage, prints, other_target, wide_channel, HyperOf, TracesOf, TrailOf, MadeOf, MadeOutcome, BlameOf, initial, ChannelOf, IsChannelTree, is_narrow, CapacityIn, Composed, algebra_shown, ComposedIn, table_word, bad_file, TableOf, TableIn, GainIn, HasWidth, NarrowGain, ReportOf, ReportIn, AttackOf, AttackIn, ReachOf, IsHyperTree, AreHypers, most_pivots, VerdictShown, VerdictOn, RefineOutcome, cert_read, CertIn, mark_shown, MarkIn, MarkOn, CommandOutcome}
-use Rattle.kf_top.specs.Outcome.{few_stores, FullOf, FullTexts, ReadyOf, ClearedOf, TaskOutcome, SomeOutcome}
-use Rattle.kf_top.specs.Ends.{Answer, IsAnswer, settled}
+use Rattle.kf_top.specs.Answer.{Shown, usage, prints, other_target, wide_channel, HyperOf, MadeOutcome, initial, ChannelOf, IsChannelTree, is_narrow, CapacityIn, Composed, algebra_shown, ComposedIn, table_word, bad_file, TableOf, GainIn, HasWidth, NarrowGain, ReportOf, ReportIn, AttackOf, AttackIn, ReachOf, IsHyperTree, AreHypers, VerdictShown, VerdictOn, RefineOutcome, CertIn, mark_shown, MarkIn, MarkOn, CommandOutcome}
+use Rattle.kf_top.specs.Outcome.{few_stores, FullOf, ReadyOf, TaskOutcome}
+use Rattle.kf_top.specs.Ends.{Answer, settled}
+use Rattle.kf_top.specs.Steps.{TracesOf, TrailOf, MadeOf, BlameOf, TableIn, cert_read, most_pivots, IsAnswer, FullTexts, ClearedOf, SomeOutcome}
 use Rattle.kf_laws.proofs.ClearedPrograms.{AreClear}
 use Rattle.kf_laws.proofs.OneComposed.{one_composed}
 use Rattle.kf_laws.proofs.ProperHypers.{AreProper, IsClear, IsShaped, shaped}
@@ -193,7 +197,7 @@ one_trail trails_are_one turns p r s a b = a.2 ∙ ap (λ (counts : List ℕ). p
 
 one_blame : OnlyOneBlames → (turns : ℕ) (p : ProgramTree) → HasOne (BlameOf turns p)
 one_blame blames_are_one turns p r s a b =
-    a.2 ∙ ap (λ (blames : List BlameTree). prints (blame_text (run_scale turns p) blames)) (blames_are_one turns p a.0 b.0 a.1 b.1) ∙ sym b.2
+    a.2 ∙ ap (λ (blames : List SummaryTree). prints (blame_text (run_scale turns p) blames)) (blames_are_one turns p a.0 b.0 a.1 b.1) ∙ sym b.2
 
 -- ---- gains
 

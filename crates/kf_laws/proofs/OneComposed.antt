@@ -4,15 +4,10 @@ use Rattle.std.proofs.lemmas.Bool.{lt-leb, cases_eq, cases_lt}
 use Rattle.kf_frac.specs.Fractions.{limit}
 use Rattle.kf_refine.proofs.SomeTargets.{Decided, decided_by, decided_both, same_targets}
 use Rattle.kf_capacity.specs.Grids.{ChannelTree, GridTree, channel_grid}
-use Rattle.kf_capacity.specs.Compositions.{IsCascade, IsParallel, IsChoice, HaveSameRows, HaveOtherRows, fits, places, cells_of, cascade_grid, parallel_grid, choice_grid}
-use Rattle.kf_capacity.specs.declared.error.CascadeFault.{CascadeFault}
-use Rattle.kf_capacity.specs.declared.error.CascadeFault.TheVariants as cascade
-use Rattle.kf_capacity.specs.declared.error.ParallelFault.{ParallelFault}
-use Rattle.kf_capacity.specs.declared.error.ParallelFault.TheVariants as parallel
-use Rattle.kf_capacity.specs.declared.error.ChoiceFault.{ChoiceFault}
-use Rattle.kf_capacity.specs.declared.error.ChoiceFault.TheVariants as choice
+use Rattle.kf_capacity.specs.Compositions.{IsCascade, IsParallel, IsChoice, HaveSameRows, HaveOtherRows, fits, places, cells_of, cascade_grid, parallel_grid, choice_grid, ComposeFault}
+use Rattle.kf_capacity.specs.Compositions as compose
 use Rattle.kf_load.specs.Steps.{Refused}
-use Rattle.kf_top.specs.Answer.{Composed, cascade_grid as cascade_shown, parallel_grid as parallel_shown, choice_grid as choice_shown}
+use Rattle.kf_top.specs.Answer.{Composed, composed_grid}
 use Rattle.kf_words.specs.Task.{Composition, Cascade, Parallel, Choice}
 
 -- ---- secrets and targets
@@ -49,28 +44,28 @@ module _ (c d : ChannelTree) where
   abbrev cascaded : GridTree
   cascaded = cascade_grid (channel_grid c) (places c d) (channel_grid d)
 
-  abbrev cascade_fitting : Result GridTree CascadeFault
-  cascade_fitting = bounded cascaded.over limit (Ok cascaded) (Err cascade.Wide)
+  abbrev cascade_fitting : Result GridTree ComposeFault
+  cascade_fitting = bounded cascaded.over limit (Ok cascaded) (Err compose.Wide)
 
-  abbrev cascade_result : Result GridTree CascadeFault
-  cascade_result = if fits c d then cascade_fitting else Err cascade.Fit
+  abbrev cascade_result : Result GridTree ComposeFault
+  cascade_result = if fits c d then cascade_fitting else Err compose.Fit
 
   fitting : fits c d ≡ true → cascade_fitting ≡ cascade_result
-  fitting fit = ap (λ b. if b then cascade_fitting else Err cascade.Fit) (sym fit)
+  fitting fit = ap (λ b. if b then cascade_fitting else Err compose.Fit) (sym fit)
 
-  cascade_is : (r : Result GridTree CascadeFault) → IsCascade c d r → r ≡ cascade_result
+  cascade_is : (r : Result GridTree ComposeFault) → IsCascade c d r → r ≡ cascade_result
   cascade_is (Ok g) is =
-      ap Ok is.2 ∙ where_few cascaded.over limit (Ok cascaded) (Err cascade.Wide) (subst (λ (h : GridTree). h.over ≤ limit) is.2 is.1) ∙ fitting is.0
-  cascade_is (Err cascade.Fit) is = ap (λ b. if b then cascade_fitting else Err cascade.Fit) (sym is)
-  cascade_is (Err cascade.Wide) is = where_many cascaded.over limit (Ok cascaded) (Err cascade.Wide) is.1 ∙ fitting is.0
-  cascade_is (Err cascade.Mem) is = absurd is
+      ap Ok is.2 ∙ where_few cascaded.over limit (Ok cascaded) (Err compose.Wide) (subst (λ (h : GridTree). h.over ≤ limit) is.2 is.1) ∙ fitting is.0
+  cascade_is (Err compose.Fit) is = ap (λ b. if b then cascade_fitting else Err compose.Fit) (sym is)
+  cascade_is (Err compose.Wide) is = where_many cascaded.over limit (Ok cascaded) (Err compose.Wide) is.1 ∙ fitting is.0
+  cascade_is (Err e) is = absurd is
 
   some_cascade : IsCascade c d cascade_result
   some_cascade =
       ⊎_elim
       (λ (fit : fits c d ≡ true). subst (IsCascade c d) (fitting fit)
-      (either_bound cascaded.over limit (Ok cascaded) (Err cascade.Wide) (IsCascade c d) (λ few. (fit, few, refl)) (λ many. (fit, many))))
-      (λ (no' : fits c d ≡ false). subst (IsCascade c d) (ap (λ b. if b then cascade_fitting else Err cascade.Fit) (sym no')) no')
+      (either_bound cascaded.over limit (Ok cascaded) (Err compose.Wide) (IsCascade c d) (λ few. (fit, few, refl)) (λ many. (fit, many))))
+      (λ (no' : fits c d ≡ false). subst (IsCascade c d) (ap (λ b. if b then cascade_fitting else Err compose.Fit) (sym no')) no')
       (either_way (fits c d))
 
 -- ---- two channels about the same secrets, or not
@@ -117,38 +112,38 @@ module _ (c d : ChannelTree) where
   abbrev paired : GridTree
   paired = parallel_grid (channel_grid c) (channel_grid d)
 
-  abbrev parallel_few : Result GridTree ParallelFault
-  parallel_few = bounded paired.over limit (Ok paired) (Err parallel.Wide)
+  abbrev parallel_few : Result GridTree ComposeFault
+  parallel_few = bounded paired.over limit (Ok paired) (Err compose.Wide)
 
-  abbrev parallel_many : Result GridTree ParallelFault
-  parallel_many = Err (parallel.Cells (min limit (cells_of c d)))
+  abbrev parallel_many : Result GridTree ComposeFault
+  parallel_many = Err (compose.Cells (min limit (cells_of c d)))
 
-  abbrev parallel_alike : Result GridTree ParallelFault
+  abbrev parallel_alike : Result GridTree ComposeFault
   parallel_alike = bounded (cells_of c d) 4000000 parallel_few parallel_many
 
-  abbrev parallel_result : Result GridTree ParallelFault
-  parallel_result = by_standing (Err parallel.Targets) (Err parallel.Rows) parallel_alike standing
+  abbrev parallel_result : Result GridTree ComposeFault
+  parallel_result = by_standing (Err compose.Targets) (Err compose.Rows) parallel_alike standing
 
   parallel_same : HaveSameRows c d → parallel_alike ≡ parallel_result
-  parallel_same alike = where_same (Err parallel.Targets) (Err parallel.Rows) parallel_alike alike standing
+  parallel_same alike = where_same (Err compose.Targets) (Err compose.Rows) parallel_alike alike standing
 
-  parallel_is : (r : Result GridTree ParallelFault) → IsParallel c d r → r ≡ parallel_result
+  parallel_is : (r : Result GridTree ComposeFault) → IsParallel c d r → r ≡ parallel_result
   parallel_is (Ok g) is =
-      ap Ok is.3 ∙ where_few paired.over limit (Ok paired) (Err parallel.Wide) (subst (λ (h : GridTree). h.over ≤ limit) is.3 is.2)
+      ap Ok is.3 ∙ where_few paired.over limit (Ok paired) (Err compose.Wide) (subst (λ (h : GridTree). h.over ≤ limit) is.3 is.2)
       ∙ where_few (cells_of c d) 4000000 parallel_few parallel_many is.1 ∙ parallel_same is.0
-  parallel_is (Err parallel.Targets) is = where_targets (Err parallel.Targets) (Err parallel.Rows) parallel_alike is standing
-  parallel_is (Err parallel.Rows) is = where_rows (Err parallel.Targets) (Err parallel.Rows) parallel_alike is standing
-  parallel_is (Err (parallel.Cells count)) is =
-      ap (λ n. Err (parallel.Cells n)) is.2 ∙ where_many (cells_of c d) 4000000 parallel_few parallel_many is.1 ∙ parallel_same is.0
-  parallel_is (Err parallel.Wide) is =
-      where_many paired.over limit (Ok paired) (Err parallel.Wide) is.2 ∙ where_few (cells_of c d) 4000000 parallel_few parallel_many is.1 ∙ parallel_same is.0
-  parallel_is (Err parallel.Mem) is = absurd is
+  parallel_is (Err compose.Targets) is = where_targets (Err compose.Targets) (Err compose.Rows) parallel_alike is standing
+  parallel_is (Err compose.Rows) is = where_rows (Err compose.Targets) (Err compose.Rows) parallel_alike is standing
+  parallel_is (Err (compose.Cells count)) is =
+      ap (λ n. Err (compose.Cells n)) is.2 ∙ where_many (cells_of c d) 4000000 parallel_few parallel_many is.1 ∙ parallel_same is.0
+  parallel_is (Err compose.Wide) is =
+      where_many paired.over limit (Ok paired) (Err compose.Wide) is.2 ∙ where_few (cells_of c d) 4000000 parallel_few parallel_many is.1 ∙ parallel_same is.0
+  parallel_is (Err e) is = absurd is
 
   some_parallel : IsParallel c d parallel_result
   some_parallel =
-      each_standing (Err parallel.Targets) (Err parallel.Rows) parallel_alike (IsParallel c d) (λ differ. differ) (λ other. other)
+      each_standing (Err compose.Targets) (Err compose.Rows) parallel_alike (IsParallel c d) (λ differ. differ) (λ other. other)
       (λ alike. either_bound (cells_of c d) 4000000 parallel_few parallel_many (IsParallel c d)
-      (λ few. either_bound paired.over limit (Ok paired) (Err parallel.Wide) (IsParallel c d) (λ narrow. (alike, few, narrow, refl)) (λ wide. (alike, few, wide)))
+      (λ few. either_bound paired.over limit (Ok paired) (Err compose.Wide) (IsParallel c d) (λ narrow. (alike, few, narrow, refl)) (λ wide. (alike, few, wide)))
       (λ many. (alike, many, refl)))
       standing
 
@@ -158,27 +153,27 @@ module _ (c d : ChannelTree) where
     abbrev chosen : GridTree
     chosen = choice_grid num den (channel_grid c) (channel_grid d)
 
-    abbrev choice_alike : Result GridTree ChoiceFault
-    choice_alike = bounded chosen.over limit (Ok chosen) (Err choice.Wide)
+    abbrev choice_alike : Result GridTree ComposeFault
+    choice_alike = bounded chosen.over limit (Ok chosen) (Err compose.Wide)
 
-    abbrev choice_result : Result GridTree ChoiceFault
-    choice_result = by_standing (Err choice.Targets) (Err choice.Rows) choice_alike standing
+    abbrev choice_result : Result GridTree ComposeFault
+    choice_result = by_standing (Err compose.Targets) (Err compose.Rows) choice_alike standing
 
     choice_same : HaveSameRows c d → choice_alike ≡ choice_result
-    choice_same alike = where_same (Err choice.Targets) (Err choice.Rows) choice_alike alike standing
+    choice_same alike = where_same (Err compose.Targets) (Err compose.Rows) choice_alike alike standing
 
-    choice_is : (r : Result GridTree ChoiceFault) → IsChoice num den c d r → r ≡ choice_result
+    choice_is : (r : Result GridTree ComposeFault) → IsChoice num den c d r → r ≡ choice_result
     choice_is (Ok g) is =
-        ap Ok is.2 ∙ where_few chosen.over limit (Ok chosen) (Err choice.Wide) (subst (λ (h : GridTree). h.over ≤ limit) is.2 is.1) ∙ choice_same is.0
-    choice_is (Err choice.Targets) is = where_targets (Err choice.Targets) (Err choice.Rows) choice_alike is standing
-    choice_is (Err choice.Rows) is = where_rows (Err choice.Targets) (Err choice.Rows) choice_alike is standing
-    choice_is (Err choice.Wide) is = where_many chosen.over limit (Ok chosen) (Err choice.Wide) is.1 ∙ choice_same is.0
-    choice_is (Err choice.Mem) is = absurd is
+        ap Ok is.2 ∙ where_few chosen.over limit (Ok chosen) (Err compose.Wide) (subst (λ (h : GridTree). h.over ≤ limit) is.2 is.1) ∙ choice_same is.0
+    choice_is (Err compose.Targets) is = where_targets (Err compose.Targets) (Err compose.Rows) choice_alike is standing
+    choice_is (Err compose.Rows) is = where_rows (Err compose.Targets) (Err compose.Rows) choice_alike is standing
+    choice_is (Err compose.Wide) is = where_many chosen.over limit (Ok chosen) (Err compose.Wide) is.1 ∙ choice_same is.0
+    choice_is (Err e) is = absurd is
 
     some_choice : IsChoice num den c d choice_result
     some_choice =
-        each_standing (Err choice.Targets) (Err choice.Rows) choice_alike (IsChoice num den c d) (λ differ. differ) (λ other. other)
-        (λ alike. either_bound chosen.over limit (Ok chosen) (Err choice.Wide) (IsChoice num den c d) (λ narrow. (alike, narrow, refl)) (λ wide. (alike, wide)))
+        each_standing (Err compose.Targets) (Err compose.Rows) choice_alike (IsChoice num den c d) (λ differ. differ) (λ other. other)
+        (λ alike. either_bound chosen.over limit (Ok chosen) (Err compose.Wide) (IsChoice num den c d) (λ narrow. (alike, narrow, refl)) (λ wide. (alike, wide)))
         standing
 
 -- ---- in each way
@@ -188,12 +183,12 @@ same_told : {R : Type 0} (told : R → Result GridTree Refused) (only a b : R) (
 same_told told only a b r s p q x y = x ∙ ap told (p ∙ sym q) ∙ sym y
 
 pub one_composed : (way : Composition) (c d : ChannelTree) (r s : Result GridTree Refused) → Composed way c d r → Composed way c d s → r ≡ s
-one_composed Cascade c d r s h k = same_told cascade_shown (cascade_result c d) h.0 k.0 r s (cascade_is c d h.0 h.1) (cascade_is c d k.0 k.1) h.2 k.2
-one_composed Parallel c d r s h k = same_told parallel_shown (parallel_result c d) h.0 k.0 r s (parallel_is c d h.0 h.1) (parallel_is c d k.0 k.1) h.2 k.2
+one_composed Cascade c d r s h k = same_told composed_grid (cascade_result c d) h.0 k.0 r s (cascade_is c d h.0 h.1) (cascade_is c d k.0 k.1) h.2 k.2
+one_composed Parallel c d r s h k = same_told composed_grid (parallel_result c d) h.0 k.0 r s (parallel_is c d h.0 h.1) (parallel_is c d k.0 k.1) h.2 k.2
 one_composed (Choice num den) c d r s h k =
-    same_told choice_shown (choice_result c d num den) h.0 k.0 r s (choice_is c d num den h.0 h.1) (choice_is c d num den k.0 k.1) h.2 k.2
+    same_told composed_grid (choice_result c d num den) h.0 k.0 r s (choice_is c d num den h.0 h.1) (choice_is c d num den k.0 k.1) h.2 k.2
 
 pub some_composed : (way : Composition) (c d : ChannelTree) → (r : Result GridTree Refused) × Composed way c d r
-some_composed Cascade c d = (cascade_shown (cascade_result c d), (cascade_result c d, some_cascade c d, refl))
-some_composed Parallel c d = (parallel_shown (parallel_result c d), (parallel_result c d, some_parallel c d, refl))
-some_composed (Choice num den) c d = (choice_shown (choice_result c d num den), (choice_result c d num den, some_choice c d num den, refl))
+some_composed Cascade c d = (composed_grid (cascade_result c d), (cascade_result c d, some_cascade c d, refl))
+some_composed Parallel c d = (composed_grid (parallel_result c d), (parallel_result c d, some_parallel c d, refl))
+some_composed (Choice num den) c d = (composed_grid (choice_result c d num den), (choice_result c d num den, some_choice c d num den, refl))

@@ -1,6 +1,7 @@
 -- The hyper of a checked program that meets no fault, and whose scale isn't too wide, is proper.
 use Rattle.std.proofs.Common.{◌≡◌, ℕ, ◌*◌, ◌<◌, ◌≤◌, List, [], ◌∷◌, map, All, IsOk, Option, None, Some, Result, Ok, Err, refl, sym, ap, subst, ◌∙◌}
 use Rattle.std.specs.Cmp.Lexicographic.{pointwise}
+use Rattle.std.specs.Option.{unwrap_or}
 use Rattle.std.specs.List.{AllByRecursion as Every}
 use Rattle.std.proofs.lemmas.List.Elements.{All-map, All-from_recursion}
 use Rattle.std.proofs.lemmas.List.Quantifiers.{position-Some}
@@ -44,8 +45,7 @@ use Rattle.kf_laws.proofs.SizedTargets.{IsSized, some_target}
 -- ---- values of cells
 
 abbrev number_or : Option ℕ → ℕ
-number_or (Some m) = m
-number_or None = 0
+number_or found = unwrap_or found 0
 
 below_or : (size : ℕ) → 0 < size → (o : Option ℕ) → ((m : ℕ) → o ≡ Some m → m < size) → number_or o < size
 below_or size some (Some m) h = h m refl

@@ -3,8 +3,9 @@ use Rattle.std.proofs.Common.{◌≡◌, ℕ, ◌≤◌, Bool, true, false, List
 use Rattle.kf_load.specs.Steps.{Refused}
 use Rattle.kf_load.specs.Texts.{File}
 use Rattle.kf_top.specs.Answer.{Shown, usage}
-use Rattle.kf_top.specs.Ends.{Answer, AreNamed, Sunk, TookLine, refusing, settled}
-use Rattle.kf_top.specs.Outcome.{Outcome, SomeOutcome}
+use Rattle.kf_top.specs.Ends.{Answer, AreNamed, Sunk, TookLine, settled}
+use Rattle.kf_top.specs.Outcome.{Outcome}
+use Rattle.kf_top.specs.Steps.{refusing, SomeOutcome}
 use Rattle.kf_words.specs.Task.{Task, task_of}
 use Rattle.kf_laws.specs.Refusals.{IsReasoned, RefusalsAreReasoned, RefusedAs, RunsAreRefusedAs}
 
@@ -42,8 +43,8 @@ module _ (reasoned : RefusalsAreReasoned) where
   pub runs_refused : RunsAreRefusedAs
   runs_refused words told before now out err status causes above memory =
       let a = causes.answered (λ four. omega (arith, above, four)) memory in
-      let status_is = a.shows.status_is in
+      let status_is = a.status_is in
       let refused = refused_result a.defined.is_answer.result a.answer a.defined.is_answer.settles (omega (arith, above, status_is)) in
       by_task words a.defined.programs a.defined.tables refused.0 err status above (status_is ∙ ap (λ (x : Answer). x.status) refused.2)
-      (subst (λ (x : Answer). TookLine err x.err) refused.2 a.shows.err_took) (task_of words) refl a.defined.named
+      (subst (λ (x : Answer). TookLine err x.err) refused.2 a.err_took) (task_of words) refl a.defined.named
       (subst (λ (x : Result Shown Refused). Outcome words a.defined.programs a.defined.tables x) refused.1 a.defined.is_answer.outcome)

@@ -13,7 +13,7 @@ use Rattle.kf_parse.specs.Laws.{OnlyBuilt, ParsedOrRefused}
 use Rattle.kf_check.specs.declared.errors.TypeError.{TypeError}
 use Rattle.kf_check.specs.declared.errors.TypeError.TheVariants as typing
 use Rattle.kf_check.specs.Laws.{IsWellBuilt, TypedOrBroken}
-use Rattle.kf_check.specs.Sources.{IsBroken}
+use Rattle.kf_check.specs.Variables.{IsBroken}
 use Rattle.kf_core.specs.JointLaws.{RowsExist, HypersExist}
 use Rattle.kf_channel.specs.Laws.{SomeSecrets}
 use Rattle.kf_core.specs.Programs.{ProgramTree}
@@ -48,10 +48,12 @@ use Rattle.kf_cert.specs.Laws.{ReadSound, SomeMark}
 use Rattle.kf_cert.specs.Views.{IsSound}
 use Rattle.kf_cert.specs.declared.cert.CertError.{CertError}
 use Rattle.kf_load.specs.Steps.{Refused, Step, After, Each, Gives, refusal}
-use Rattle.kf_load.specs.Texts.{File, Text, Fault, fault, bad_text, token_fault, syntax_fault, type_fault, IsBad, TokensOf, SourceOf, ProgramOf, TextWith, TypedOf, TextOf, cleared, long_enough, LongCleared, source_of}
-use Rattle.kf_top.specs.Answer.{usage, prints, shows, other_target, wide_channel, HyperOf, TracesOf, TrailOf, MadeOf, MadeOutcome, BlameOf, initial, ChannelOf, IsChannelTree, is_narrow, CapacityIn, Composed, algebra_shown, ComposedIn, table_word, bad_file, TableOf, TableIn, GainIn, NarrowGain, ReportOf, ReportIn, AttackOf, AttackIn, ReachOf, IsHyperTree, most_pivots, verdict_refusal, is_yes, VerdictShown, RefineOutcome, cert_read, CertIn, mark_shown, MarkIn, MarkOn, CommandOutcome}
-use Rattle.kf_top.specs.Outcome.{few_stores, FullOf, FullTexts, ReadyOf, ClearedOf, TaskOutcome, SomeOutcome}
-use Rattle.kf_top.specs.Ends.{Answer, IsAnswer, settled}
+use Rattle.kf_load.specs.Texts.{File, Text, Fault, fault, token_fault, syntax_fault, type_fault, IsBad, TokensOf, SourceOf, ProgramOf, TextWith, TypedOf, TextOf, cleared, long_enough, LongCleared, source_of}
+use Rattle.kf_load.specs.Refusals.{bad_text}
+use Rattle.kf_top.specs.Answer.{usage, prints, shows, other_target, wide_channel, HyperOf, MadeOutcome, initial, ChannelOf, IsChannelTree, is_narrow, CapacityIn, Composed, algebra_shown, ComposedIn, table_word, bad_file, TableOf, GainIn, NarrowGain, ReportOf, ReportIn, AttackOf, AttackIn, ReachOf, IsHyperTree, verdict_refusal, is_yes, VerdictShown, RefineOutcome, CertIn, mark_shown, MarkIn, MarkOn, CommandOutcome}
+use Rattle.kf_top.specs.Outcome.{few_stores, FullOf, ReadyOf, TaskOutcome}
+use Rattle.kf_top.specs.Ends.{Answer, settled}
+use Rattle.kf_top.specs.Steps.{TracesOf, TrailOf, MadeOf, BlameOf, TableIn, cert_read, most_pivots, IsAnswer, FullTexts, ClearedOf, SomeOutcome}
 use Rattle.kf_words.specs.Jobs.{IsInRange}
 use Rattle.kf_words.specs.Laws.{TasksInRange}
 use Rattle.kf_words.specs.Task.{Command, Composition, Hyper, Traces, Channel, Trail, Capacity, Compose, Leak, Attack, Reach, Make, Refine, Check, Covers, Quiet, Blame, Task, task_of}

@@ -15,9 +15,10 @@ use Rattle.kf_text.specs.Texts.{channel_text}
 use Rattle.kf_load.specs.Steps.{After, Each, Gives, Refused, Step, refusal}
 use Rattle.kf_load.specs.Texts.{File, Text, TextOf, cleared}
 use Rattle.kf_top.specs.Answer.{ChannelOf, IsChannelTree, IsHyperTree, Shown, VerdictShown, initial, is_yes, prints}
-use Rattle.kf_top.specs.Ends.{Answer, showing}
-use Rattle.kf_top.specs.Outcome.{ClearedOf}
-use Rattle.kf_words.specs.Task.{Channel, Command, Refine, on_file, on_files}
+use Rattle.kf_top.specs.Ends.{Answer}
+use Rattle.kf_top.specs.Steps.{showing, ClearedOf}
+use Rattle.kf_words.specs.Task.{Channel, Command, Refine, on_files}
+use Rattle.kf_words.specs.OfWords.{on_file}
 use Rattle.kf_laws.specs.Held.{held, held_file}
 use Rattle.kf_laws.specs.Refusals.{RefusalsAreReasoned}
 use Rattle.kf_laws.specs.Structure.{ChannelIsPrinted, HasChannel, IsVerdictOn, VerdictsAreStructural}

@@ -6,7 +6,8 @@ use Rattle.kf_gain.specs.Gains.{GainOf}
 use Rattle.kf_words.specs.Arguments.{Arguments, arguments_of}
 use Rattle.kf_words.specs.GainWords.{gain_named}
 use Rattle.kf_words.specs.Numbers.{block_of, probability_of, threshold_of}
-use Rattle.kf_words.specs.Task.{Command, Hyper, Traces, Channel, Trail, Capacity, Compose, Cascade, Parallel, Choice, Leak, Attack, Reach, Make, Refine, Check, Covers, Quiet, Blame, Task, CommandRow, on_files, files_only, with_gain, make_row, refine_row, check_row, with_pair, commands, row_of, options_fit, turns_of, row_task, task_of, task_of_values, task_of_arguments, observations_of, first_of, others_of, last_of, but_last}
+use Rattle.kf_words.specs.Task.{Command, Hyper, Traces, Channel, Trail, Capacity, Compose, Cascade, Parallel, Choice, Leak, Attack, Reach, Make, Refine, Check, Covers, Quiet, Blame, Task, CommandRow, on_files, files_only, with_gain, make_row, refine_row, check_row, with_pair, commands, row_of, options_fit, turns_of, row_task, task_of, task_of_values, observations_of, but_last}
+use Rattle.kf_words.specs.OfWords.{first_of, others_of, last_of, task_of_arguments}
 
 -- how many programs a command asks for
 abbrev pub programs_asked : Command → ℕ

@@ -8,7 +8,6 @@ use Rattle.kf_value.specs.Targets.{Item}
 use Rattle.kf_lex.specs.Readings.{IsFault}
 use Rattle.kf_parse.specs.Answers.{IsRefused}
 use Rattle.kf_ast.specs.Sources.{SourceTree}
-use Rattle.kf_check.specs.Sources.{IsBroken}
 use Rattle.kf_frac.specs.Fractions.{limit}
 use Rattle.kf_core.specs.Joint.{Cell, joint_of}
 use Rattle.kf_core.specs.Programs.{ProgramTree}
@@ -17,13 +16,8 @@ use Rattle.kf_core.specs.Scale.{scale_of as run_scale}
 use Rattle.kf_core.specs.Support.{StoreSet, program_pass}
 use Rattle.kf_channel.specs.Channels.{all_initial}
 use Rattle.kf_capacity.specs.Grids.{ChannelTree, GridTree, channel_grid}
-use Rattle.kf_capacity.specs.Compositions.{IsCascade, IsParallel, IsChoice}
-use Rattle.kf_capacity.specs.declared.error.CascadeFault.{CascadeFault}
-use Rattle.kf_capacity.specs.declared.error.CascadeFault.TheVariants as cascade
-use Rattle.kf_capacity.specs.declared.error.ParallelFault.{ParallelFault}
-use Rattle.kf_capacity.specs.declared.error.ParallelFault.TheVariants as parallel
-use Rattle.kf_capacity.specs.declared.error.ChoiceFault.{ChoiceFault}
-use Rattle.kf_capacity.specs.declared.error.ChoiceFault.TheVariants as choice
+use Rattle.kf_capacity.specs.Compositions.{IsCascade, IsParallel, IsChoice, ComposeFault}
+use Rattle.kf_capacity.specs.Compositions as compose
 use Rattle.kf_make.specs.Laws.{MadeIsClear, MadeIsParsed, MadeIsTyped, MadeScale}
 use Rattle.kf_make.specs.Made.{made_program, made_tree}
 use Rattle.kf_make.specs.Making.{make_source}
@@ -45,18 +39,22 @@ use Rattle.kf_cert.specs.declared.mark.CheckError.{CheckError}
 use Rattle.kf_cert.specs.declared.mark.CheckError.TheVariants as check
 use Rattle.kf_load.specs.Place.{line_at, column_at}
 use Rattle.kf_load.specs.Steps.{Refused, Step, After, Each, Gives}
-use Rattle.kf_load.specs.Texts.{File, Fault, Text, bytes_read, token_fault, syntax_fault, type_fault, IsBad, TokensOf, SourceOf, ProgramOf, TextWith, TypedOf, TextOf, bad_run, cause_word, cleared, narrow, long_enough, LongCleared, source_of}
+use Rattle.kf_load.specs.Texts.{File, Fault, Text, token_fault, syntax_fault, type_fault, IsBad, TokensOf, SourceOf, ProgramOf, TextWith, TypedOf, TextOf, cause_word, cleared, long_enough, LongCleared, source_of}
+use Rattle.kf_load.specs.Refusals.{bad_run, narrow, bytes_read}
 use Rattle.kf_prior.specs.FullSources.{full_source, initial_stores}
-use Rattle.kf_top.specs.Answer.{Shown, shows, other_target, wide_channel, MadeOf, MadeOutcome, initial, ChannelOf, is_narrow, CapacityIn, Composed, cascade_grid, parallel_grid, choice_grid, algebra_shown, ComposedIn, table_word, TableOf, TableIn, GainIn, NarrowGain, ReportOf, ReportIn, AttackOf, AttackIn, most_pivots, VerdictShown, RefineOutcome, cert_word, cert_read, CertIn, mark_shown, MarkOn, CommandOutcome}
-use Rattle.kf_top.specs.Outcome.{few_stores, FullOf, FullTexts, ReadyOf, ClearedOf, TaskOutcome}
+use Rattle.kf_top.specs.Answer.{Shown, shows, other_target, wide_channel, MadeOutcome, initial, ChannelOf, is_narrow, CapacityIn, Composed, composed_grid, algebra_shown, ComposedIn, table_word, TableOf, GainIn, NarrowGain, ReportOf, ReportIn, AttackOf, AttackIn, VerdictShown, RefineOutcome, cert_word, CertIn, mark_shown, MarkOn, CommandOutcome}
+use Rattle.kf_top.specs.Outcome.{few_stores, FullOf, ReadyOf, TaskOutcome}
 use Rattle.kf_top.specs.Ends.{AreNamed, names_of}
+use Rattle.kf_top.specs.Steps.{MadeOf, TableIn, cert_read, most_pivots, FullTexts, ClearedOf}
 use Rattle.kf_words.specs.Jobs.{IsInRange}
 use Rattle.kf_words.specs.Laws.{TasksInRange}
-use Rattle.kf_words.specs.Task.{Command, Composition, Cascade, Parallel, Choice, Hyper, Traces, Channel, Trail, Capacity, Compose, Leak, Attack, Reach, Make, Refine, Check, Covers, Quiet, Blame, Task, named, tables_of}
+use Rattle.kf_words.specs.Task.{Command, Composition, Cascade, Parallel, Choice, Hyper, Traces, Channel, Trail, Capacity, Compose, Leak, Attack, Reach, Make, Refine, Check, Covers, Quiet, Blame, Task, tables_of}
+use Rattle.kf_words.specs.OfWords.{named}
 use Rattle.kf_laws.specs.Refusals.{ReadFailed, TooLong, BadText, BadRun, WideScale, NotInitial, BadTable, WideGain, OtherTarget, ManyCells, WideTableau, ManyPivots, BadCert, WideCert, OtherRows, NoFit, ManyChannelCells, WideChannel, ManyStores, FewStatements, refusal_for, IsRefining, IsComposing, IsOnCapacities, IsUnder, IsReasoned, RefusalsAreReasoned}
 use Rattle.kf_laws.proofs.ClearedPrograms.{every_done}
 use Rattle.kf_laws.proofs.OneAnswer.{HasOne, next_of}
 use Rattle.kf_laws.proofs.TaskFiles.{IsFitting, programs_asked, tasks_fit}
+use Rattle.kf_check.specs.Variables.{IsBroken}
 
 -- ---- steps
 
@@ -322,28 +320,28 @@ module _ (task : Task) where
     other_targets : (r : Refused) → r ≡ other_target → Reasoned r
     other_targets r is = record { reason = OtherTarget; can = inr (inr composing); is = is }
 
-    cascade_refused : (c d : ChannelTree) (x : Result GridTree CascadeFault) (r : Refused) → IsCascade c d x → Err r ≡ cascade_grid x → Reasoned r
+    cascade_refused : (c d : ChannelTree) (x : Result GridTree ComposeFault) (r : Refused) → IsCascade c d x → Err r ≡ composed_grid x → Reasoned r
     cascade_refused c d (Ok g) r is given = absurd (cc)
-    cascade_refused c d (Err cascade.Fit) r is given = let same : r ≡ refusal_for NoFit = cc in record { reason = NoFit; can = composing; is = same }
-    cascade_refused c d (Err cascade.Wide) r is given = wide r (cc)
-    cascade_refused c d (Err cascade.Mem) r is given = absurd is
+    cascade_refused c d (Err compose.Fit) r is given = let same : r ≡ refusal_for NoFit = cc in record { reason = NoFit; can = composing; is = same }
+    cascade_refused c d (Err compose.Wide) r is given = wide r (cc)
+    cascade_refused c d (Err e) r is given = absurd is
 
-    parallel_refused : (c d : ChannelTree) (x : Result GridTree ParallelFault) (r : Refused) → IsParallel c d x → Err r ≡ parallel_grid x → Reasoned r
+    parallel_refused : (c d : ChannelTree) (x : Result GridTree ComposeFault) (r : Refused) → IsParallel c d x → Err r ≡ composed_grid x → Reasoned r
     parallel_refused c d (Ok g) r is given = absurd (cc)
-    parallel_refused c d (Err parallel.Targets) r is given = other_targets r (cc)
-    parallel_refused c d (Err parallel.Rows) r is given = let same : r ≡ refusal_for OtherRows = cc in record { reason = OtherRows; can = composing; is = same }
-    parallel_refused c d (Err (parallel.Cells count)) r is given =
+    parallel_refused c d (Err compose.Targets) r is given = other_targets r (cc)
+    parallel_refused c d (Err compose.Rows) r is given = let same : r ≡ refusal_for OtherRows = cc in record { reason = OtherRows; can = composing; is = same }
+    parallel_refused c d (Err (compose.Cells count)) r is given =
         let same : r ≡ refusal_for (ManyChannelCells count) = cc in
         record { reason = ManyChannelCells count; can = composing; is = same }
-    parallel_refused c d (Err parallel.Wide) r is given = wide r (cc)
-    parallel_refused c d (Err parallel.Mem) r is given = absurd is
+    parallel_refused c d (Err compose.Wide) r is given = wide r (cc)
+    parallel_refused c d (Err e) r is given = absurd is
 
-    choice_refused : (num den : ℕ) (c d : ChannelTree) (x : Result GridTree ChoiceFault) (r : Refused) → IsChoice num den c d x → Err r ≡ choice_grid x → Reasoned r
+    choice_refused : (num den : ℕ) (c d : ChannelTree) (x : Result GridTree ComposeFault) (r : Refused) → IsChoice num den c d x → Err r ≡ composed_grid x → Reasoned r
     choice_refused num den c d (Ok g) r is given = absurd (cc)
-    choice_refused num den c d (Err choice.Targets) r is given = other_targets r (cc)
-    choice_refused num den c d (Err choice.Rows) r is given = let same : r ≡ refusal_for OtherRows = cc in record { reason = OtherRows; can = composing; is = same }
-    choice_refused num den c d (Err choice.Wide) r is given = wide r (cc)
-    choice_refused num den c d (Err choice.Mem) r is given = absurd is
+    choice_refused num den c d (Err compose.Targets) r is given = other_targets r (cc)
+    choice_refused num den c d (Err compose.Rows) r is given = let same : r ≡ refusal_for OtherRows = cc in record { reason = OtherRows; can = composing; is = same }
+    choice_refused num den c d (Err compose.Wide) r is given = wide r (cc)
+    choice_refused num den c d (Err e) r is given = absurd is
 
     composed_refused : (w : Composition) (c d : ChannelTree) → Refuses Reasoned (Composed w c d)
     composed_refused Cascade c d r is = cascade_refused c d is.0 r is.1 is.2

@@ -21,9 +21,9 @@ use Rattle.kf_cert.specs.declared.mark.CheckError.TheVariants as check
 use Rattle.kf_cert.proofs.Printable.{matrix_printable, table_printable}
 use Rattle.kf_load.specs.Steps.{After, Refused, refusal}
 use Rattle.kf_load.specs.Texts.{File, source_of}
-use Rattle.kf_top.specs.Answer.{AreHypers, CertIn, CommandOutcome, MarkIn, MarkOn, RefineOutcome, Shown, cert_read, mark_shown, most_pivots, other_target, wide_cert}
-use Rattle.kf_top.specs.Ends.{Answer, refusing, settled, showing}
-use Rattle.kf_top.specs.Outcome.{ClearedOf}
+use Rattle.kf_top.specs.Answer.{AreHypers, CertIn, CommandOutcome, MarkIn, MarkOn, RefineOutcome, Shown, mark_shown, other_target}
+use Rattle.kf_top.specs.Ends.{Answer, settled}
+use Rattle.kf_top.specs.Steps.{cert_read, wide_cert, most_pivots, showing, refusing, ClearedOf}
 use Rattle.kf_words.specs.Task.{Command, Refine, Check}
 use Rattle.kf_laws.specs.Held.{held, held_file}
 use Rattle.kf_laws.specs.Laws.{CertificatesAccepted, asks_certificate, asks_check}

@@ -3,9 +3,16 @@ use Rattle.std.specs.Prelude.{◌≡◌, ◌≢◌, ℕ, ◌≤◌, ◌<◌, Lis
 use Rattle.std.specs.declared.option.Option.{Option}
 use Rattle.kf_io.specs.Faults.{Rose}
 use Rattle.kf_laws.specs.Held.{IsHeldAnswer}
-use Rattle.kf_top.specs.Ends.{Answer, HasCauses, HasFailed, Question, Shows, Sunk, TookFront}
+use Rattle.kf_top.specs.Ends.{Answer, HasFailed, Question, Sunk, TookFront, Took, TookLine}
 use Rattle.kf_top.specs.Outcome.{Outcome}
-use Rattle.kf_words.specs.Task.{Task, files_of_some, task_of}
+use Rattle.kf_top.specs.Steps.{HasCauses}
+use Rattle.kf_words.specs.Task.{Task, task_of}
+use Rattle.kf_words.specs.OfWords.{files_of_some}
+
+pub record Shows (answer : Answer) (out err : Sunk) (status : ℕ) : Type 0 where
+  pub status_is : status ≡ answer.status
+  pub out_took : Took out answer.out
+  pub err_took : TookLine err answer.err
 
 -- the run ended with the defined answer to a question about files that hold these contents
 pub record HeldAnswered (task : Option Task) (question : Question) (contents : List ℕ → List ℕ) (out err : Sunk) (status : ℕ) : Type 0 where

@@ -20,11 +20,12 @@ use Rattle.kf_text.specs.ReportTexts.{report_text}
 use Rattle.kf_text.specs.Texts.{hyper_text}
 use Rattle.kf_text.specs.VerdictTexts.{verdict_text}
 use Rattle.kf_load.specs.Texts.{File}
-use Rattle.kf_top.specs.Answer.{GainIn, IsChannelTree, wide_cert}
-use Rattle.kf_top.specs.Ends.{Answer, IsAnswer, showing, refusing}
-use Rattle.kf_top.specs.Outcome.{ClearedOf}
+use Rattle.kf_top.specs.Answer.{GainIn, IsChannelTree}
+use Rattle.kf_top.specs.Ends.{Answer}
+use Rattle.kf_top.specs.Steps.{wide_cert, showing, refusing, IsAnswer, ClearedOf}
 use Rattle.kf_laws.specs.Held.{IsAnswerOver, held}
-use Rattle.kf_words.specs.Task.{Task, Hyper, Capacity, Leak, Refine, Check, Covers, Quiet, on_file, on_files, tables_of, task_of}
+use Rattle.kf_words.specs.Task.{Task, Hyper, Capacity, Leak, Refine, Check, Covers, Quiet, on_files, tables_of, task_of}
+use Rattle.kf_words.specs.OfWords.{on_file}
 
 -- words over files, whatever their names and their readings, have exactly one defined answer
 abbrev pub ExactlyOneAnswer : Type 0

@@ -5,9 +5,11 @@ use Rattle.std.specs.declared.option.Option.{Option}
 use Rattle.kf_gain.specs.Gains.{GainOf, Table}
 use Rattle.kf_load.specs.Steps.{Refused, refusal}
 use Rattle.kf_load.specs.Texts.{File}
-use Rattle.kf_top.specs.Ends.{AreNamed, HasCauses, Sunk, TookLine}
+use Rattle.kf_top.specs.Ends.{AreNamed, Sunk, TookLine}
 use Rattle.kf_top.specs.Outcome.{TaskOutcome}
-use Rattle.kf_words.specs.Task.{Command, Composition, Task, Channel, Capacity, Compose, Leak, Attack, Refine, Check, Covers, Quiet, named, task_of}
+use Rattle.kf_top.specs.Steps.{HasCauses}
+use Rattle.kf_words.specs.Task.{Command, Composition, Task, Channel, Capacity, Compose, Leak, Attack, Refine, Check, Covers, Quiet, task_of}
+use Rattle.kf_words.specs.OfWords.{named}
 
 -- ---- reasons
 

@@ -7,8 +7,9 @@ use Rattle.kf_order.specs.Structure.{HaveOneMatrix, HaveOnePrior}
 use Rattle.kf_text.specs.Texts.{channel_text}
 use Rattle.kf_top.specs.Answer.{IsChannelTree}
 use Rattle.kf_top.specs.Ends.{Answer}
-use Rattle.kf_top.specs.Outcome.{ClearedOf}
-use Rattle.kf_words.specs.Task.{Channel, Refine, on_file, on_files, task_of}
+use Rattle.kf_top.specs.Steps.{ClearedOf}
+use Rattle.kf_words.specs.Task.{Channel, Refine, on_files, task_of}
+use Rattle.kf_words.specs.OfWords.{on_file}
 use Rattle.kf_laws.specs.Held.{IsAnswerOver, held}
 
 -- the program of the text in one file, and its channel

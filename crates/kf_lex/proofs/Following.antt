@@ -7,7 +7,7 @@ use Rattle.kf_lex.specs.declared.token.LexError.TheVariants as fault
 use Rattle.kf_lex.specs.declared.token.Tok.{Tok}
 use Rattle.kf_lex.specs.declared.token.Tok.TheVariants as tok
 use Rattle.kf_lex.specs.declared.token.Token.{Token}
-use Rattle.kf_lex.specs.Lexemes.{IsLexeme, IsLongest, IsNumber, Spells, greatest_number}
+use Rattle.kf_lex.specs.Lexemes.{IsLexeme, IsLongest, Spells, greatest_number}
 use Rattle.kf_lex.specs.Pieces.{IsBlank, IsOther, IsPiece}
 use Rattle.kf_lex.specs.Pieces as piece
 use Rattle.kf_lex.specs.Readings.{IsWrong, Reaches, Reads, WrongFrom, place}
@@ -15,6 +15,7 @@ use Rattle.kf_lex.specs.Readings as r
 use Rattle.kf_lex.proofs.FirstBytes.{Begins, blank_sort, clash, number_sort}
 use Rattle.kf_lex.proofs.SamePiece.{blank_no_token, lexeme_sort, same_blank, same_longest, same_piece}
 use Rattle.kf_lex.proofs.SameKind.{same_kind, spelled_sort}
+use Rattle.kf_lex.specs.Cuts.{IsNumber}
 
 begun : (n : ℕ) (text : List ℕ) → Begins n text → 0 < length text
 begun n text b = rw b.is (omega arith)

@@ -5,8 +5,7 @@ use Rattle.kf_ops.specs.contracts.row.Op.{the_type as op_type}
 use Rattle.kf_ops.specs.declared.row.Op.{Op}
 use Rattle.kf_lex.specs.contracts.token.Word.{the_type as word_type}
 use Rattle.kf_lex.specs.declared.token.Word.{Word}
-use Rattle.kf_lex.specs.Words.{word_in}
-use Rattle.kf_lex.specs.Operators.{op_in}
+use Rattle.kf_lex.specs.Operators.{op_in, word_in}
 
 module _ {Y : Type 0} (pairs : List (Op × Word)) (i : ℕ) (d : Op × Word) (within : i < length pairs) where
   passed_by : (seek : List (Op × Word) → Option Y) (whole : Option Y) → seek (get_or pairs i d ∷ drop (suc i) pairs) ≡ seek (drop (suc i) pairs)

@@ -12,8 +12,8 @@ use Rattle.kf_ops.proofs.EachRow.{row_at}
 use Rattle.kf_lex.specs.contracts.token.Word.{the_type}
 use Rattle.kf_lex.specs.declared.token.Word.{Word}
 use Rattle.kf_lex.specs.Laws.{HaveOneText}
-use Rattle.kf_lex.specs.Operators.{op_of}
-use Rattle.kf_lex.specs.Words.{operator_with, operator_word, own_word, own_words, reserved, word_of}
+use Rattle.kf_lex.specs.Operators.{op_of, operator_word, own_word}
+use Rattle.kf_lex.specs.Words.{operator_with, own_words, reserved, word_of}
 
 abbrev letters_in : List (List ℕ × Word) → Word → List ℕ
 letters_in [] w = []

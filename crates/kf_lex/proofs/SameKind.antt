@@ -14,12 +14,13 @@ use Rattle.kf_lex.specs.declared.token.Tok.{Tok}
 use Rattle.kf_lex.specs.declared.token.Tok.TheVariants as tok
 use Rattle.kf_lex.specs.declared.token.Word.{Word}
 use Rattle.kf_lex.specs.Cuts.{first_sign}
-use Rattle.kf_lex.specs.Words.{operator_with, operator_word, own_words, own_word, reserved, sign_text, word_of}
+use Rattle.kf_lex.specs.Words.{operator_with, own_words, reserved, sign_text, word_of}
 use Rattle.kf_lex.specs.Lexemes.{IsWord, Spells}
 use Rattle.kf_lex.specs.Laws.{AreOperatorsReserved}
 use Rattle.kf_lex.proofs.Both.{and_first, and_second}
 use Rattle.kf_lex.proofs.SignSearch.{found_again}
 use Rattle.kf_lex.proofs.FirstBytes.{Begins, number_sort, same_sort, sign_sort, sort, word_sort}
+use Rattle.kf_lex.specs.Operators.{operator_word, own_word}
 
 same_sign : (s t : Sign) (text : List ℕ) → text ≡ sign_text s → text ≡ sign_text t → s ≡ t
 same_sign s t text e f =

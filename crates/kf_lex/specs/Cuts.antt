@@ -3,6 +3,7 @@ use Rattle.std.specs.Prelude.{◌≡◌, ◌+◌, ◌≤◌, ◌⊎◌, ◌==◌
 use Rattle.std.specs.Char.{IsScalar, encode_utf8}
 use Rattle.std.specs.List.{AllByRecursion, starts_with}
 use Rattle.std.specs.Str.{IsUtf8, all_scalars, encode_utf8_all}
+use Rattle.std.specs.Str.Parse.{IsNumeral}
 use Rattle.kf_lex.specs.declared.cuts.Cut.{Cut}
 use Rattle.kf_lex.specs.declared.cuts.Piece.{Piece}
 use Rattle.kf_lex.specs.declared.cuts.Piece.TheVariants as piece
@@ -12,7 +13,7 @@ use Rattle.kf_lex.specs.declared.token.Sign.{Sign}
 use Rattle.kf_lex.specs.declared.token.Tok.{Tok}
 use Rattle.kf_lex.specs.declared.token.Token.{Token}
 use Rattle.kf_lex.specs.Words.{sign_text}
-use Rattle.kf_lex.specs.Lexemes.{IsLongest, IsNumber, IsWord, Spells}
+use Rattle.kf_lex.specs.Lexemes.{IsLongest, IsWord, Spells}
 use Rattle.kf_lex.specs.Pieces.{IsBlank, IsOther}
 use Rattle.kf_lex.specs.Readings.{IsFault, WrongFrom, IsWrong, place}
 
@@ -43,6 +44,10 @@ pub record IsRun (p : ℕ → Bool) (text front rest : List ℕ) : Type 0 where
   pub passes : AllByRecursion (λ c. p c ≡ true) chars
   pub utf8 : IsUtf8 rest
   pub stops : (c : ℕ) (more : List ℕ) → IsScalar c → rest ≡ encode_utf8 c ++ more → p c ≡ false
+
+-- one decimal digit or more
+abbrev pub IsNumber : List ℕ → Type 0
+IsNumber text = IsNumeral 10 text
 
 -- the text is a piece of this kind where rest follows
 abbrev pub IsOfKind : Piece → List ℕ → List ℕ → Type 0
@@ -90,3 +95,7 @@ IsFirstWrong text e = WrongFrom 0 text e × ((f : LexError) → WrongFrom 0 text
 abbrev pub IsFaultOrMem : List ℕ → LexError → Type 0
 IsFaultOrMem src fault.Mem = Unit {0}
 IsFaultOrMem src e = IsFault src e
+
+-- a sign
+abbrev pub IsSign : List ℕ → Type 0
+IsSign text = (s : Sign) × (text ≡ sign_text s)

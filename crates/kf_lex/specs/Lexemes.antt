@@ -9,14 +9,6 @@ use Rattle.kf_lex.specs.declared.token.Tok.{Tok}
 use Rattle.kf_lex.specs.declared.token.Tok.TheVariants as tok
 use Rattle.kf_lex.specs.Words.{sign_text, reserved}
 
--- a sign
-abbrev pub IsSign : List ℕ → Type 0
-IsSign text = (s : Sign) × (text ≡ sign_text s)
-
--- one decimal digit or more
-abbrev pub IsNumber : List ℕ → Type 0
-IsNumber text = IsNumeral 10 text
-
 -- the greatest number of a source
 abbrev pub greatest_number : ℕ
 greatest_number = 1000000000
@@ -35,9 +27,9 @@ pub record IsWordOf (c : ℕ) (cs : List ℕ) : Type 0 where
 abbrev pub IsWord : List ℕ → Type 0
 IsWord text = (c : ℕ) × (cs : List ℕ) × IsWordOf c cs × (text ≡ encode_utf8_all (c ∷ cs))
 
--- what has the shape of a token; a number may be of any size
+-- what has the shape of a token: a sign, one decimal digit or more, or a word; a number may be of any size
 abbrev pub IsLexeme : List ℕ → Type 0
-IsLexeme text = IsSign text ⊎ IsNumber text ⊎ IsWord text
+IsLexeme text = ((s : Sign) × (text ≡ sign_text s)) ⊎ IsNumeral 10 text ⊎ IsWord text
 
 -- a lexeme with which these bytes begin, and no longer front of them is one
 pub record IsLongest (text rest : List ℕ) : Type 0 where
@@ -47,6 +39,6 @@ pub record IsLongest (text rest : List ℕ) : Type 0 where
 -- the texts that a kind of token has
 abbrev pub Spells : Tok → List ℕ → Type 0
 Spells (tok.Sign s) text = text ≡ sign_text s
-Spells (tok.Number n) text = IsNumber text × (digits_value 10 text ≡ n) × (n ≤ greatest_number)
+Spells (tok.Number n) text = IsNumeral 10 text × (digits_value 10 text ≡ n) × (n ≤ greatest_number)
 Spells (tok.Word w) text = reserved text ≡ Some w
 Spells tok.Name text = IsWord text × (reserved text ≡ None)

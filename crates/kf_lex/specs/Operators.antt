@@ -1,13 +1,17 @@
 -- For bodies: the operator whose word a token spells.
 use denote.Enum.Bare.{sameb}
-use Rattle.std.specs.Prelude.{List, [], ◌∷◌, Option, Some, None, if◌then◌else◌}
+use Rattle.std.specs.Prelude.{List, [], ◌∷◌, Option, Some, None, if◌then◌else◌, ℕ}
+use Rattle.std.specs.Map.{lookup}
+use Rattle.std.specs.Option.{option_and_then}
+use Rattle.std.specs.Str.{bytes_eq}
 use Rattle.kf_ops.specs.Rows.{operators}
 use Rattle.kf_ops.specs.declared.row.Op.{Op}
+use Rattle.kf_ops.specs.contracts.row.Op.{the_type as op_type}
 use Rattle.kf_lex.specs.contracts.token.Word.{the_type}
 use Rattle.kf_lex.specs.declared.token.Tok.{Tok}
 use Rattle.kf_lex.specs.declared.token.Tok.TheVariants as tok
 use Rattle.kf_lex.specs.declared.token.Word.{Word}
-use Rattle.kf_lex.specs.Words.{operator_with, operator_words, sign_text}
+use Rattle.kf_lex.specs.Words.{operator_with, operator_words, sign_text, word_of, own_words}
 
 -- the operator that the list pairs with the word
 abbrev pub op_in : List (Op × Word) → Word → Option Op
@@ -23,3 +27,15 @@ operator_of tok.Name = None
 operator_of (tok.Number n) = None
 operator_of (tok.Word w) = op_of w
 operator_of (tok.Sign s) = operator_with operators (sign_text s)
+
+-- the word that the list pairs with the operator
+abbrev pub word_in : List (Op × Word) → Op → Option Word
+word_in pairs o = lookup (λ code. sameb op_type code o) pairs
+
+-- the word of that operator
+abbrev pub operator_word : List ℕ → Option Word
+operator_word text = option_and_then word_of (operator_with operators text)
+
+-- the reserved word with these letters that is no operator
+abbrev pub own_word : List ℕ → Option Word
+own_word text = lookup (λ letters. bytes_eq letters text) own_words

@@ -2,11 +2,11 @@
 use Rattle.std.specs.Prelude.{◌≡◌, ◌<◌, ◌≤◌, ◌+◌, ℕ, List, [], ◌∷◌, ◌++◌, length, take}
 use Rattle.std.specs.Str.{IsUtf8, IsValidUpTo}
 use Rattle.std.specs.Str.Lossy.{utf8_valid_len}
-use Rattle.std.specs.Str.Parse.{digits_value}
+use Rattle.std.specs.Str.Parse.{IsNumeral, digits_value}
 use Rattle.kf_lex.specs.declared.token.LexError.{LexError}
 use Rattle.kf_lex.specs.declared.token.LexError.TheVariants as fault
 use Rattle.kf_lex.specs.declared.token.Token.{Token}
-use Rattle.kf_lex.specs.Lexemes.{IsNumber, IsLongest, Spells, greatest_number}
+use Rattle.kf_lex.specs.Lexemes.{IsLongest, Spells, greatest_number}
 use Rattle.kf_lex.specs.Pieces.{IsBlank, IsOther, IsPiece}
 
 -- the text, which stands at this place of the source, has these tokens and blanks between them
@@ -46,7 +46,7 @@ place fault.Mem = 0
 -- this piece is wrong: it begins no token, or it is a number that is too great
 abbrev pub IsWrong : LexError → List ℕ → List ℕ → Type 0
 IsWrong (fault.Char at) piece rest = IsOther piece rest
-IsWrong (fault.Number at) piece rest = IsLongest piece rest × IsNumber piece × (greatest_number < digits_value 10 piece)
+IsWrong (fault.Number at) piece rest = IsLongest piece rest × IsNumeral 10 piece × (greatest_number < digits_value 10 piece)
 IsWrong (fault.Utf8 at) piece rest = ⊥
 IsWrong fault.Mem piece rest = ⊥
 

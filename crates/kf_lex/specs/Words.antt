@@ -12,6 +12,7 @@ use Rattle.kf_lex.specs.declared.token.Sign.{Sign}
 use Rattle.kf_lex.specs.declared.token.Sign.TheVariants as sign
 use Rattle.kf_lex.specs.declared.token.Word.{Word}
 use Rattle.kf_lex.specs.declared.token.Word.TheVariants as word
+use mathlib.Core.List.{foldr}
 
 -- the bytes of each sign
 abbrev pub sign_text : Sign → List ℕ
@@ -55,28 +56,14 @@ operator_words =
     ∷ (op.Implies, word.ImpliesWord) ∷ (op.Subset, word.SubsetWord) ∷ (op.Min, word.MinWord) ∷ (op.Max, word.MaxWord)
     ∷ (op.Abs, word.AbsWord) ∷ []
 
--- the word that the list pairs with the operator
-abbrev pub word_in : List (Op × Word) → Op → Option Word
-word_in [] o = None
-word_in (pair ∷ pairs) o = if sameb the_type pair.0 o then Some pair.1 else word_in pairs o
-
 -- the word of an operator, where it is written with letters
 abbrev pub word_of : Op → Option Word
-word_of o = word_in operator_words o
+word_of o = lookup (λ code. sameb the_type code o) operator_words
 
 -- the operator of the first row with these letters
 abbrev pub operator_with : List Row → List ℕ → Option Op
-operator_with [] text = None
-operator_with (row ∷ rows) text = if bytes_eq row.word text then Some row.code else operator_with rows text
-
--- the word of that operator
-abbrev pub operator_word : List ℕ → Option Word
-operator_word text = option_and_then word_of (operator_with operators text)
-
--- the reserved word with these letters that is no operator
-abbrev pub own_word : List ℕ → Option Word
-own_word text = lookup (λ letters. bytes_eq letters text) own_words
+operator_with rows text = foldr (λ (row : Row) later. if bytes_eq row.word text then Some row.code else later) None rows
 
 -- the reserved word with these letters, if there is one
 unfoldable pub reserved : List ℕ → Option Word
-reserved text = option_or (own_word text) (operator_word text)
+reserved text = option_or (lookup (λ letters. bytes_eq letters text) own_words) (option_and_then word_of (operator_with operators text))

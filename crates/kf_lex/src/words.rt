@@ -1,8 +1,8 @@
 //! How signs and reserved words are written.
 
 ghost use Rattle.std.specs.Prelude.{◌≡◌, Option};
-ghost use Rattle.kf_lex.specs.Operators.{op_of, operator_of};
-ghost use Rattle.kf_lex.specs.Words.{operator_with, operator_word, own_word, reserved, sign_text, word_of};
+ghost use Rattle.kf_lex.specs.Operators.{op_of, operator_of, operator_word, own_word};
+ghost use Rattle.kf_lex.specs.Words.{operator_with, reserved, sign_text, word_of};
 ghost use Rattle.kf_ops.specs.Rows.{operators};
 
 use crate::token::{Sign, Tok, Word};

@@ -15,8 +15,8 @@ use Rattle.kf_column.specs.Hypers.{Inner}
 use Rattle.kf_lines.specs.LineTexts.{lines_text}
 use Rattle.kf_lines.specs.Outcome.{LinesIn, LinesUnder, TaskLines}
 use Rattle.kf_lines.specs.Sites.{program_sites}
-use Rattle.kf_lines.specs.Summaries.{AreLines, IsSummary, LineTree, SummaryTree}
-use Rattle.kf_lines.specs.Views.{LinesAfter}
+use Rattle.kf_lines.specs.Summaries.{LineTree}
+use Rattle.kf_lines.specs.Views.{AreLines, LinesAfter}
 use Rattle.kf_load.specs.Readings.{WasRead}
 use Rattle.kf_load.specs.Steps.{After, Gives, Step, refusal}
 use Rattle.kf_load.specs.Stops as load
@@ -31,7 +31,9 @@ use Rattle.kf_top.specs.declared.refusal.Done.{Done}
 use Rattle.kf_top.specs.declared.refusal.Stop.{Stop}
 use Rattle.kf_top.proofs.Readings.{files_next, files_stop, leak_tables, lift_fails, some_files}
 use Rattle.kf_top.proofs.Steps.{first_stops, lift_stops, next_answers}
-use Rattle.kf_words.specs.Task.{Leak, on_file, tables_of}
+use Rattle.kf_words.specs.Task.{Leak, tables_of}
+use Rattle.kf_words.specs.OfWords.{on_file}
+use Rattle.kf_quiet.specs.Summaries.{SummaryTree, IsSummary}
 
 -- ---- the lines of a program
 

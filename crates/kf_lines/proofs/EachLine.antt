@@ -14,8 +14,8 @@ use Rattle.kf_gain.proofs.Turning.{width_is}
 use Rattle.kf_column.specs.Hypers.{Inner}
 use Rattle.kf_lines.specs.Sites as spec
 use Rattle.kf_lines.specs.Sites.{sites as sites_of_statement, under}
-use Rattle.kf_lines.specs.Summaries.{AreLines, LineTree}
-use Rattle.kf_lines.specs.Views.{AreLinesIn, IsLineIn, IsNarrowIn, ShowLines, site_of}
+use Rattle.kf_lines.specs.Summaries.{LineTree}
+use Rattle.kf_lines.specs.Views.{AreLinesIn, IsLineIn, IsNarrowIn, ShowLines, site_of, AreLines}
 use Rattle.kf_lines.specs.declared.site.Site.{Site}
 use Rattle.kf_lines.specs.declared.summary.Line.{Line}
 use Rattle.kf_lines.proofs.Walking.{block_end, block_parts, left_sites}
@@ -23,7 +23,8 @@ use Rattle.kf_load.specs.Views.{program_in}
 use Rattle.kf_run.specs.Before.{IsBefore, cleared_before, place_before}
 use Rattle.kf_run.specs.declared.before.Before.{Before}
 use Rattle.kf_quiet.specs.SilentLaws.{SilentWidth}
-use Rattle.kf_silent.specs.Silent.{Path, only, silent_joint}
+use Rattle.kf_silent.specs.Silent.{Path, silent_joint}
+use Rattle.kf_silent.specs.Paths.{only}
 use Rattle.kf_support.specs.Cleared.{program_of, turns_of, whole_scale}
 use Rattle.kf_support.specs.declared.cleared.Cleared.{Cleared}
 

@@ -1,7 +1,8 @@
 -- What the words of `lines` ask for, and how its call ends.
 use Rattle.std.proofs.Common.{◌≡◌, ℕ, List, [], Option, None, Some, Err, refl, sym, subst}
-use Rattle.kf_lines.specs.Outcome.{LinesOutcome, SomeLines, TaskLines}
+use Rattle.kf_lines.specs.Outcome.{LinesOutcome, TaskLines}
 use Rattle.kf_lines.specs.Words.{lines_task}
+use Rattle.kf_lines.specs.Views.{SomeLines}
 use Rattle.kf_top.specs.Answer.{usage}
 use Rattle.kf_top.specs.Ends.{CausesOf, Sunk}
 use Rattle.kf_words.specs.Task.{Task}

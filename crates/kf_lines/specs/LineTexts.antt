@@ -1,22 +1,19 @@
 -- Believed: printed lines.
 use Rattle.std.specs.Prelude.{ℕ, List, ◌∷◌, ◌++◌, codes, decimal, flat_map}
 use Rattle.kf_frac.specs.Fractions.{fraction_text}
-use Rattle.kf_lines.specs.Summaries.{SummaryTree, LineTree}
+use Rattle.kf_lines.specs.Summaries.{LineTree}
 use Rattle.kf_load.specs.Place.{line_at, column_at}
 use Rattle.kf_text.specs.Texts.{line}
+use Rattle.kf_quiet.specs.Summaries.{SummaryTree}
 
 -- what it is a summary of, how many inners there are, and the posterior vulnerability over `whole`
 abbrev pub summary_line : ℕ → List ℕ → SummaryTree → List ℕ
 summary_line whole name s =
     line (name ++ (codes " inners " ++ (decimal s.inners ++ (codes " posterior " ++ fraction_text s.posterior whole))))
 
--- the line and the column of a byte
-abbrev pub place_text : List ℕ → ℕ → List ℕ
-place_text bytes at = decimal (line_at bytes at) ++ 58 ∷ decimal (column_at bytes at)
-
--- what is left where the statement that begins at this byte is silent
+-- what is left where the statement that begins at a byte is silent, with the line and the column of that byte
 abbrev pub line_text : List ℕ → ℕ → LineTree → List ℕ
-line_text bytes whole l = summary_line whole (place_text bytes l.at) l.left
+line_text bytes whole l = summary_line whole (decimal (line_at bytes l.at) ++ 58 ∷ decimal (column_at bytes l.at)) l.left
 
 -- the summary of the whole program, then that of each line
 abbrev pub lines_text : List ℕ → ℕ → SummaryTree → List LineTree → List ℕ

@@ -1,5 +1,6 @@
 -- Believed: the defined answer to the words of `lines` over files.
-use Rattle.std.specs.Prelude.{◌≡◌, ℕ, ◌*◌, List, [], ◌∷◌, Option, None, Some, Err}
+use Rattle.std.specs.Prelude.{◌≡◌, ℕ, ◌*◌, List, [], ◌∷◌, None, Some, Err}
+use Rattle.std.specs.List.{AllZip}
 use Rattle.kf_ast.specs.Sources.{SourceTree}
 use Rattle.kf_core.specs.Joint.{joint_of}
 use Rattle.kf_core.specs.Programs.{ProgramTree}
@@ -7,12 +8,13 @@ use Rattle.kf_core.specs.Scale.{scale_of}
 use Rattle.kf_gain.specs.Gains.{GainOf, TableTree, over_of}
 use Rattle.kf_lines.specs.LineTexts.{lines_text}
 use Rattle.kf_lines.specs.Sites.{program_sites}
-use Rattle.kf_lines.specs.Summaries.{SummaryTree, LineTree, IsSummary, AreLines}
+use Rattle.kf_lines.specs.Summaries.{LineTree, IsLine}
 use Rattle.kf_lines.specs.Words.{lines_task}
 use Rattle.kf_load.specs.Steps.{Step, After, Gives}
 use Rattle.kf_load.specs.Texts.{File, Text, TextOf, cleared}
 use Rattle.kf_top.specs.Answer.{GainIn, NarrowGain, Shown, prints, usage}
-use Rattle.kf_words.specs.Task.{Command, Leak, Task}
+use Rattle.kf_words.specs.Task.{Command, Leak}
+use Rattle.kf_quiet.specs.Summaries.{SummaryTree, IsSummary}
 
 -- of a text's bytes, its source and its program: how much is seen under a gain, and how much where each statement with a line alone is
 -- silent
@@ -20,7 +22,7 @@ abbrev pub LinesOf : ℕ → List ℕ → SourceTree → ProgramTree → GainOf 
 LinesOf turns bytes tree p g result =
     (all : SummaryTree) × (lines : List LineTree)
     × IsSummary g (joint_of turns p) all
-    × AreLines g turns p (program_sites tree p) lines
+    × AllZip (IsLine g turns p) (program_sites tree p) lines
     × (result ≡ prints (lines_text bytes (scale_of turns p * over_of g) all lines))
 
 -- no number of it passes 2^127 - 1: where statements are silent, the gain is as wide as on the whole program
@@ -37,10 +39,7 @@ abbrev pub TaskLines : Command → ℕ → List File → List File → Step Show
 TaskLines (Leak gain) turns (file ∷ []) tables = After (TextOf file) (LinesUnder gain turns tables)
 TaskLines command turns programs tables = Gives (Err usage)
 
-abbrev pub SomeLines : Option Task → List File → List File → Step Shown
-SomeLines None programs tables = Gives (Err usage)
-SomeLines (Some task) programs tables = TaskLines task.command task.turns programs tables
-
 -- what a run of these words over these files comes to
 abbrev pub LinesOutcome : List (List ℕ) → List File → List File → Step Shown
-LinesOutcome words programs tables = SomeLines (lines_task words) programs tables
+LinesOutcome words programs tables =
+    elim (lines_task words) [ None ↦ Gives (Err usage) | Some task ↦ TaskLines task.command task.turns programs tables ]

@@ -4,7 +4,7 @@ use Rattle.kf_ast.specs.Sources.{SourceTree, source}
 use Rattle.kf_ast.specs.Stmts.{StmtTree, StmtShape, StmtTrees, stmt_at, more_stmts, stmts}
 use Rattle.kf_ast.specs.Stmts as text
 use Rattle.kf_core.specs.Programs.{ProgramTree}
-use Rattle.kf_core.specs.Sts.{StTree, StTrees, Skip, Assign, Observe, If, While, more_sts, sts}
+use Rattle.kf_core.specs.Sts.{StTree, StTrees, Skip, Assign, If, While, more_sts, sts}
 use Rattle.kf_silent.specs.Silent.{Path}
 
 -- where a statement stands, and the byte of the text at which it begins
@@ -20,9 +20,7 @@ under i site = record { path = i ∷ site.path; at = site.at }
 abbrev pub may_show : StTree → Bool
 may_show Skip = false
 may_show (Assign i d visible) = visible
-may_show (Observe d) = true
-may_show (If d xs ys) = true
-may_show (While d xs) = true
+may_show s = true
 
 -- the site of a statement that begins at this byte, where it may show something
 abbrev pub own_sites : ℕ → StTree → List Site

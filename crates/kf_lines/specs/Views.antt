@@ -1,5 +1,5 @@
 -- For bodies: what the code's values show.
-use Rattle.std.specs.Prelude.{◌≡◌, ◌≤◌, ◌*◌, ◌++◌, ℕ, List, codes, decimal, flat_map}
+use Rattle.std.specs.Prelude.{◌≡◌, ◌≤◌, ◌*◌, ◌++◌, ℕ, List, codes, decimal, flat_map, ◌∷◌, Option, None, Some, Err}
 use Rattle.std.specs.List.{AllZip}
 use Rattle.kf_ast.specs.Sources.{SourceTree}
 use Rattle.kf_core.specs.Joint.{joint_of}
@@ -7,25 +7,27 @@ use Rattle.kf_core.specs.Programs.{ProgramTree}
 use Rattle.kf_frac.specs.Fractions.{limit}
 use Rattle.kf_frac.specs.Parts.{IsFraction}
 use Rattle.kf_gain.specs.Gains.{GainOf, TableTree, over_of}
-use Rattle.kf_load.specs.Steps.{After, Step}
-use Rattle.kf_load.specs.Texts.{File}
 use Rattle.kf_load.specs.Views.{program_in}
+use Rattle.kf_load.specs.Place.{line_at, column_at}
+use Rattle.kf_load.specs.Steps.{After, Gives, Step}
+use Rattle.kf_load.specs.Texts.{File}
 use Rattle.kf_silent.specs.Silent.{Path}
 use Rattle.kf_support.specs.Cleared.{turns_of, whole_scale}
 use Rattle.kf_support.specs.declared.cleared.Cleared.{Cleared}
 use Rattle.kf_text.specs.Texts.{line}
 use Rattle.kf_text.specs.Views.{own_text}
-use Rattle.kf_top.specs.Answer.{GainIn, HasWidth, Shown}
+use Rattle.kf_top.specs.Answer.{GainIn, HasWidth, Shown, usage}
 use Rattle.kf_words.specs.Jobs.{gain_of}
-use Rattle.kf_words.specs.Task.{Leak, Task, on_file}
-use Rattle.kf_lines.specs.LineTexts.{place_text}
-use Rattle.kf_lines.specs.Outcome.{LinesIn}
+use Rattle.kf_words.specs.Task.{Leak, Task}
+use Rattle.kf_words.specs.OfWords.{on_file}
 use Rattle.kf_lines.specs.Sites as spec
-use Rattle.kf_lines.specs.Summaries.{IsLine, LineTree, SummaryTree}
+use Rattle.kf_lines.specs.Summaries.{IsLine, LineTree}
 use Rattle.kf_lines.specs.declared.request.Request.{Request}
 use Rattle.kf_lines.specs.declared.site.Site.{Site}
 use Rattle.kf_lines.specs.declared.summary.Line.{Line}
 use Rattle.kf_lines.specs.declared.summary.Summary.{Summary}
+use Rattle.kf_lines.specs.Outcome.{LinesIn, TaskLines}
+use Rattle.kf_quiet.specs.Summaries.{SummaryTree}
 
 -- the task of `leak` that a request is
 abbrev pub task_of_request : Request → Task
@@ -73,11 +75,23 @@ IsNarrowIn cleared g = (m : ℕ) × HasWidth (joint_of (turns_of cleared) (progr
 abbrev pub own_line : List ℕ → Summary → List ℕ
 own_line name s = line (name ++ (codes " inners " ++ (decimal s.inners ++ (codes " posterior " ++ own_text s.posterior))))
 
+-- the line and the column of a byte
+abbrev pub place_text : List ℕ → ℕ → List ℕ
+place_text bytes at = decimal (line_at bytes at) ++ 58 ∷ decimal (column_at bytes at)
+
 abbrev pub own_text_of : List ℕ → Line → List ℕ
 own_text_of bytes l = own_line (place_text bytes l.at) l.left
 
 abbrev pub own_lines : List ℕ → Summary → List Line → List ℕ
 own_lines bytes all lines = own_line (codes "all") all ++ flat_map (own_text_of bytes) lines
+
+-- those of each site
+abbrev pub AreLines : GainOf TableTree → ℕ → ProgramTree → List spec.Site → List LineTree → Type 0
+AreLines g turns p sites lines = AllZip (IsLine g turns p) sites lines
+
+abbrev pub SomeLines : Option Task → List File → List File → Step Shown
+SomeLines found programs tables =
+    elim found [ None ↦ Gives (Err usage) | Some task ↦ TaskLines task.command task.turns programs tables ]
 
 -- ---- answers
 

@@ -12,7 +12,7 @@ ghost use Rattle.kf_top.specs.Stops.{Answers, IsOwn};
 ghost use Rattle.kf_top.specs.TaskAnswers.{AnswerTo, Counts, FilesAnswer, names_in};
 ghost use Rattle.kf_top.specs.Views.{shown};
 ghost use Rattle.kf_words.specs.Jobs.{HasTurns, gain_of};
-ghost use Rattle.kf_words.specs.Task.{named};
+ghost use Rattle.kf_words.specs.OfWords.{named};
 
 use crate::request::Request;
 use crate::summaries::{lines_of, summary_of};

@@ -1,11 +1,12 @@
 //! The printed lines.
 
 ghost use Rattle.std.specs.Prelude.{◌≡◌, ◌≤◌, ◌++◌, ℕ, List, IfOk, OnOk, codes, flat_map, length};
-ghost use Rattle.kf_lines.specs.LineTexts.{lines_text as text_of_lines, place_text};
-ghost use Rattle.kf_lines.specs.Summaries.{LineTree, SummaryTree};
+ghost use Rattle.kf_lines.specs.LineTexts.{lines_text as text_of_lines};
+ghost use Rattle.kf_lines.specs.Summaries.{LineTree};
 ghost use Rattle.kf_text.specs.Texts.{line};
 ghost use Rattle.kf_text.specs.Views.{own_text};
-ghost use Rattle.kf_lines.specs.Views.{ShowLines, ShowsSummary, own_line, own_text_of};
+ghost use Rattle.kf_lines.specs.Views.{ShowLines, ShowsSummary, own_line, own_text_of, place_text};
+ghost use Rattle.kf_quiet.specs.Summaries.{SummaryTree};
 
 use crate::summary::{Line, LineList, Summary};
 use kf_frac::Frac;

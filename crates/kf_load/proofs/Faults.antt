@@ -13,13 +13,14 @@ use Rattle.kf_parse.specs.Answers.{IsRefused}
 use Rattle.kf_ast.specs.Sources.{SourceTree}
 use Rattle.kf_check.specs.declared.errors.TypeError.{TypeError}
 use Rattle.kf_check.specs.declared.errors.TypeError.TheVariants as typing
-use Rattle.kf_check.specs.Sources.{IsBroken}
+use Rattle.kf_check.specs.Variables.{IsBroken}
 use Rattle.kf_core.specs.Programs.{ProgramTree}
 use Rattle.kf_core.specs.Runs.{Halted}
 use Rattle.kf_core.specs.Support.{StoreSet, program_pass}
 use Rattle.kf_core.specs.Scale.{scale_of as run_scale}
 use Rattle.kf_load.specs.Steps.{Refused, refusal}
-use Rattle.kf_load.specs.Texts.{Fault, Text, token_fault, syntax_fault, type_fault, bad_text, TokensOf, SourceOf, ProgramOf, bad_run, bytes_read, narrow, cleared, long_enough}
+use Rattle.kf_load.specs.Texts.{Fault, Text, token_fault, syntax_fault, type_fault, TokensOf, SourceOf, ProgramOf, cleared, long_enough}
+use Rattle.kf_load.specs.Refusals.{bad_text, bad_run, narrow, bytes_read}
 
 -- ---- bytes
 

@@ -6,7 +6,8 @@ use Rattle.std.proofs.lemmas.List.Elements.{filter-append}
 use Rattle.std.proofs.lemmas.List.Sums.{take_while-cons}
 use Rattle.std.proofs.lemmas.Grind.{common_steps}
 use Rattle.std.proofs.Math.Seq.{take-suc}
-use Rattle.kf_load.specs.Place.{is_line_feed, line_after, column_after}
+use Rattle.kf_load.specs.Place.{is_line_feed}
+use Rattle.kf_load.specs.Views.{line_after, column_after}
 
 abbrev in_line : ℕ → Bool
 in_line b = not (is_line_feed b)

@@ -5,8 +5,8 @@ use Rattle.std.proofs.lemmas.List.{length-replicate}
 use Rattle.kf_load.specs.Steps.{refusal}
 use Rattle.kf_load.specs.Stops.{ReadingFor, Told}
 use Rattle.kf_load.specs.declared.refusal.Stop.{Stop}
-use Rattle.kf_load.specs.Texts.{bytes_read}
 use Rattle.kf_load.proofs.Faults.{is_long_file}
+use Rattle.kf_load.specs.Refusals.{bytes_read}
 
 -- bytes that files may tell, and of which there are too many
 pub record IsTooLong (told : Option (List ℕ → List ℕ)) (name bytes : List ℕ) : Type 0 where

@@ -10,7 +10,6 @@ use Rattle.kf_check.specs.Translation.{Typed}
 use Rattle.kf_core.specs.Checked.{IsChecked}
 use Rattle.kf_core.specs.Views.{program_tree}
 use Rattle.kf_io.specs.Faults.{Rose}
-use Rattle.kf_load.specs.Readings.{ReadAs}
 use Rattle.kf_load.specs.Steps as steps
 use Rattle.kf_load.specs.Steps.{Step}
 use Rattle.kf_load.specs.Texts.{File}
@@ -19,6 +18,7 @@ use Rattle.kf_load.specs.declared.refusal.Refusal.TheVariants as refusal
 use Rattle.kf_load.specs.declared.refusal.Stop.{Stop}
 use Rattle.kf_load.specs.declared.refusal.Stop.TheVariants as stop
 use Rattle.kf_load.specs.declared.text.Text.{Text}
+use Rattle.kf_load.specs.Refusals.{ReadAs}
 
 abbrev pub placed : ℕ → ℕ → List ℕ → List ℕ
 placed line column word = 58 ∷ decimal line ++ 58 ∷ decimal column ++ codes ": " ++ word

@@ -13,12 +13,12 @@ use Rattle.kf_parse.specs.declared.errors.ParseError.TheVariants as parsing
 use Rattle.kf_parse.specs.Answers.{IsParsed, IsRefused}
 use Rattle.kf_check.specs.declared.errors.TypeError.{TypeError}
 use Rattle.kf_check.specs.declared.errors.TypeError.TheVariants as typing
-use Rattle.kf_check.specs.Sources.{IsBroken}
+use Rattle.kf_check.specs.Sources.{JudgesSource}
 use Rattle.kf_check.specs.Translation.{Typed}
 use Rattle.kf_frac.specs.Fractions.{limit}
 use Rattle.kf_ops.specs.Values.{DivZero, ArithWide}
 use Rattle.kf_core.specs.Choices.{Arithmetic, NoWeight, NegativeWeight, RangeLong}
-use Rattle.kf_core.specs.Runs.{Cause, Choosing, OutOfRange, LoopBound, Halted}
+use Rattle.kf_core.specs.Runs.{Cause, Choosing, OutOfRange, LoopBound}
 use Rattle.kf_core.specs.Support.{program_pass}
 use Rattle.kf_core.specs.Scale.{scale_of as run_scale}
 use Rattle.kf_core.specs.Programs.{ProgramTree}
@@ -30,14 +30,12 @@ pub record File : Type 0 where
   pub name : List ℕ
   pub reading : Option (List ℕ)
 
--- the bytes of a reading, of which there are at most 1,048,576
-abbrev pub bytes_read : List ℕ → Option (List ℕ) → Result (List ℕ) Refused
-bytes_read name None = Err (refusal 3 name (codes ": read failed"))
-bytes_read name (Some bytes) =
-    if nat_le (length bytes) 1048576 then Ok bytes else Err (refusal 11 name (codes ": longer than 1048576 bytes"))
-
+-- the bytes of a file, of which there are at most 1,048,576
 abbrev pub source_of : File → Result (List ℕ) Refused
-source_of file = bytes_read file.name file.reading
+source_of file = elim file.reading [
+  | None ↦ Err (refusal 3 file.name (codes ": read failed"))
+  | Some bytes ↦ if nat_le (length bytes) 1048576 then Ok bytes else Err (refusal 11 file.name (codes ": longer than 1048576 bytes"))
+]
 
 -- the line and the column of a byte, and the word of what is wrong there
 abbrev pub placed : List ℕ → ℕ → List ℕ → List ℕ
@@ -50,9 +48,6 @@ pub record Fault : Type 0 where
 
 abbrev pub fault : List ℕ → ℕ → Fault
 fault word at = record { word = word; at = at }
-
-abbrev pub bad_text : List ℕ → List ℕ → Fault → Refused
-bad_text name bytes f = refusal 5 name (placed bytes f.at f.word)
 
 -- faults of characters and numbers; want of memory is none
 abbrev pub token_fault : LexError → Option Fault
@@ -87,7 +82,7 @@ pub record IsBad {E : Type 0} (IsError : E → Type 0) (fault_of : E → Option 
   pub is_error : IsError error
   pub fault : Fault
   pub has : fault_of error ≡ Some fault
-  pub is : r ≡ bad_text name bytes fault
+  pub is : r ≡ refusal 5 name (placed bytes fault.at fault.word)
 
 -- the tokens of a text, or its first bad character or number
 abbrev pub TokensOf : List ℕ → List ℕ → Step (List Token)
@@ -102,7 +97,7 @@ SourceOf name bytes tokens (Err r) = IsBad (IsRefused bytes tokens) syntax_fault
 -- the checked program that a source is, or its first broken type rule
 abbrev pub ProgramOf : List ℕ → List ℕ → SourceTree → Step ProgramTree
 ProgramOf name bytes tree (Ok p) = Typed tree p
-ProgramOf name bytes tree (Err r) = IsBad (IsBroken tree) type_fault name bytes r
+ProgramOf name bytes tree (Err r) = IsBad (λ e. JudgesSource tree (Some e)) type_fault name bytes r
 
 -- a file's name, its bytes, and the source and the program that they are
 pub record Text : Type 0 where
@@ -134,18 +129,11 @@ cause_word (Choosing RangeLong) = codes "RangeLong"
 cause_word OutOfRange = codes "OutOfRange"
 cause_word LoopBound = codes "LoopBound"
 
-abbrev pub bad_run : List ℕ → List ℕ → Halted → Refused
-bad_run name bytes f = refusal 6 name (placed bytes f.at (cause_word f.cause))
-
--- a program whose scale is at most 2^127 - 1
-abbrev pub narrow : List ℕ → ℕ → ProgramTree → Result ProgramTree Refused
-narrow name scale p = if nat_le scale limit then Ok p else Err (refusal 7 name (codes ": scale passes 2^127 - 1"))
-
--- the program of a text, if it meets no fault and its scale isn't too wide; or its first fault
+-- the program of a text, if it meets no fault and its scale is at most 2^127 - 1; or its first fault
 unfoldable pub cleared : ℕ → Text → Result ProgramTree Refused
 cleared turns t = elim (program_pass turns t.program) [
-  | Ok ns ↦ narrow t.name (run_scale turns t.program) t.program
-  | Err f ↦ Err (bad_run t.name t.bytes f)
+  | Ok ns ↦ if nat_le (run_scale turns t.program) limit then Ok t.program else Err (refusal 7 t.name (codes ": scale passes 2^127 - 1"))
+  | Err f ↦ Err (refusal 6 t.name (placed t.bytes f.at (cause_word f.cause)))
 ]
 
 -- a program of at least so many statements at its top level

@@ -1,5 +1,6 @@
 ghost use Rattle.std.specs.Prelude.{◌≡◌, ◌≤◌, length};
-ghost use Rattle.kf_load.specs.Place.{line_after, column_after, line_at, column_at};
+ghost use Rattle.kf_load.specs.Place.{line_at, column_at};
+ghost use Rattle.kf_load.specs.Views.{line_after, column_after};
 
 // The line and the column after these bytes.
 fn after(bytes: &[u8]) -> (u32, u32)

@@ -13,11 +13,12 @@ use Rattle.kf_value.specs.Values.{ValueTree, Truth, Whole, whole}
 use Rattle.kf_value.proofs.Ascending.{length-values, values_ascend}
 use Rattle.kf_core.specs.Choices.{Weighted, Chosen, RangeLong, once, some_of, gathered, lowest, choices, total}
 use Rattle.kf_core.specs.Dxs.{DxShape, UniformRange, Choose, case_of}
-use Rattle.kf_core.specs.Exs.{ExTree, Const, Slot, Apply, exs}
+use Rattle.kf_core.specs.Exs.{ExTree, Const, Slot, Apply}
 use Rattle.kf_core.specs.Results.{then_ok}
-use Rattle.kf_core.specs.Runs.{Tried, tried, placed_at, place, store_at}
+use Rattle.kf_core.specs.Runs.{Tried, tried, place, store_at}
 use Rattle.kf_core.proofs.Measures.{Full}
 use Rattle.kf_core.proofs.Plain.{plain_choices}
+use Rattle.kf_core.specs.Each.{placed_at, exs}
 use Rattle.kf_make.specs.Made.{parity, noisy_parity}
 
 -- ---- two numbers with four parts

@@ -13,11 +13,13 @@ use Rattle.kf_core.specs.Choices.{Weighted, Chosen, once}
 use Rattle.kf_core.specs.Dxs.{DxTree, dx_at, UniformRange}
 use Rattle.kf_core.specs.Exs.{Const}
 use Rattle.kf_core.specs.Sts.{Observe, sts}
-use Rattle.kf_core.specs.Runs.{Run, Tried, placed_at, tried, store_at, branched, silent, shown, stay, moved, replaced, assigned, runs, all_runs, declared, copied, program_runs}
+use Rattle.kf_core.specs.Runs.{Run, Tried, tried, store_at, branched, stay, replaced, assigned, runs, all_runs, declared, copied, program_runs}
 use Rattle.kf_core.specs.SupportLaws.{CommonScaleIsLeast, ProgramAgrees}
 use Rattle.kf_core.proofs.Filled.{moved_some}
 use Rattle.kf_core.proofs.Measures.{Full}
 use Rattle.kf_core.proofs.Stores.{length-store, replaced_some}
+use Rattle.kf_core.specs.Each.{placed_at, moved}
+use Rattle.kf_core.specs.Leaks.{silent, shown}
 use Rattle.kf_make.specs.Laws.{MadeIsClear, MadeScale}
 use Rattle.kf_make.specs.Made.{noisy_parity, made_body, made_program}
 use Rattle.kf_make.proofs.Choosing.{HasFour, has_four, numbers, count_numbers, some_numbers, numbers_chosen, total_once}

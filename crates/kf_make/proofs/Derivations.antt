@@ -19,8 +19,8 @@ use Rattle.kf_parse.specs.Grammar.{IsName, IsNumber, IsWord, E, Operand}
 use Rattle.kf_parse.specs.Grammar as g
 use Rattle.kf_parse.specs.Programs.{Declaration, IsProgram, Statement, Statements}
 use Rattle.kf_parse.specs.Programs as p
-use Rattle.kf_make.specs.Making.{make_head, make_line, make_lines, make_source}
-use Rattle.kf_make.specs.Made.{made_cases, made_declaration, made_statement, made_statements, made_tree, number_at, parity_at}
+use Rattle.kf_make.specs.Making.{make_head, make_line, make_source}
+use Rattle.kf_make.specs.Made.{made_cases, made_declaration, made_statement, made_statements, made_tree, number_at, parity_at, make_lines}
 use Rattle.kf_make.proofs.Fragments.{token_at, tokens_of}
 use Rattle.kf_make.proofs.Tokens.{head_fragments, line_tokens, lines_tokens, made_tokens}
 

@@ -8,11 +8,11 @@ use Rattle.std.proofs.lemmas.Nat.Gcd.{dvd_refl, le_of_dvd}
 use Rattle.kf_value.specs.Values.{ValueTree}
 use Rattle.kf_value.proofs.ListLemmas.{each_flat_map, each_map, each_weaker}
 use Rattle.kf_core.specs.Choices.{Weighted, total}
-use Rattle.kf_core.specs.Runs.{Run, Halted, joined, onward, chain, choice_run, branched, stay}
-use Rattle.kf_core.specs.Scale.{common_scale}
+use Rattle.kf_core.specs.Runs.{Run, Halted, joined, chain, choice_run, branched, stay}
 use Rattle.kf_core.specs.SupportLaws.{AllEnd, CommonScaleIsLeast}
 use Rattle.kf_core.proofs.Measures.{Full}
 use Rattle.kf_core.proofs.Filled.{chain_full, branched_full}
+use Rattle.kf_core.specs.Each.{common_scale, onward}
 
 -- the run ends in a store, and this is its scale
 abbrev EndsOn : ℕ → Run → Type 0

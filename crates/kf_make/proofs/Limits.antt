@@ -4,8 +4,9 @@ use Rattle.std.specs.List.{flat_map}
 use Rattle.std.proofs.lemmas.Bool.Decides.{nat_tests}
 use Rattle.kf_lex.specs.declared.token.Token.{Token}
 use Rattle.kf_lex.proofs.Both.{and_first, and_second}
-use Rattle.kf_parse.specs.Depth.{IsShallow, Open, open_after, open_brackets, opened}
+use Rattle.kf_parse.specs.Depth.{IsShallow, Open, open_brackets, opened}
 use Rattle.kf_parse.specs.Sizes.{first_long, source_exprs, stmt_exprs}
+use Rattle.kf_parse.specs.Tokens.{open_after}
 use Rattle.kf_make.specs.Made.{made_statements, made_tree}
 use Rattle.kf_make.proofs.Tokens.{lines_tokens, made_tokens}
 

@@ -11,8 +11,9 @@ use Rattle.kf_lex.specs.Readings.{IsTokens, Reads}
 use Rattle.kf_lex.specs.Readings as r
 use Rattle.kf_lex.specs.Words.{reserved, sign_text}
 use Rattle.kf_lex.proofs.LongestCuts.{cut_sign}
-use Rattle.kf_make.specs.Making.{make_lines, make_source}
+use Rattle.kf_make.specs.Making.{make_source}
 use Rattle.kf_make.proofs.Fragments.{Fragment, gap, mark, name, number, word, read_all, tokens_of, utf8_of_all}
+use Rattle.kf_make.specs.Made.{make_lines}
 
 -- the reserved words of the made text, and that x is none
 pub var_reserved : reserved (codes "var") ≡ Some w.VarWord

@@ -1,5 +1,6 @@
 -- For bodies: the source and the program that the made text is.
 use Rattle.std.specs.Prelude.{◌≡◌, ◌≤◌, ℕ, zero, suc, ◌+◌, pos, false, List, [], ◌∷◌, codes}
+use Rattle.std.specs.List.{repeat}
 use Rattle.kf_value.specs.Types.{Range as number_range}
 use Rattle.kf_value.specs.Values.{Whole}
 use Rattle.kf_ast.specs.Names.{name}
@@ -9,12 +10,13 @@ use Rattle.kf_ast.specs.Dists.{CaseTree, case_of, dist_at, UniformRange, Choose}
 use Rattle.kf_ast.specs.Stmts.{StmtTree, stmt_at, Observe}
 use Rattle.kf_ast.specs.Sources.{DeclTree, declared, SourceTree, source}
 use Rattle.kf_core.specs.Exs as ex
+use Rattle.kf_core.specs.Each as each
 use Rattle.kf_core.specs.Dxs as dx
 use Rattle.kf_core.specs.Sts as st
 use Rattle.kf_core.specs.Programs.{ProgramTree}
 use Rattle.kf_ops.specs.declared.row.Op.TheVariants as op
 use Rattle.kf_ops.specs.Places.{number_of}
-use Rattle.kf_make.specs.Making.{make_source}
+use Rattle.kf_make.specs.Making.{make_source, make_line}
 
 abbrev pub number_at : ℕ → ℕ → ExprTree
 number_at at n = expr_at at (Number n)
@@ -49,14 +51,14 @@ made_tree count = source (made_declaration ∷ []) [] (made_statements 32 count)
 
 -- `x mod 2` where `x` is variable 0
 abbrev pub parity : ex.ExTree
-parity = ex.Apply (number_of op.Mod) (ex.exs (ex.Slot 0 ∷ ex.Const (Whole (pos 2)) ∷ []))
+parity = ex.Apply (number_of op.Mod) (each.exs (ex.Slot 0 ∷ ex.Const (Whole (pos 2)) ∷ []))
 
 -- what each line observes, where its line begins at this byte
 abbrev pub noisy_parity : ℕ → dx.DxTree
 noisy_parity at = dx.dx_at (at + 8)
     (dx.Choose (
     dx.case_of parity (ex.Const (Whole (pos 3)))
-    ∷ dx.case_of (ex.Apply (number_of op.Subtract) (ex.exs (ex.Const (Whole (pos 1)) ∷ parity ∷ []))) (ex.Const (Whole (pos 1)))
+    ∷ dx.case_of (ex.Apply (number_of op.Subtract) (each.exs (ex.Const (Whole (pos 1)) ∷ parity ∷ []))) (ex.Const (Whole (pos 1)))
     ∷ []
     ))
 
@@ -78,3 +80,6 @@ made_program count = record {
 pub record IsMade (count : ℕ) (text : List ℕ) : Type 0 where
   pub few : count ≤ 60
   pub is : text ≡ make_source count
+
+abbrev pub make_lines : ℕ → List ℕ
+make_lines count = repeat count make_line

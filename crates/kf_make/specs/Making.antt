@@ -1,5 +1,6 @@
 -- Believed: the text that `make` runs: six hidden bits, and so many noisy observations of their parity.
-use Rattle.std.specs.Prelude.{ℕ, zero, suc, List, [], ◌∷◌, ◌++◌, codes}
+use Rattle.std.specs.Prelude.{ℕ, List, [], ◌∷◌, ◌++◌, codes}
+use Rattle.std.specs.List.{repeat}
 
 -- 64 values, each alike
 abbrev pub make_head : List ℕ
@@ -9,9 +10,5 @@ make_head = codes "var x : 0..63 := uniform 0..63;" ++ 10 ∷ []
 abbrev pub make_line : List ℕ
 make_line = codes "observe choose { x mod 2 : 3, 1 - x mod 2 : 1 };" ++ 10 ∷ []
 
-abbrev pub make_lines : ℕ → List ℕ
-make_lines zero = []
-make_lines (suc k) = make_line ++ make_lines k
-
 abbrev pub make_source : ℕ → List ℕ
-make_source count = make_head ++ make_lines count
+make_source count = make_head ++ repeat count make_line

@@ -9,11 +9,12 @@ use Rattle.std.proofs.lemmas.Str.{digit_value_digit}
 use Rattle.std.proofs.lemmas.Str.Parse.{IsNumeralModel, numerals_by_value, tells_digits, digits_value_short}
 use Rattle.kf_gain.specs.Gains.{GainOf, Bayes, Tries, Guessing, Table}
 use Rattle.kf_words.specs.Arguments.{Arguments, arguments_of}
-use Rattle.kf_words.specs.GainWords.{gain_named, table_of, tries_of}
+use Rattle.kf_words.specs.GainWords.{gain_named}
 use Rattle.kf_words.specs.Jobs.{HasTurns}
 use Rattle.kf_words.specs.Laws.{TasksInRange}
 use Rattle.kf_words.specs.Numbers.{around, block_of, in_range, is_numeral, number_of, numeral_of, pair_of, probability_of, ratio_of, threshold_of}
-use Rattle.kf_words.specs.Task.{Command, Cascade, Parallel, Choice, Hyper, Traces, Channel, Trail, Capacity, Compose, Leak, Attack, Reach, Make, Refine, Check, Covers, Quiet, Blame, Task, CommandRow, but_last, check_row, commands, files_only, first_of, last_of, make_row, observations_of, on_files, options_fit, others_of, refine_row, row_of, row_task, task_of_arguments, task_of_values, turns_of, with_gain, with_pair}
+use Rattle.kf_words.specs.Task.{Command, Cascade, Parallel, Choice, Hyper, Traces, Channel, Trail, Capacity, Compose, Leak, Attack, Reach, Make, Refine, Check, Covers, Quiet, Blame, Task, CommandRow, but_last, check_row, commands, files_only, make_row, observations_of, on_files, options_fit, refine_row, row_of, row_task, task_of_values, turns_of, with_gain, with_pair}
+use Rattle.kf_words.specs.OfWords.{first_of, others_of, last_of, task_of_arguments, tries_of, table_of}
 use Rattle.kf_words.proofs.Numerals.{both}
 use Rattle.kf_words.proofs.TaskRanges.{given, mapped, passed, tested}
 use Rattle.kf_meaning.specs.Tasks.{EachTaskCanBeAsked, IsFor, IsGain}

@@ -1,5 +1,6 @@
 -- The last count of a trail bounds the number of the hyper's inners.
 use Rattle.std.proofs.Common.{◌≡◌, ℕ, ◌<◌, ◌≤◌, List, [], ◌∷◌, All, length, map, slice_get, Option, None, Some, refl, sym, ap, subst, ◌∙◌, arith}
+use Rattle.std.specs.Option.{unwrap_or}
 use Rattle.std.proofs.Math.ListN.{length-map}
 use Rattle.std.proofs.Math.Seq.{take-length}
 use Rattle.std.proofs.lemmas.List.Elements.{All-cons, All-nil}
@@ -129,7 +130,7 @@ module _ (turns : ℕ) (p : ProgramTree) (last : ℕ) (inners : List Inner) (are
   declared_by (d ∷ ds) is = declared_in p.types 0 d ds 0
 
   copied_by : (n : ℕ) (x : Option ℕ) → store_number p.types (carried p (store_at p.types n)) ≡ x → n < size
-      → (elim x [ Some m ↦ m | None ↦ n ]) < size
+      → unwrap_or x n < size
   copied_by n (Some m) is low = numbered p.types _ m is
   copied_by n None is low = low
 

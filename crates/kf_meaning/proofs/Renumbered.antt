@@ -14,11 +14,12 @@ use Rattle.kf_column.specs.Traces.{Row}
 use Rattle.kf_column.proofs.Proportions.{all_proportional, proportional_all}
 use Rattle.kf_column.proofs.Scaling.{two_ways}
 use Rattle.kf_column.proofs.Weights.{weight_at-cons, weight_at_other}
-use Rattle.kf_core.specs.Joint.{HasTrace, weight_of}
+use Rattle.kf_core.specs.Joint.{weight_of}
 use Rattle.kf_core.specs.Pushing.{carried_cells}
 use Rattle.kf_core.specs.Rows.{AreRowsOf}
 use Rattle.kf_core.specs.Runs.{stay}
 use Rattle.kf_core.proofs.Sums.{adds, sum_is}
+use Rattle.kf_core.specs.Each.{HasTrace}
 use Rattle.kf_push.proofs.Beginning.{SilentCells, one_silent_row}
 use Rattle.kf_push.proofs.Carrying.{Matrix, Runner}
 use Rattle.kf_push.proofs.CellWeights.{at_both, trace_weight_is, weighs, weight_is}

@@ -20,9 +20,11 @@ use Rattle.kf_core.specs.Dxs.{DxTree}
 use Rattle.kf_core.specs.Joint.{Cell, cell_of, cells, weight_of}
 use Rattle.kf_core.specs.Pushing.{carried_cells}
 use Rattle.kf_core.specs.Rows.{AreRowsOf}
-use Rattle.kf_core.specs.Runs.{Halted, LoopBound, Run, Tried, all_runs, assigned, branched, chain, choice_run, declared, guarded, joined, leaks, looped, moved, onward, place, replaced, runs, shown, silent, stay, stopped, store_number, tried}
+use Rattle.kf_core.specs.Runs.{Halted, LoopBound, Run, Tried, all_runs, assigned, branched, chain, choice_run, declared, guarded, joined, leaks, looped, place, replaced, runs, stay, stopped, store_number, tried}
 use Rattle.kf_core.specs.Sts.{StTree, StTrees, Skip, Assign, Observe, If, While, no_sts, more_sts}
 use Rattle.kf_core.proofs.Sums.{adds}
+use Rattle.kf_core.specs.Each.{moved, onward}
+use Rattle.kf_core.specs.Leaks.{silent, shown}
 use Rattle.kf_push.proofs.Carrying.{Matrix}
 use Rattle.kf_push.proofs.CellWeights.{at_both, weighs, weight_is}
 

@@ -8,10 +8,11 @@ use Rattle.std.specs.List.Sorted.{IsStrictlySortedBy}
 use Rattle.kf_value.specs.Values.{ValueTree, order}
 use Rattle.kf_value.specs.Laws.{IsIn}
 use Rattle.kf_ops.specs.Merging.{IsNext, is_kept}
-use Rattle.kf_ops.specs.Values.{are_in, is_in, without}
+use Rattle.kf_ops.specs.Values.{is_in}
 use Rattle.kf_ops.specs.declared.sets.Kept.TheVariants as kept
 use Rattle.kf_ops.proofs.Merging.{alone, stepped}
 use Rattle.kf_ops.proofs.SetLaws.{holds}
+use Rattle.kf_ops.specs.Sets.{are_in, without}
 
 abbrev none_left : List ValueTree → Bool
 none_left [] = true

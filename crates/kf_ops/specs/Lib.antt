@@ -7,5 +7,6 @@ pub mod Answers
 pub mod Fitting
 pub mod Laws
 pub mod Merging
+pub mod Sets
 pub mod Table
 pub mod Views

@@ -33,10 +33,6 @@ unary word level a result code = record {
 abbrev pub binary : List ℕ → ℕ → Pat → Pat → Pat → Op → Row
 binary word level a b result code = record (unary word level a result code) { arity = 2; args = a ∷ b ∷ pat.Nothing ∷ [] }
 
--- an operator of three arguments that has no faults
-abbrev pub ternary : List ℕ → ℕ → Pat → Pat → Pat → Pat → Op → Row
-ternary word level a b c result code = record (unary word level a result code) { arity = 3; args = a ∷ b ∷ c ∷ [] }
-
 -- the same operator, which has no value where the result isn't an i64
 abbrev pub may_be_wide : Row → Row
 may_be_wide r = record r { wide = true }
@@ -68,7 +64,7 @@ operators =
     ∷ binary (codes "inter") 6 pat.SetOfAny pat.SetOfAny pat.SetOfAny op.Inter
     ∷ may_be_wide (unary (codes "~") 7 pat.Int pat.Int op.Negate)
     ∷ unary (codes "size") 8 pat.SetOfAny pat.Int op.Size
-    ∷ ternary (codes "cond") 8 pat.Bool pat.Any pat.Any pat.Any op.Cond
+    ∷ record (unary (codes "cond") 8 pat.Bool pat.Any op.Cond) { arity = 3; args = pat.Bool ∷ pat.Any ∷ pat.Any ∷ [] }
     ∷ binary (codes "xor") 1 pat.Bool pat.Bool pat.Bool op.Xor
     ∷ binary (codes "implies") 1 pat.Bool pat.Bool pat.Bool op.Implies
     ∷ binary (codes "subset") 4 pat.SetOfAny pat.SetOfAny pat.Bool op.Subset

@@ -6,6 +6,7 @@ use Rattle.std.specs.Ordering.{int_eq, match_ordering}
 use Rattle.kf_value.specs.Values.{ValueTree, Truth, Whole, Set, parts, order, truth, whole, elements, is_equal}
 use Rattle.kf_ops.specs.declared.row.Op.{Op}
 use Rattle.kf_ops.specs.declared.row.Op.TheVariants as op
+use mathlib.Core.List.{foldr}
 
 -- why an operator has no value: a divisor of 0, or a result that is no i64
 pub data Fault : Type 0 where
@@ -16,10 +17,6 @@ pub data Fault : Type 0 where
 abbrev pub is_in : ValueTree → List ValueTree → Bool
 is_in v ws = list_any (is_equal v) ws
 
--- each value is one of the list
-abbrev pub are_in : List ValueTree → List ValueTree → Bool
-are_in vs ws = list_all (λ v. is_in v ws) vs
-
 -- an ascending list and one more value, which stands before the first greater one, unless the list has it
 abbrev pub inserted : ValueTree → List ValueTree → List ValueTree
 inserted v [] = v ∷ []
@@ -27,16 +24,7 @@ inserted v (w ∷ ws) = match_ordering (order v w) (v ∷ w ∷ ws) (w ∷ ws) (
 
 -- the elements of either set
 abbrev pub either : List ValueTree → List ValueTree → List ValueTree
-either [] ws = ws
-either (v ∷ vs) ws = inserted v (either vs ws)
-
--- the elements of the first set that aren't in the second
-abbrev pub without : List ValueTree → List ValueTree → List ValueTree
-without vs ws = filter (λ v. not (is_in v ws)) vs
-
--- the elements of both sets
-abbrev pub both : List ValueTree → List ValueTree → List ValueTree
-both vs ws = filter (λ v. is_in v ws) vs
+either vs ws = foldr inserted ws vs
 
 -- the number lies from -2^63 up to 2^63 - 1
 abbrev pub is_i64 : ℤ → Bool
@@ -66,17 +54,17 @@ row_value op.Elem a b c = Ok (Truth (is_in a (elements b)))
 row_value op.Add a b c = narrow (whole a +ℤ whole b)
 row_value op.Subtract a b c = narrow (whole a -ℤ whole b)
 row_value op.Union a b c = Ok (Set (parts (either (elements a) (elements b))))
-row_value op.Without a b c = Ok (Set (parts (without (elements a) (elements b))))
+row_value op.Without a b c = Ok (Set (parts (filter (λ v. not (is_in v (elements b))) (elements a))))
 row_value op.Multiply a b c = narrow (whole a *ℤ whole b)
 row_value op.Div a b c = divided_by (whole b) (narrow (int_div_euclid (whole a) (whole b)))
 row_value op.Mod a b c = divided_by (whole b) (Ok (Whole (int_rem_euclid (whole a) (whole b))))
-row_value op.Inter a b c = Ok (Set (parts (both (elements a) (elements b))))
+row_value op.Inter a b c = Ok (Set (parts (filter (λ v. is_in v (elements b)) (elements a))))
 row_value op.Negate a b c = narrow (neg_ℤ (whole a))
 row_value op.Size a b c = Ok (Whole (pos (length (elements a))))
 row_value op.Cond a b c = Ok (if truth a then b else c)
 row_value op.Xor a b c = Ok (Truth (if truth a then not (truth b) else truth b))
 row_value op.Implies a b c = Ok (Truth (truth b || not (truth a)))
-row_value op.Subset a b c = Ok (Truth (are_in (elements a) (elements b)))
+row_value op.Subset a b c = Ok (Truth (list_all (λ v. is_in v (elements b)) (elements a)))
 row_value op.Min a b c = Ok (Whole (int_min (whole a) (whole b)))
 row_value op.Max a b c = Ok (Whole (int_max (whole a) (whole b)))
 row_value op.Abs a b c = narrow (pos (unsigned_abs (whole a)))

@@ -5,8 +5,9 @@ ghost use Rattle.std.specs.List.Sorted.{IsStrictlySortedBy};
 ghost use Rattle.kf_value.specs.Values.{order, elements as elements_in};
 ghost use Rattle.kf_value.specs.Forms.{IsWellFormed};
 ghost use Rattle.kf_value.specs.Views.{value_tree, value_trees};
-ghost use Rattle.kf_ops.specs.Values.{are_in, is_in};
+ghost use Rattle.kf_ops.specs.Values.{is_in};
 ghost use Rattle.kf_ops.specs.Merging.{IsNext, is_kept, kept_of};
+ghost use Rattle.kf_ops.specs.Sets.{are_in};
 
 use crate::arguments::elements;
 use kf_value::{Mem, Value, ValueList, compare};

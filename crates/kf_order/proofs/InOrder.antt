@@ -5,9 +5,9 @@ use Rattle.std.specs.Ordering.{ordering_reverse}
 use Rattle.std.specs.List.{AllByRecursion as Each}
 use Rattle.std.specs.List.Sorted.{IsStrictlySortedBy}
 use Rattle.kf_column.specs.declared.entry.Entry.{Entry}
-use Rattle.kf_column.specs.Hypers.{list_order}
 use Rattle.kf_column.proofs.AtMostOne.{In, Ordered, same_lists}
 use Rattle.kf_column.proofs.Gathering.{list_total}
+use Rattle.kf_column.specs.Shapes.{list_order}
 
 -- ---- members and places
 

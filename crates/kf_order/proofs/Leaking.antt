@@ -27,7 +27,8 @@ use Rattle.kf_gain.specs.Vulnerabilities.{IsAverage, IsPrior, IsPosterior}
 use Rattle.kf_gain.specs.Worth.{IsVulnerability}
 use Rattle.kf_gain.proofs.Adding.{above_average}
 use Rattle.kf_gain.proofs.Measures.{order_times, some}
-use Rattle.kf_capacity.specs.Grids.{ChannelTree, column_in, denominator, greatest}
+use Rattle.kf_capacity.specs.Grids.{ChannelTree, column_in, denominator}
+use Rattle.kf_capacity.specs.Vulnerabilities.{greatest}
 use Rattle.kf_channel.specs.Channels.{AreSecrets}
 use Rattle.kf_core.specs.Joint.{Cell}
 use Rattle.kf_core.specs.Rows.{AreRowsOf, IsHyperOf}

@@ -8,12 +8,13 @@ use Rattle.kf_parse.specs.Trimmed.{Trimmed, trimmed}
 use Rattle.kf_parse.specs.Reading.{program}
 use Rattle.kf_parse.specs.Depth.{IsShallow}
 use Rattle.kf_parse.specs.Sizes.{source_exprs, first_long}
-use Rattle.kf_parse.specs.Answers.{IsParsed, IsSyntax, IsLong, place_in}
+use Rattle.kf_parse.specs.Answers.{IsParsed, IsSyntax, IsLong}
 use Rattle.kf_parse.proofs.Judging.{found, left_over, stuck_at}
 use Rattle.kf_parse.proofs.SinksPrograms.{not_deep}
 use Rattle.kf_parse.proofs.TrimSteps.{mapped}
 use Rattle.kf_parse.proofs.TrimTrees.{trim_source, program_trimmed}
 use Rattle.kf_parse.proofs.TrimLong.{trim_long, trim_whole}
+use Rattle.kf_parse.specs.Begins.{place_in}
 
 -- whole trees of which this was read
 record Whole (o : Outcome SourceTree) (v : Trimmed SourceTree) (rest : List Token) : Type 0 where

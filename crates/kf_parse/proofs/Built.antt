@@ -11,12 +11,13 @@ use Rattle.kf_ast.specs.Dists.{CaseTree, case_of, DistTree}
 use Rattle.kf_ast.specs.Stmts.{StmtTree, stmts}
 use Rattle.kf_ast.specs.Sources.{DeclTree, declared}
 use Rattle.kf_ast.specs.Built.{type_count, IsTypeBuilt, AreTypesBuilt, expr_count, IsBuilt, AreBuilt, AreCasesBuilt, IsDistBuilt, IsStmtBuilt, AreStmtsBuilt, AreDeclsBuilt, AreListedBuilt}
-use Rattle.kf_parse.specs.Operators.{IsBetween, IsBefore, row_of, arity_of}
+use Rattle.kf_parse.specs.Operators.{IsBetween, IsBefore, arity_of}
 use Rattle.kf_parse.specs.Grammar as g
 use Rattle.kf_parse.specs.Grammar.{Parts, E, Chain, Operand, Others, TypeOf, OtherTypes, Case, OtherCases, Dist}
 use Rattle.kf_parse.specs.Programs as p
 use Rattle.kf_parse.specs.Programs.{Statement, Block, Statements, Declaration, Declarations}
 use Rattle.kf_parse.specs.Laws.{OnlyBuilt}
+use Rattle.kf_parse.specs.OperatorTokens.{row_of}
 
 -- ---- operators
 

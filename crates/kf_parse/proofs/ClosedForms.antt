@@ -9,8 +9,8 @@ use Rattle.kf_lex.specs.declared.token.Word.TheVariants as w
 use Rattle.kf_lex.specs.declared.token.Sign.TheVariants as s
 use Rattle.kf_ast.specs.TypeForms.{TypeForm}
 use Rattle.kf_ast.specs.Sources.{ItemTree}
-use Rattle.kf_parse.specs.Operators.{row_of, arity_of}
-use Rattle.kf_parse.specs.OperatorTokens.{infix_op, prefix_op, called_op}
+use Rattle.kf_parse.specs.Operators.{arity_of}
+use Rattle.kf_parse.specs.OperatorTokens.{infix_op, prefix_op, called_op, row_of}
 use Rattle.kf_parse.specs.Grammar.{named}
 use Rattle.kf_parse.specs.Tokens.{is}
 use Rattle.kf_parse.specs.Outcomes.{Parser, pure}

@@ -5,11 +5,12 @@ use Rattle.kf_ast.specs.Sources.{SourceTree}
 use Rattle.kf_parse.specs.Outcomes.{Outcome, got}
 use Rattle.kf_parse.specs.Plain.{plain}
 use Rattle.kf_parse.specs.Reading as r
-use Rattle.kf_parse.specs.Depth.{open_after, open_brackets}
+use Rattle.kf_parse.specs.Depth.{open_brackets}
 use Rattle.kf_parse.specs.Laws.{ClosesAll}
 use Rattle.kf_parse.proofs.Sinks.{Leveled, Passed}
 use Rattle.kf_parse.proofs.SinksPrograms.{program_balanced}
 use Rattle.kf_parse.proofs.TakesPrograms.{program_takes}
+use Rattle.kf_parse.specs.Tokens.{open_after}
 
 all_passed : (ts : List Token) → Passed 0 0 ts [] → (n : ℕ) → open_after (open_brackets n) ts ≡ open_brackets n
 all_passed ts h n = ap (open_after (open_brackets n)) (h.whole ∙ append-nil h.front) ∙ h.back n

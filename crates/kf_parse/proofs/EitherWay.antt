@@ -8,10 +8,11 @@ use Rattle.kf_parse.specs.Outcomes.{Outcome, got, stuck, deep}
 use Rattle.kf_parse.specs.Trimmed.{Trimmed, trimmed}
 use Rattle.kf_parse.specs.Reading.{program}
 use Rattle.kf_parse.specs.Depth.{IsShallow, open_brackets}
-use Rattle.kf_parse.specs.Answers.{IsParsed, IsRefused, place_in}
+use Rattle.kf_parse.specs.Answers.{IsParsed, IsRefused}
 use Rattle.kf_parse.specs.Laws.{ParsedOrRefused}
 use Rattle.kf_parse.proofs.Answering.{is_parsed, is_long, is_left_over, is_stuck, is_not_deep}
 use Rattle.kf_parse.proofs.FirstDeep.{Tells, deep_from, told}
+use Rattle.kf_parse.specs.Begins.{place_in}
 
 abbrev Ends : List ℕ → List Token → Type 0
 Ends src ts = ((x : SourceTree) × IsParsed src ts x) ⊎ ((e : ParseError) × (e ≡ errors.Mem → ⊥) × IsRefused src ts e)

@@ -7,8 +7,8 @@ use Rattle.kf_lex.specs.declared.token.Sign.TheVariants as s
 use Rattle.kf_ops.specs.declared.row.Op.{Op}
 use Rattle.kf_parse.specs.declared.stop.Stop.{Stop}
 use Rattle.kf_parse.specs.declared.stop.Stop.TheVariants as stop
-use Rattle.kf_parse.specs.Operators.{arity_of, row_of}
-use Rattle.kf_parse.specs.OperatorTokens.{infix_op}
+use Rattle.kf_parse.specs.Operators.{arity_of}
+use Rattle.kf_parse.specs.OperatorTokens.{infix_op, row_of}
 use Rattle.kf_parse.specs.Tokens.{is}
 use Rattle.kf_parse.specs.Outcomes.{got, Parser, and_then, ◌>>=◌, pure, refuse, behind, where_true, first, expect, repeat}
 use Rattle.kf_parse.specs.Reading as r

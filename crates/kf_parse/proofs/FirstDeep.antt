@@ -2,7 +2,8 @@
 use Rattle.std.proofs.Common.{◌≡◌, ℕ, ◌+◌, ◌≤◌, ◌<◌, nat_lt, if◌then◌else◌, Bool, true, false, List, length, get_or, drop, drop-cons, [], ◌∷◌, ◌++◌, refl, sym, ◌∙◌, ap, subst, append-nil, append_assoc, arith, Option, Some, None, MatchOption, ◌⊎◌, inl, inr}
 use Rattle.std.proofs.lemmas.List.{drop_all}
 use Rattle.kf_lex.specs.declared.token.Token.{Token}
-use Rattle.kf_parse.specs.Depth.{Open, open_brackets, opened, open_after, depth, IsShallow, IsDeep}
+use Rattle.kf_parse.specs.Depth.{Open, open_brackets, opened, depth, IsShallow, IsDeep}
+use Rattle.kf_parse.specs.Tokens.{open_after}
 
 abbrev pub stand : Open → ℕ
 stand c = c.brackets + c.ofs

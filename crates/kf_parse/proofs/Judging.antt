@@ -7,12 +7,13 @@ use Rattle.kf_parse.specs.Outcomes.{Outcome, got, stuck, deep}
 use Rattle.kf_parse.specs.Plain.{plain}
 use Rattle.kf_parse.specs.Programs.{IsProgram}
 use Rattle.kf_parse.specs.Reading.{program}
-use Rattle.kf_parse.specs.Answers.{Begins, place_in, IsSyntaxPlace, IsNoProgram}
+use Rattle.kf_parse.specs.Answers.{Begins, IsSyntaxPlace}
 use Rattle.kf_parse.proofs.TakesPrograms.{program_takes}
 use Rattle.kf_parse.proofs.KindsPrograms.{kinds_alone}
 use Rattle.kf_parse.proofs.Told.{Told}
 use Rattle.kf_parse.proofs.ToldPrograms.{program_told}
 use Rattle.kf_parse.proofs.Tame.{Rest, with_rest, program_tame}
+use Rattle.kf_parse.specs.Begins.{place_in, IsNoProgram}
 
 pub found : (src : List ℕ) (d : ℕ) (ts : List Token) (x : SourceTree) → program plain src d ts ≡ got x [] → IsProgram src ts x
 found src d ts x e =

@@ -6,10 +6,11 @@ use Rattle.kf_ast.specs.Exprs.{ExprTree, expr_at, Number, Truth, Name, Apply, Tu
 use Rattle.kf_ast.specs.TypeForms.{TypeForm, type_at, Boolean, Range, TupleOf, types}
 use Rattle.kf_ast.specs.TypeForms as of_type
 use Rattle.kf_ast.specs.Dists.{CaseTree, case_of, DistTree, dist_at, Sure, UniformSet, UniformRange, Choose, Flip}
-use Rattle.kf_parse.specs.Operators.{IsBetween, IsBefore, IsCalling, row_of}
+use Rattle.kf_parse.specs.Operators.{IsBetween, IsBefore, IsCalling}
 use Rattle.kf_parse.specs.Grammar as g
-use Rattle.kf_parse.specs.Grammar.{IsInfix, IsPrefix, IsCalled, named, joined, prefixed, part_of, Parts, E, Chain, Operand, Others, Whole, TypeOf, OtherTypes, Case, OtherCases, Dist}
+use Rattle.kf_parse.specs.Grammar.{IsInfix, named, joined, Parts, E, Chain, Operand, Others, Whole, TypeOf, OtherTypes, Case, OtherCases, Dist}
 use Rattle.kf_parse.proofs.KindsSame.{Same, none_same, more_same, split, pieces, last, last_of_two, Made, kind_of}
+use Rattle.kf_parse.specs.OperatorTokens.{row_of, IsPrefix, IsCalled, prefixed, part_of}
 
 -- what holds of a kind holds of the same kind
 of_kind : (P : Tok → Type 0) {Q : Type 0} {j k : Tok} → j ≡ k → P j × Q → P k × Q

@@ -6,9 +6,10 @@ use Rattle.kf_parse.specs.declared.errors.ParseError.TheVariants as errors
 use Rattle.kf_parse.specs.Programs.{IsProgram}
 use Rattle.kf_parse.specs.Depth.{IsShallow, IsDeep}
 use Rattle.kf_parse.specs.Sizes.{source_exprs, first_long}
-use Rattle.kf_parse.specs.Answers.{Begins, place_in, IsSyntaxPlace}
+use Rattle.kf_parse.specs.Answers.{Begins, IsSyntaxPlace}
 use Rattle.kf_parse.specs.Laws.{NotBoth, OneRefusal}
 use Rattle.kf_parse.proofs.TakesOne.{one_program}
+use Rattle.kf_parse.specs.Begins.{place_in}
 
 -- what stands between two places at which a list is split
 record Between (a b c d : List Token) : Type 0 where

@@ -14,8 +14,8 @@ use Rattle.kf_lex.specs.declared.token.Word.TheVariants as w
 use Rattle.kf_lex.specs.declared.token.Sign.TheVariants as s
 use Rattle.kf_lex.proofs.Operators.{are_operator_tokens}
 use Rattle.kf_lex.proofs.SameKind.{same_kind}
-use Rattle.kf_parse.specs.Operators.{IsBetween, IsBefore, IsCalling, arity_of, level_of, prefix_word, word_in, word_of}
-use Rattle.kf_parse.specs.OperatorTokens.{AreTold, HaveTokens, called_op, infix_op, is_written_with, operator_before, passed, prefix_op}
+use Rattle.kf_parse.specs.Operators.{IsBetween, IsBefore, IsCalling, arity_of, level_of, prefix_word, word_of}
+use Rattle.kf_parse.specs.OperatorTokens.{AreTold, HaveTokens, called_op, infix_op, is_written_with, operator_before, passed, prefix_op, word_in}
 
 -- a token tells the operator whose word it spells
 tells : (k : Tok) (o : Op) → (operator_of k ≡ Some o) ↔ Spells k (word_of o)

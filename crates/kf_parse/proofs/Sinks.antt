@@ -2,9 +2,10 @@
 use Rattle.std.proofs.Common.{◌≡◌, ℕ, zero, suc, ◌+◌, ◌≤◌, Bool, true, List, [], ◌∷◌, ◌++◌, length, refl, sym, ◌∙◌, ap, append_assoc, arith, Option, Some, None, IfSome}
 use Rattle.kf_lex.specs.declared.token.Token.{Token}
 use Rattle.kf_lex.specs.declared.token.Tok.{Tok}
-use Rattle.kf_parse.specs.Depth.{Open, opened, open_after}
+use Rattle.kf_parse.specs.Depth.{Open, opened}
 use Rattle.kf_parse.specs.Outcomes.{Outcome, got, stuck, deep, Parser, and_then, ◌>>=◌, pure, refuse, too_deep, behind, first_or, first, where_true, expect, if_first, going_on, repeated, repeat}
 use Rattle.kf_parse.proofs.Told.{where_true_some}
+use Rattle.kf_parse.specs.Tokens.{open_after}
 
 -- brackets that stand open, and words `of` behind them
 abbrev pub opens : ℕ → ℕ → Open

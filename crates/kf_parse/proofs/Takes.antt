@@ -9,10 +9,10 @@ use Rattle.kf_lex.specs.declared.token.Word.TheVariants as w
 use Rattle.kf_lex.specs.declared.token.Sign.TheVariants as s
 use Rattle.kf_ast.specs.Exprs.{ExprTree}
 use Rattle.kf_parse.specs.Operators.{level_of}
-use Rattle.kf_parse.specs.OperatorTokens.{infix_op, prefix_op}
+use Rattle.kf_parse.specs.OperatorTokens.{infix_op, prefix_op, IsPrefix, IsCalled, prefixed, part_of}
 use Rattle.kf_parse.specs.Tokens.{is}
 use Rattle.kf_parse.specs.Grammar as g
-use Rattle.kf_parse.specs.Grammar.{IsSign, IsWord, IsNumber, IsName, IsInfix, IsPrefix, IsCalled, named, joined, prefixed, part_of, Parts, E, Chain, Operand, Others}
+use Rattle.kf_parse.specs.Grammar.{IsSign, IsWord, IsNumber, IsName, IsInfix, named, joined, Parts, E, Chain, Operand, Others}
 use Rattle.kf_parse.specs.Outcomes.{got, Parser, and_then, pure, ◌>>=◌}
 use Rattle.kf_parse.specs.Plain.{plain}
 use Rattle.kf_parse.specs.Reading as r

@@ -7,10 +7,10 @@ use Rattle.kf_lex.specs.declared.token.Tok.TheVariants as t
 use Rattle.kf_lex.specs.declared.token.Word.TheVariants as w
 use Rattle.kf_lex.specs.declared.token.Sign.TheVariants as s
 use Rattle.kf_ast.specs.Exprs.{ExprTree, expr_at, Number, Truth, Name, Apply, Tuple, SetOf, exprs, placed}
-use Rattle.kf_parse.specs.Operators.{row_of, arity_of}
-use Rattle.kf_parse.specs.OperatorTokens.{prefix_op, called_op}
+use Rattle.kf_parse.specs.Operators.{arity_of}
+use Rattle.kf_parse.specs.OperatorTokens.{prefix_op, called_op, row_of, IsCalled}
 use Rattle.kf_parse.specs.Grammar as g
-use Rattle.kf_parse.specs.Grammar.{IsSign, IsWord, IsNumber, IsName, IsCalled, named, joined, E, Chain, Operand, Others}
+use Rattle.kf_parse.specs.Grammar.{IsSign, IsWord, IsNumber, IsName, named, joined, E, Chain, Operand, Others}
 use Rattle.kf_parse.specs.Outcomes.{and_then, pure, ◌>>=◌}
 use Rattle.kf_parse.specs.Plain.{plain}
 use Rattle.kf_parse.specs.Reading as r

@@ -8,10 +8,10 @@ use Rattle.kf_lex.specs.declared.token.Tok.TheVariants as t
 use Rattle.kf_lex.specs.declared.token.Word.TheVariants as w
 use Rattle.kf_lex.specs.declared.token.Sign.TheVariants as s
 use Rattle.kf_ast.specs.Exprs.{ExprTree, expr_at, Number, Truth, Name, Apply, Tuple, SetOf, exprs, placed}
-use Rattle.kf_parse.specs.Operators.{row_of, level_of, arity_of}
-use Rattle.kf_parse.specs.OperatorTokens.{infix_op, prefix_op, called_op}
+use Rattle.kf_parse.specs.Operators.{level_of, arity_of}
+use Rattle.kf_parse.specs.OperatorTokens.{infix_op, prefix_op, called_op, row_of, IsPrefix, prefixed, part_of}
 use Rattle.kf_parse.specs.Tokens.{is}
-use Rattle.kf_parse.specs.Grammar.{IsSign, IsWord, IsNumber, IsName, IsInfix, IsPrefix, named, joined, prefixed, part_of}
+use Rattle.kf_parse.specs.Grammar.{IsSign, IsWord, IsNumber, IsName, IsInfix, named, joined}
 use Rattle.kf_parse.specs.Outcomes.{got, Parser, and_then, behind, where_true, pure, refuse, ◌>>=◌, repeat}
 use Rattle.kf_parse.specs.Plain.{plain}
 use Rattle.kf_parse.specs.Reading as r

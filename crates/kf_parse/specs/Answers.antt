@@ -1,5 +1,6 @@
 -- Believed: what a source's tokens are: a program, or refused for one cause at one place.
-use Rattle.std.specs.Prelude.{◌≡◌, ℕ, List, [], ◌∷◌, ◌++◌, length, Some, None}
+use Rattle.std.specs.Prelude.{◌≡◌, ℕ, List, [], ◌∷◌, ◌++◌, length, Some, None, slice_get}
+use Rattle.std.specs.Option.{option_map_or}
 use Rattle.kf_lex.specs.declared.token.Token.{Token}
 use Rattle.kf_ast.specs.Sources.{SourceTree}
 use Rattle.kf_parse.specs.declared.errors.ParseError.{ParseError}
@@ -15,23 +16,14 @@ pub record Begins (ts : List Token) : Type 0 where
   pub tree : SourceTree
   pub program : IsProgram src (ts ++ more) tree
 
--- the byte place of the first of these tokens, or the end of the source
-abbrev pub place_in : List ℕ → List Token → ℕ
-place_in src [] = length src
-place_in src (o ∷ ts) = o.start
-
--- tokens up to this place begin a program, and with the token that stands there they begin none
+-- tokens up to this place, which may be the end of the source, begin a program, and with the token that stands there they begin none
 pub record IsSyntaxPlace (src : List ℕ) (ts : List Token) (at : ℕ) : Type 0 where
   pub front : List Token
   pub rest : List Token
   pub whole : ts ≡ front ++ rest
   pub begins : Begins front
   pub ends : (o : Token) (us : List Token) → rest ≡ o ∷ us → Begins (front ++ o ∷ []) → ⊥
-  pub stands : place_in src rest ≡ at
-
--- the tokens are those of no program
-abbrev pub IsNoProgram : List ℕ → List Token → Type 0
-IsNoProgram src ts = (tree : SourceTree) → IsProgram src ts tree → ⊥
+  pub stands : option_map_or (λ (o : Token). o.start) (slice_get rest 0) (length src) ≡ at
 
 -- the tokens are those of this program, with brackets and expressions within their limits
 pub record IsParsed (src : List ℕ) (ts : List Token) (tree : SourceTree) : Type 0 where
@@ -42,7 +34,7 @@ pub record IsParsed (src : List ℕ) (ts : List Token) (tree : SourceTree) : Typ
 -- brackets within their limit, and no program: the place is the first at which none goes on
 pub record IsSyntax (src : List ℕ) (ts : List Token) (at : ℕ) : Type 0 where
   pub shallow : IsShallow ts
-  pub none : IsNoProgram src ts
+  pub none : (tree : SourceTree) → IsProgram src ts tree → ⊥
   pub place : IsSyntaxPlace src ts at
 
 -- a program with an expression of too many nodes: the place is the first one's

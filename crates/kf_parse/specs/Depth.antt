@@ -1,5 +1,6 @@
 -- Believed: how many brackets stand open after tokens.
 use Rattle.std.specs.Prelude.{◌≡◌, ℕ, ◌+◌, ◌-◌, ◌<◌, ◌≤◌, List, [], ◌∷◌, ◌++◌}
+use Rattle.std.specs.List.{fold}
 use Rattle.kf_lex.specs.declared.token.Token.{Token}
 use Rattle.kf_lex.specs.declared.token.Tok.{Tok}
 use Rattle.kf_lex.specs.declared.token.Tok.TheVariants as t
@@ -24,13 +25,9 @@ opened c (t.Word w.OfWord) = record { brackets = c.brackets; ofs = c.ofs + 1 }
 opened c (t.Word w.SetWord) = c
 opened c _ = open_brackets c.brackets
 
-abbrev pub open_after : Open → List Token → Open
-open_after c [] = c
-open_after c (o ∷ ts) = open_after (opened c o.kind) ts
-
 -- how many stand open after tokens
 abbrev pub depth : List Token → ℕ
-depth ts = let c = open_after (open_brackets 0) ts in c.brackets + c.ofs
+depth ts = let c = fold (λ (c : Open) (o : Token). opened c o.kind) (open_brackets 0) ts in c.brackets + c.ofs
 
 abbrev pub IsShallow : List Token → Type 0
 IsShallow ts = (front rest : List Token) → ts ≡ front ++ rest → depth front ≤ 64

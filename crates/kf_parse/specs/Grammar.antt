@@ -8,12 +8,13 @@ use Rattle.kf_lex.specs.declared.token.Word.TheVariants as w
 use Rattle.kf_lex.specs.declared.token.Sign.{Sign}
 use Rattle.kf_lex.specs.declared.token.Sign.TheVariants as s
 use Rattle.kf_ops.specs.declared.row.Op.{Op}
+use Rattle.kf_ops.specs.Places.{number_of}
 use Rattle.kf_ast.specs.Names.{NameTree, name}
 use Rattle.kf_ast.specs.TypeForms.{TypeForm, type_at, Boolean, Range, TupleOf, types}
 use Rattle.kf_ast.specs.TypeForms as of_type
 use Rattle.kf_ast.specs.Exprs.{ExprTree, expr_at, Number, Truth, Name, Apply, Tuple, SetOf, Part, exprs, place, placed}
 use Rattle.kf_ast.specs.Dists.{CaseTree, case_of, DistTree, dist_at, Sure, UniformSet, UniformRange, Choose, Flip}
-use Rattle.kf_parse.specs.Operators.{IsBetween, IsBefore, IsCalling, row_of, level_of, arity_of}
+use Rattle.kf_parse.specs.Operators.{IsBetween, IsBefore, IsCalling, level_of, arity_of}
 
 abbrev pub IsSign : Sign → Token → Type 0
 IsSign sign o = o.kind ≡ t.Sign sign
@@ -27,16 +28,9 @@ IsNumber k o = o.kind ≡ t.Number k
 abbrev pub IsName : Token → Type 0
 IsName o = o.kind ≡ t.Name
 
--- a token is an operator of a level between two operands, or before one
+-- a token is an operator of a level between two operands
 abbrev pub IsInfix : ℕ → Op → Token → Type 0
 IsInfix l op o = IsBetween o.kind op × (level_of op ≡ l)
-
-abbrev pub IsPrefix : ℕ → Op → Token → Type 0
-IsPrefix l op o = IsBefore o.kind op × (level_of op ≡ l)
-
--- a token is an operator that takes so many arguments in parentheses
-abbrev pub IsCalled : ℕ → Op → Token → Type 0
-IsCalled arity op o = IsCalling o.kind op × (arity_of op ≡ arity)
 
 -- the name whose text is the token's slice of the source
 abbrev pub named : List ℕ → Token → NameTree
@@ -44,19 +38,13 @@ named src n = name (slice_range src n.start n.end) n.start
 
 -- an operator between two expressions stands where its left side does
 abbrev pub joined : Op → ExprTree → ExprTree → ExprTree
-joined op x y = expr_at (place x) (Apply (row_of op) (exprs (x ∷ y ∷ [])))
-
-abbrev pub prefixed : Token → Op → ExprTree → ExprTree
-prefixed o op x = expr_at o.start (Apply (row_of op) (exprs (x ∷ [])))
-
-abbrev pub part_of : ExprTree → ℕ → ExprTree
-part_of x k = expr_at (place x) (Part x k)
+joined op x y = expr_at (place x) (Apply (number_of op) (exprs (x ∷ y ∷ [])))
 
 -- numbers of parts behind an expression
 pub data Parts : ExprTree → List Token → ExprTree → Type 0 where
   no_part : {x : ExprTree} → Parts x [] x
   part : {a ts : List Token} (d n : Token) {k : ℕ} {x y : ExprTree}
-      → Parts x a y → IsSign s.Dot d → IsNumber k n → ts ≡ a ++ d ∷ n ∷ [] → Parts x ts (part_of y k)
+      → Parts x a y → IsSign s.Dot d → IsNumber k n → ts ≡ a ++ d ∷ n ∷ [] → Parts x ts (expr_at (place y) (Part y k))
 
 mutual
   -- an expression of a level from 1 to 8
@@ -69,7 +57,8 @@ mutual
     compare : {a b ts : List Token} (o : Token) (op : Op) {x y : ExprTree}
         → E src 5 a x → IsInfix 4 op o → E src 5 b y → ts ≡ a ++ o ∷ b → E src 4 ts (joined op x y)
     prefix : {l : ℕ} {ts : List Token} (o : Token) (op : Op) {x : ExprTree}
-        → IsPrefix l op o → E src (suc l) ts x → E src l (o ∷ ts) (prefixed o op x)
+        → IsBefore o.kind op × (level_of op ≡ l) → E src (suc l) ts x
+        → E src l (o ∷ ts) (expr_at o.start (Apply (number_of op) (exprs (x ∷ []))))
     -- an operand, and parts of it
     parts : {a b ts : List Token} {x z : ExprTree} → Operand src a x → Parts x b z → ts ≡ a ++ b → E src 8 ts z
 
@@ -94,9 +83,9 @@ mutual
         → IsSign s.BraceOpen p → E src 1 a x → Others src (x ∷ []) b xs → IsSign s.BraceClose q
         → ts ≡ a ++ (b ++ q ∷ []) → Operand src (p ∷ ts) (expr_at p.start (SetOf (exprs xs)))
     call : {a b ts : List Token} (f p q : Token) {arity : ℕ} (op : Op) {x : ExprTree} {xs : List ExprTree}
-        → IsCalled arity op f → IsSign s.ParenOpen p
+        → IsCalling f.kind op × (arity_of op ≡ arity) → IsSign s.ParenOpen p
         → E src 1 a x → Others src (x ∷ []) b xs → length xs ≡ arity → IsSign s.ParenClose q
-        → ts ≡ a ++ (b ++ q ∷ []) → Operand src (f ∷ p ∷ ts) (expr_at f.start (Apply (row_of op) (exprs xs)))
+        → ts ≡ a ++ (b ++ q ∷ []) → Operand src (f ∷ p ∷ ts) (expr_at f.start (Apply (number_of op) (exprs xs)))
 
   -- expressions, each behind a comma, that go on with a list
   pub data Others (src : List ℕ) : List ExprTree → List Token → List ExprTree → Type 0 where

@@ -13,8 +13,9 @@ use Rattle.kf_parse.specs.declared.errors.ParseError.{ParseError}
 use Rattle.kf_parse.specs.declared.errors.ParseError.TheVariants as errors
 use Rattle.kf_parse.specs.Grammar.{E, TypeOf, Dist}
 use Rattle.kf_parse.specs.Programs.{IsProgram, Statement}
-use Rattle.kf_parse.specs.Depth.{open_after, open_brackets}
+use Rattle.kf_parse.specs.Depth.{open_brackets}
 use Rattle.kf_parse.specs.Answers.{IsParsed, IsRefused}
+use Rattle.kf_parse.specs.Tokens.{open_after}
 
 -- tokens are those of one program at most
 abbrev pub OneProgram : Type 0

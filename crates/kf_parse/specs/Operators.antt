@@ -1,37 +1,24 @@
 -- Believed: which operator a token stands for, by where it stands. All of it is read from the operator table.
-use Rattle.std.specs.Prelude.{◌≡◌, ◌≤◌, ℕ, slice_get, List, [], Option, Some, None, codes}
-use Rattle.kf_ops.specs.Rows.{Row, operators}
+use Rattle.std.specs.Prelude.{◌≡◌, ◌≤◌, ℕ, slice_get, List, [], codes}
+use Rattle.std.specs.Option.{option_map_or}
+use Rattle.kf_ops.specs.Rows.{operators}
 use Rattle.kf_ops.specs.Places.{number_of}
 use Rattle.kf_ops.specs.declared.row.Op.{Op}
 use Rattle.kf_ops.specs.declared.row.Op.TheVariants as op
 use Rattle.kf_lex.specs.declared.token.Tok.{Tok}
 use Rattle.kf_lex.specs.Lexemes.{Spells}
 
--- the row of an operator in the table, counted from 0
-abbrev pub row_of : Op → ℕ
-row_of op = number_of op
-
--- a fact of the table's row of an operator, and 0 where the table has none
-abbrev pub in_row : (Row → ℕ) → Option Row → ℕ
-in_row fact None = 0
-in_row fact (Some row) = fact row
-
--- how tightly an operator binds
+-- how tightly an operator binds, as its row of the table says
 abbrev pub level_of : Op → ℕ
-level_of op = in_row (λ row. row.level) (slice_get operators (row_of op))
+level_of op = option_map_or (λ row. row.level) (slice_get operators (number_of op)) 0
 
 -- how many arguments it takes
 abbrev pub arity_of : Op → ℕ
-arity_of op = in_row (λ row. row.arity) (slice_get operators (row_of op))
-
--- the word of a row, and no letters where there is none
-abbrev pub word_in : Option Row → List ℕ
-word_in None = []
-word_in (Some row) = row.word
+arity_of op = option_map_or (λ row. row.arity) (slice_get operators (number_of op)) 0
 
 -- its word
 abbrev pub word_of : Op → List ℕ
-word_of op = word_in (slice_get operators (row_of op))
+word_of op = option_map_or (λ row. row.word) (slice_get operators (number_of op)) []
 
 -- how it is written before an operand: as its word, but for the minus, whose word in the table is `~`
 abbrev pub prefix_word : Op → List ℕ

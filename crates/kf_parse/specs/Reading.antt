@@ -8,8 +8,8 @@ use Rattle.kf_lex.specs.declared.token.Word.TheVariants as w
 use Rattle.kf_lex.specs.declared.token.Sign.TheVariants as s
 use Rattle.kf_ast.specs.TypeForms.{TypeForm, type_at, Boolean, Range, TupleOf, SetOf, types}
 use Rattle.kf_ast.specs.Sources.{ItemTree, item}
-use Rattle.kf_parse.specs.Operators.{row_of, level_of, arity_of}
-use Rattle.kf_parse.specs.OperatorTokens.{infix_op, prefix_op, called_op}
+use Rattle.kf_parse.specs.Operators.{level_of, arity_of}
+use Rattle.kf_parse.specs.OperatorTokens.{infix_op, prefix_op, called_op, row_of}
 use Rattle.kf_parse.specs.Grammar.{named}
 use Rattle.kf_parse.specs.Tokens.{is}
 use Rattle.kf_parse.specs.Outcomes.{Parser, ◌>>=◌, pure, too_deep, first_or, first, where_true, expect, if_first, repeat}

@@ -1,7 +1,7 @@
 -- Believed: how many nodes an expression has, and which expressions of a source are counted.
 use Rattle.std.specs.Prelude.{ℕ, ◌+◌, nat_le, if◌then◌else◌, Option, Some, None, List, [], ◌∷◌, ◌++◌}
 use Rattle.std.specs.List.{flat_map}
-use Rattle.kf_ast.specs.Exprs.{ExprTree, ExprShape, ExprTrees, expr_at, Number, Truth, Name, Apply, Tuple, SetOf, Part, no_exprs, more_exprs, place}
+use Rattle.kf_ast.specs.Exprs.{ExprTree, ExprShape, ExprTrees, expr_at, Apply, Tuple, SetOf, Part, no_exprs, more_exprs, place}
 use Rattle.kf_ast.specs.Dists.{CaseTree, case_of, DistTree, DistShape, dist_at, Sure, UniformSet, UniformRange, Choose, Flip}
 use Rattle.kf_ast.specs.Stmts.{StmtTree, StmtShape, StmtTrees, stmt_at, Skip, Assign, Observe, If, While, no_stmts, more_stmts}
 use Rattle.kf_ast.specs.Sources.{DeclTree, declared, SourceTree, source}
@@ -12,13 +12,11 @@ abbrev mutual
   nodes (expr_at at shape) = shape_nodes shape
 
   pub shape_nodes : ExprShape → ℕ
-  shape_nodes (Number k) = 1
-  shape_nodes (Truth b) = 1
-  shape_nodes (Name n) = 1
   shape_nodes (Apply row xs) = all_nodes xs + 1
   shape_nodes (Tuple xs) = all_nodes xs + 1
   shape_nodes (SetOf xs) = all_nodes xs + 1
   shape_nodes (Part x k) = nodes x + 1
+  shape_nodes shape = 1
 
   pub all_nodes : ExprTrees → ℕ
   all_nodes no_exprs = 0

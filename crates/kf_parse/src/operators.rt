@@ -1,6 +1,6 @@
 ghost use Rattle.std.specs.Prelude.{◌≡◌};
-ghost use Rattle.kf_parse.specs.Operators.{arity_of, level_of, row_of};
-ghost use Rattle.kf_parse.specs.OperatorTokens.{called_op, infix_op, is_written_with, operator_before, prefix_op};
+ghost use Rattle.kf_parse.specs.Operators.{arity_of, level_of};
+ghost use Rattle.kf_parse.specs.OperatorTokens.{called_op, infix_op, is_written_with, operator_before, prefix_op, row_of};
 ghost use Rattle.kf_parse.specs.Reading as r;
 
 use kf_lex::{Sign, Tok, operator_of};

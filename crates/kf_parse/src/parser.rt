@@ -1,9 +1,10 @@
 ghost use Rattle.std.specs.Prelude.{◌≡◌, ◌≤◌, length, All, IfOk, IfErr};
 ghost use Rattle.kf_ast.specs.Views.{source_tree};
 ghost use Rattle.kf_lex.specs.Readings.{IsTokens};
-ghost use Rattle.kf_parse.specs.Answers.{IsParsed, IsRefused, place_in};
+ghost use Rattle.kf_parse.specs.Answers.{IsParsed, IsRefused};
 ghost use Rattle.kf_parse.specs.Depth.{IsShallow};
 ghost use Rattle.kf_parse.specs.Reads.{IsSpelled};
+ghost use Rattle.kf_parse.specs.Begins.{place_in};
 
 use crate::ParseError;
 use crate::cursor::Cursor;

@@ -11,12 +11,14 @@ use Rattle.kf_ast.specs.Sources.{DeclTree, declared, SourceTree, source}
 use Rattle.kf_core.specs.Choices.{once}
 use Rattle.kf_core.specs.Dxs.{DxTree, dx_at}
 use Rattle.kf_core.specs.Programs.{ProgramTree}
-use Rattle.kf_core.specs.Runs.{tried, store_at, placed_at}
+use Rattle.kf_core.specs.Runs.{tried, store_at}
 use Rattle.kf_core.specs.Runs as runs
+use Rattle.kf_core.specs.Each.{placed_at}
 use Rattle.kf_check.specs.Laws.{IsWellBuilt, CheckedIfTyped, SizesAgree}
 use Rattle.kf_check.specs.Sources.{types_of}
 use Rattle.kf_check.specs.Translation.{Typed, names_of, decl_of}
-use Rattle.kf_prior.specs.FullSources.{full_source, full_decls, place}
+use Rattle.kf_check.specs.Kinds.{dist_place}
+use Rattle.kf_prior.specs.FullSources.{full_source}
 use Rattle.kf_prior.specs.Laws.{FullBeginsUniformly, initial_run}
 use Rattle.kf_prior.proofs.BeginRuns.{AreUniform, begins_from, ranges, plain, sizes_positive}
 use Rattle.kf_prior.proofs.Evaluating.{ChoosesAll, uniform_chosen}
@@ -25,6 +27,7 @@ use Rattle.kf_prior.proofs.Literal.{some_values}
 use Rattle.kf_prior.proofs.PriorFull.{full_paired}
 use Rattle.kf_prior.proofs.PriorStores.{size}
 use Rattle.kf_prior.proofs.PriorTargets.{IsPaired, count_is, back_types}
+use Rattle.kf_prior.specs.Literals.{full_decls}
 
 -- a declaration of a full source has the type that was written
 full_plain : (ds : List DeclTree) → map plain_of (full_decls (map plain_of ds) ds) ≡ map plain_of ds
@@ -42,7 +45,7 @@ all_uniform names all (declared visible n y d ∷ ds) sized formed =
     let t = plain_of (declared visible n y d) in
     let forms = and_parts (well_formed t) (list_all well_formed (map plain_of ds)) formed in
     let here = All-head (λ u. fault_of u ≡ None) t (map plain_of ds) sized in (
-      (tried_all all t _ (uniform_chosen names (place d) t here forms.0), some_values t here),
+      (tried_all all t _ (uniform_chosen names (dist_place d) t here forms.0), some_values t here),
       all_uniform names all ds (All-tail (λ u. fault_of u ≡ None) t (map plain_of ds) sized) forms.1,
     )
 

@@ -15,8 +15,10 @@ use Rattle.kf_value.proofs.Ascending.{length-values}
 use Rattle.kf_value.proofs.Places.{combination_at}
 use Rattle.kf_core.specs.Choices.{Weighted, once, total}
 use Rattle.kf_core.specs.Dxs.{DxTree}
-use Rattle.kf_core.specs.Runs.{Run, tried, place, joined, onward, chain, choice_run, branched, silent, moved, replaced, declared, store_at, store_number}
+use Rattle.kf_core.specs.Runs.{Run, tried, place, joined, chain, choice_run, branched, replaced, declared, store_at, store_number}
 use Rattle.kf_core.proofs.Stores.{length-store, store_is, store_of, store_number_is}
+use Rattle.kf_core.specs.Each.{moved, onward}
+use Rattle.kf_core.specs.Leaks.{silent}
 use Rattle.kf_prior.proofs.PriorStores.{size, both_stores}
 
 -- ---- lists of numbers

@@ -17,9 +17,10 @@ use Rattle.kf_ops.specs.declared.row.Op.TheVariants as op
 use Rattle.kf_ast.specs.Exprs.{ExprTree, expr_at, SetOf, exprs}
 use Rattle.kf_ast.specs.Sources.{DeclTree, declared, SourceTree, source}
 use Rattle.kf_ast.specs.Built.{IsBuilt, AreBuilt, IsDistBuilt, AreDeclsBuilt, IsSourceBuilt, expr_count}
-use Rattle.kf_prior.specs.FullSources.{least_of, literal, only, part_literals, parts_of, place, set_literal, whole_literal, uniform_over, full_decls, full_source}
-use Rattle.kf_prior.specs.Literals.{HasLiteral, HaveLiterals}
+use Rattle.kf_prior.specs.FullSources.{literal, only, part_literals, parts_of, set_literal, whole_literal, uniform_over, full_decl, full_source}
+use Rattle.kf_prior.specs.Literals.{HasLiteral, HaveLiterals, full_decls, least_of}
 use Rattle.kf_prior.proofs.Literal.{some_values, values_literals}
+use Rattle.kf_check.specs.Kinds.{dist_place}
 
 whole_built : (at : ℕ) (z : ℤ) → IsBuilt Takes (whole_literal at z)
 whole_built at (pos n) = tt
@@ -89,7 +90,7 @@ full_decls_built (t ∷ ts) [] sized formed h = tt
 full_decls_built (t ∷ ts) (declared visible n y d ∷ ds) sized formed h =
     let forms = and_parts (well_formed t) (list_all well_formed ts) formed in (
       h.0,
-      uniform_built (place d) t (All-head (λ u. fault_of u ≡ None) t ts sized) forms.0,
+      uniform_built (dist_place d) t (All-head (λ u. fault_of u ≡ None) t ts sized) forms.0,
       full_decls_built ts ds (All-tail (λ u. fault_of u ≡ None) t ts sized) forms.1 h.2,
     )
 

@@ -16,7 +16,8 @@ use Rattle.kf_value.proofs.Ascending.{length-values, values_ascend}
 use Rattle.kf_value.proofs.ListLemmas.{each_weaker}
 use Rattle.kf_value.proofs.Orders.{order-itself}
 use Rattle.kf_value.proofs.Trees.{parts_list-parts}
-use Rattle.kf_ops.specs.Values.{ArithWide, without, is_i64}
+use Rattle.kf_ops.specs.Values.{ArithWide, is_i64}
+use Rattle.kf_ops.specs.Sets.{without}
 use Rattle.kf_ast.specs.Exprs.{ExprTree, exprs}
 use Rattle.kf_ast.specs.Exprs as written
 use Rattle.kf_core.specs.Evaluation.{all_values, ev, evs}
@@ -26,8 +27,8 @@ use Rattle.kf_ast.specs.Dists.{dist_at, UniformSet, UniformRange}
 use Rattle.kf_core.specs.Choices.{once, some_of, choices, lowest, gathered}
 use Rattle.kf_core.proofs.Plain.{plain_choices, set_of_sorted}
 use Rattle.kf_check.specs.Translation.{ex_of, exs_of, dx_of}
-use Rattle.kf_prior.specs.FullSources.{least_of, literal, only, part_literals, parts_of, set_literal, whole_literal, uniform_over}
-use Rattle.kf_prior.specs.Literals.{IsShort, HasLiteral, HaveLiterals}
+use Rattle.kf_prior.specs.FullSources.{literal, only, part_literals, parts_of, set_literal, whole_literal, uniform_over}
+use Rattle.kf_prior.specs.Literals.{IsShort, HasLiteral, HaveLiterals, least_of}
 use Rattle.kf_prior.proofs.Literal.{range_few, range_short, some_values, values_literals}
 
 module _ (names : List (List ℕ)) (s : List ValueTree) where

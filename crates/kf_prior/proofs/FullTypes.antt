@@ -20,9 +20,10 @@ use Rattle.kf_check.specs.Translation.{Typed}
 use Rattle.kf_check.proofs.Declared.{good_decl}
 use Rattle.kf_check.proofs.Kinding.{same_ok}
 use Rattle.kf_check.proofs.Sized.{both, plain_formed}
-use Rattle.kf_prior.specs.FullSources.{full_decl, full_decls}
+use Rattle.kf_prior.specs.FullSources.{full_decl}
 use Rattle.kf_prior.specs.Laws.{FullIsBuilt}
 use Rattle.kf_prior.proofs.Building.{full_built}
+use Rattle.kf_prior.specs.Literals.{full_decls}
 
 -- the type that a declaration writes
 abbrev pub plain_of : DeclTree → TypeTree

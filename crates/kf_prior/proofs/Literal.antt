@@ -16,7 +16,7 @@ use Rattle.kf_value.proofs.Ascending.{each_part, length-values, values_well_form
 use Rattle.kf_value.proofs.ListLemmas.{each_at, each_both, each_flat_map, each_map, each_weaker}
 use Rattle.kf_value.proofs.Trees.{parts_list-parts}
 use Rattle.kf_core.proofs.FirstStore.{some_stores}
-use Rattle.kf_prior.specs.Literals.{IsShort, IsBase, HasLiteral, HaveLiterals}
+use Rattle.kf_prior.specs.Literals.{IsShort, IsBase, HasLiteral, HaveLiterals, least_of}
 
 -- ---- what a type without a fault has
 

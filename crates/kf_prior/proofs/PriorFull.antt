@@ -13,10 +13,11 @@ use Rattle.kf_check.specs.Sources.{Variable, types_of, JudgesItems}
 use Rattle.kf_check.specs.Translation.{Typed, names_of, decl_of}
 use Rattle.kf_check.proofs.Declared.{counted, variables_differ}
 use Rattle.kf_check.proofs.Kinding.{Differ, same_ok}
-use Rattle.kf_prior.specs.FullSources.{full_source, full_decls, item_for}
+use Rattle.kf_prior.specs.FullSources.{full_source, item_for}
 use Rattle.kf_prior.specs.Laws.{IsFull, FullIsBuilt}
 use Rattle.kf_prior.proofs.PriorItems.{decl_names, full_names, declared_names, found_here, later, IsAim, target_aim}
 use Rattle.kf_prior.proofs.PriorTargets.{IsPaired}
+use Rattle.kf_prior.specs.Literals.{full_decls}
 
 module _ (vs : List Variable) (apart : Differ (names_of vs)) where
   -- items `old` add the types of their variables

@@ -11,7 +11,8 @@ use Rattle.kf_check.specs.Translation.{AreItems, IsTarget, names_of}
 use Rattle.kf_check.specs.Translation as aims
 use Rattle.kf_check.proofs.Declared.{good_decl, slice_get-right}
 use Rattle.kf_check.proofs.Kinding.{Differ, slice_get-some, same_ok}
-use Rattle.kf_prior.specs.FullSources.{full_decls, item_for}
+use Rattle.kf_prior.specs.FullSources.{item_for}
+use Rattle.kf_prior.specs.Literals.{full_decls}
 
 -- ---- names
 

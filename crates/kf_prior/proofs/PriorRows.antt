@@ -16,10 +16,11 @@ use Rattle.kf_column.specs.Traces.{Row, trace_order}
 use Rattle.kf_column.proofs.AtMostOne.{In}
 use Rattle.kf_column.proofs.Scaling.{total-cons}
 use Rattle.kf_column.proofs.Weights.{weight_at-cons}
-use Rattle.kf_core.specs.Joint.{Cell, is_cell_at, weight_of, trace_weight, HasTrace}
+use Rattle.kf_core.specs.Joint.{Cell, weight_of, trace_weight}
 use Rattle.kf_core.specs.Rows.{AreRowsOf, IsHyperOf}
 use Rattle.kf_core.proofs.OneTable.{in_from_contains, contains_from_in, one_list, not_both_traces}
 use Rattle.kf_core.proofs.Sums.{adds, sum_filtered}
+use Rattle.kf_core.specs.Each.{HasTrace, is_cell_at}
 use Rattle.kf_gain.specs.Gains.{Table, TableTree}
 use Rattle.kf_prior.specs.Priors.{AreWorth}
 use Rattle.kf_prior.proofs.PriorWorth.{sum_z, worth, the_worth, same_worth, worth_nothing, weighed, weighed_worth, weight_weighed, weighed_nothing, hyper_worth}

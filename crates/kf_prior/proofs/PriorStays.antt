@@ -16,8 +16,10 @@ use Rattle.kf_core.specs.Choices.{total}
 use Rattle.kf_core.specs.Dxs.{DxTree}
 use Rattle.kf_core.specs.Programs.{ProgramTree}
 use Rattle.kf_core.specs.Sts.{StTree, sts}
-use Rattle.kf_core.specs.Runs.{Run, Halted, Tried, LoopBound, store_at, store_number, replaced, tried, place, joined, onward, chain, choice_run, branched, shown, stay, stopped, moved, leaks, assigned, guarded, looped, runs, all_runs}
+use Rattle.kf_core.specs.Runs.{Run, Halted, Tried, LoopBound, store_at, store_number, replaced, tried, place, joined, chain, choice_run, branched, stay, stopped, leaks, assigned, guarded, looped, runs, all_runs}
 use Rattle.kf_core.proofs.Stores.{lists_decide}
+use Rattle.kf_core.specs.Each.{moved, onward}
+use Rattle.kf_core.specs.Leaks.{shown}
 
 -- what has a number is the store with that number
 pub numbered : (ts : List TypeTree) (s : List ValueTree) (m : ℕ) → store_number ts s ≡ Some m → (m < length (stores ts)) × (store_at ts m ≡ s)

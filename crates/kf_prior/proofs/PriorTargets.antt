@@ -1,5 +1,6 @@
 -- A full program's target number tells the initial store of its run, whatever the statements do.
 use Rattle.std.proofs.Common.{◌≡◌, ℕ, suc, ◌+◌, ◌*◌, ◌/◌, ◌<◌, false, List, [], ◌∷◌, ◌++◌, length, map, take, drop, get_or, Option, Some, None, Result, Ok, Err, sym, ap, subst, ◌∙◌, arith, append-nil}
+use Rattle.std.specs.Option.{unwrap_or}
 use Rattle.std.specs.List.{AllByRecursion as Each, range_with_len}
 use Rattle.std.proofs.Math.Seq.{drop-append_seam, take-append_seam}
 use Rattle.std.proofs.lemmas.List.{map-append}
@@ -30,8 +31,7 @@ pub record IsPaired (p : ProgramTree) (ts : List TypeTree) : Type 0 where
   pub checked : IsChecked p
 
 abbrev number_from : ℕ → Option ℕ → ℕ
-number_from n (Some m) = m
-number_from n None = n
+number_from n found = unwrap_or found n
 
 -- what a target value is given: the prior's weight of its initial store, times their number
 abbrev pub by_prior : ℕ → List ℕ → ℕ → ℕ

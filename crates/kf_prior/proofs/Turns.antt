@@ -17,9 +17,10 @@ use Rattle.kf_check.specs.Laws.{IsWellBuilt, CheckedIfTyped}
 use Rattle.kf_check.specs.Translation.{Typed, decl_of, names_of}
 use Rattle.kf_core.specs.Programs.{ProgramTree}
 use Rattle.kf_core.proofs.FirstStore.{first_store_there}
-use Rattle.kf_prior.specs.FullSources.{full_decl, full_decls, initial_stores}
+use Rattle.kf_prior.specs.FullSources.{full_decl, initial_stores}
 use Rattle.kf_prior.specs.Priors.{initial_count}
 use Rattle.kf_prior.proofs.Counting.{first_few, one_more}
+use Rattle.kf_prior.specs.Literals.{full_decls}
 
 formed_at : (ts : List TypeTree) (i : ℕ) (t : TypeTree) → list_all well_formed ts ≡ true → slice_get ts i ≡ Some t → well_formed t ≡ true
 formed_at [] i t h at = (cc)

@@ -13,8 +13,8 @@ use Rattle.kf_value.specs.declared.value.ValueList.{ValueList}
 use Rattle.kf_value.proofs.Trees.{constructors, parts_list-parts, value_tree-Tuple, value_tree-Set}
 use Rattle.kf_ast.specs.Views.{expr_tree}
 use Rattle.kf_ast.specs.declared.expr.Expr.{Expr}
-use Rattle.kf_prior.specs.FullSources.{least_of, part_literals, parts_of}
-use Rattle.kf_prior.specs.Literals.{IsBase, HasLiteral, HaveLiterals}
+use Rattle.kf_prior.specs.FullSources.{part_literals, parts_of}
+use Rattle.kf_prior.specs.Literals.{IsBase, HasLiteral, HaveLiterals, least_of}
 
 pub parts_of-Tuple : (vs : ValueList) → parts_of (value_tree (value.Tuple vs)) ≡ value_trees vs
 parts_of-Tuple vs = ap parts_of (value_tree-Tuple vs) ∙ parts_list-parts (value_trees vs)

@@ -1,6 +1,7 @@
 -- Believed: the full source of a source: each initial store is equally likely, and the target is what each variable is before the
 -- statements and behind them.
 use Rattle.std.specs.Prelude.{ℕ, ℤ, pos, negsuc, suc, Bool, true, false, List, [], ◌∷◌, ◌++◌, map, take, length, get_or}
+use Rattle.std.specs.List.{zip}
 use Rattle.kf_value.specs.Values.{ValueTree, truth, whole, elements, parts_list}
 use Rattle.kf_value.specs.Values as value
 use Rattle.kf_value.specs.Types.{TypeTree, TypeTrees, Boolean, Range, TupleOf, no_type, more_types, values, count, product}
@@ -10,6 +11,7 @@ use Rattle.kf_ops.specs.declared.row.Op.TheVariants as op
 use Rattle.kf_ast.specs.Exprs.{ExprTree, expr_at, Number, Truth, Apply, Tuple, SetOf, exprs}
 use Rattle.kf_ast.specs.Dists.{DistTree, dist_at, UniformSet, UniformRange}
 use Rattle.kf_ast.specs.Sources.{DeclTree, declared, ItemTree, item, SourceTree, source}
+use Rattle.kf_check.specs.Kinds.{dist_place}
 
 -- a whole number as it is written, a negative one as its distance from 0 behind a `-`
 abbrev pub whole_literal : ℕ → ℤ → ExprTree
@@ -25,10 +27,6 @@ abbrev pub set_literal : ℕ → ExprTree → List ExprTree → ExprTree
 set_literal at least [] = expr_at at (Apply (number_of op.Without) (exprs (only at least ∷ only at least ∷ [])))
 set_literal at least (x ∷ xs) = expr_at at (SetOf (exprs (x ∷ xs)))
 
--- the first of a type's values
-abbrev pub least_of : TypeTree → ValueTree
-least_of t = get_or (values t) 0 (value.Truth false)
-
 abbrev pub parts_of : ValueTree → List ValueTree
 parts_of (value.Tuple vs) = parts_list vs
 parts_of v = []
@@ -39,7 +37,8 @@ abbrev mutual
   literal at Boolean v = expr_at at (Truth (truth v))
   literal at (Range lo hi) v = whole_literal at (whole v)
   literal at (TupleOf ts) v = expr_at at (Tuple (exprs (part_literals at ts (parts_of v))))
-  literal at (type.SetOf base) v = set_literal at (literal at base (least_of base)) (map (literal at base) (elements v))
+  literal at (type.SetOf base) v =
+      set_literal at (literal at base (get_or (values base) 0 (value.Truth false))) (map (literal at base) (elements v))
 
   -- one for each type, as long as there are values
   pub part_literals : ℕ → TypeTrees → List ValueTree → List ExprTree
@@ -52,17 +51,9 @@ abbrev pub uniform_over : ℕ → TypeTree → DistTree
 uniform_over at (Range lo hi) = dist_at at (UniformRange (whole_literal at lo) (whole_literal at hi))
 uniform_over at t = dist_at at (UniformSet (expr_at at (SetOf (exprs (map (literal at t) (values t))))))
 
-abbrev pub place : DistTree → ℕ
-place (dist_at at shape) = at
-
 -- a declaration of a variable of the type, each first value alike
 abbrev pub full_decl : TypeTree → DeclTree → DeclTree
-full_decl t (declared visible n y d) = declared visible n y (uniform_over (place d) t)
-
-abbrev pub full_decls : List TypeTree → List DeclTree → List DeclTree
-full_decls [] ds = []
-full_decls (t ∷ ts) [] = []
-full_decls (t ∷ ts) (d ∷ ds) = full_decl t d ∷ full_decls ts ds
+full_decl t (declared visible n y d) = declared visible n y (uniform_over (dist_place d) t)
 
 -- the declared variable as an item of a target: what it is before the statements, or behind them
 abbrev pub item_for : Bool → DeclTree → ItemTree
@@ -70,7 +61,8 @@ item_for initial (declared visible n y d) = item initial n
 
 -- the full source of a source whose declared variables have the first of these types
 abbrev pub full_source : List TypeTree → SourceTree → SourceTree
-full_source ts (source ds is body) = source (full_decls ts ds) (map (item_for true) ds ++ map (item_for false) ds) body
+full_source ts (source ds is body) =
+    source (map (λ p. full_decl p.0 p.1) (zip ts ds)) (map (item_for true) ds ++ map (item_for false) ds) body
 
 -- how many initial stores it has
 abbrev pub initial_stores : List TypeTree → SourceTree → ℕ

@@ -1,11 +1,13 @@
 -- For bodies: values that can be written as literals.
-use Rattle.std.specs.Prelude.{◌≡◌, ℤ, pos, negsuc, ◌≤◌, ◌<◌, ◌≤ℤ◌, Bool, List, [], ◌∷◌, length}
-use Rattle.std.specs.List.{AllByRecursion as Each}
+use Rattle.std.specs.Prelude.{◌≡◌, ℤ, pos, negsuc, ◌≤◌, ◌<◌, ◌≤ℤ◌, Bool, List, [], ◌∷◌, length, map, false, get_or}
+use Rattle.std.specs.List.{AllByRecursion as Each, zip}
 use Rattle.std.specs.List.Sorted.{IsStrictlySortedBy}
 use Rattle.kf_value.specs.Values.{ValueTree, Truth, Whole, Tuple, Set, parts, order}
-use Rattle.kf_value.specs.Types.{TypeTree, TypeTrees, Boolean, Range, TupleOf, SetOf, no_type, more_types, count}
+use Rattle.kf_value.specs.Types.{TypeTree, TypeTrees, Boolean, Range, TupleOf, SetOf, no_type, more_types, count, values}
 use Rattle.kf_value.specs.Sizes.{HasSize}
-use Rattle.kf_prior.specs.FullSources.{least_of}
+use Rattle.kf_prior.specs.FullSources.{full_decl}
+use Rattle.kf_ast.specs.Sources.{DeclTree}
+use Rattle.kf_value.specs.Values as value
 
 -- the number is at most a million from 0
 pub record IsShort (z : ℤ) : Type 0 where
@@ -16,6 +18,10 @@ pub record IsShort (z : ℤ) : Type 0 where
 pub record IsBase (base : TypeTree) : Type 0 where
   pub sized : HasSize base
   pub some : 0 < count base
+
+-- the first of a type's values
+abbrev pub least_of : TypeTree → ValueTree
+least_of t = get_or (values t) 0 (value.Truth false)
 
 -- the value has a literal as one of the type
 abbrev mutual
@@ -31,3 +37,6 @@ abbrev mutual
   HaveLiterals no_type [] = Unit {0}
   HaveLiterals (more_types t ts) (v ∷ vs) = HasLiteral t v × HaveLiterals ts vs
   HaveLiterals _ _ = ⊥
+
+abbrev pub full_decls : List TypeTree → List DeclTree → List DeclTree
+full_decls ts ds = map (λ p. full_decl p.0 p.1) (zip ts ds)

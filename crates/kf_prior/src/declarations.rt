@@ -7,7 +7,8 @@ ghost use Rattle.kf_value.specs.TypeViews.{type_tree};
 ghost use Rattle.kf_value.specs.Types.{count, values};
 ghost use Rattle.kf_value.specs.Values.{ValueTree};
 ghost use Rattle.kf_ast.specs.Views.{decl_items, decl_tree, dist_tree, expr_tree, item_tree, target_items};
-ghost use Rattle.kf_prior.specs.FullSources.{full_decl as decl_of, full_decls as decls_of, item_for, literal as literal_of, uniform_over as uniform_of};
+ghost use Rattle.kf_prior.specs.FullSources.{full_decl as decl_of, item_for, literal as literal_of, uniform_over as uniform_of};
+ghost use Rattle.kf_prior.specs.Literals.{full_decls as decls_of};
 
 use crate::literals::{literal, set, whole_literal};
 use kf_ast::{Decl, DeclList, Dist, DistNode, Expr, Item, ItemList};

@@ -9,8 +9,8 @@ ghost use Rattle.kf_value.specs.Views.{value_tree};
 ghost use Rattle.kf_ops.specs.Places.{number_of};
 ghost use Rattle.kf_ast.specs.Exprs.{expr_at, exprs, Number, Apply, SetOf};
 ghost use Rattle.kf_ast.specs.Views.{expr_tree, expr_items};
-ghost use Rattle.kf_prior.specs.FullSources.{least_of, literal as literal_of, only as only_of, part_literals as literals_of, parts_of, set_literal as set_of, whole_literal as whole_of};
-ghost use Rattle.kf_prior.specs.Literals.{IsBase, IsShort, HasLiteral, HaveLiterals};
+ghost use Rattle.kf_prior.specs.FullSources.{literal as literal_of, only as only_of, part_literals as literals_of, parts_of, set_literal as set_of, whole_literal as whole_of};
+ghost use Rattle.kf_prior.specs.Literals.{IsBase, IsShort, HasLiteral, HaveLiterals, least_of};
 
 use kf_ast::{Expr, ExprList, ExprNode};
 use kf_ops::Op;

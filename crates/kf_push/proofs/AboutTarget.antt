@@ -12,7 +12,7 @@ use Rattle.kf_column.specs.Laws.{ProjectedNumbers}
 use Rattle.kf_column.specs.Projection.{projected, weight_through}
 use Rattle.kf_column.specs.Shapes.{IsBelow}
 use Rattle.kf_core.specs.Checked.{IsChecked}
-use Rattle.kf_core.specs.Joint.{Cell, is_cell_at, target_number, weight_of}
+use Rattle.kf_core.specs.Joint.{Cell, target_number, weight_of}
 use Rattle.kf_core.specs.Programs.{ProgramTree}
 use Rattle.kf_core.specs.Pushing.{AreBehind, carried_cells}
 use Rattle.kf_core.specs.Rows.{AreRowsOf}
@@ -23,6 +23,7 @@ use Rattle.kf_push.proofs.Beginning.{SilentCells}
 use Rattle.kf_push.proofs.Carrying.{Matrix}
 use Rattle.kf_push.proofs.SilentRows.{columns_of, one_row, one_row_each, silent_row}
 use Rattle.kf_core.proofs.Numbering.{target_number_is}
+use Rattle.kf_core.specs.Each.{is_cell_at}
 
 whole_weight : (w : ℕ) → 1 * w / 1 ≡ w
 whole_weight w = ap (λ n. n / 1) (one-mul w) ∙ div-one w

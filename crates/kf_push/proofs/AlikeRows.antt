@@ -11,13 +11,14 @@ use Rattle.kf_column.specs.Columns.{IsColumn, weight_at, total}
 use Rattle.kf_column.specs.Traces.{Row, trace_order}
 use Rattle.kf_column.proofs.AtMostOne.{In}
 use Rattle.kf_column.proofs.Scaling.{total_positive}
-use Rattle.kf_core.specs.Joint.{Cell, cells, weight_of, HasTrace}
+use Rattle.kf_core.specs.Joint.{Cell, cells, weight_of}
 use Rattle.kf_core.specs.Pushing.{carried_cells, AreBehind}
 use Rattle.kf_core.specs.Rows.{AreRowsOf}
 use Rattle.kf_core.specs.Runs.{Run, stay}
 use Rattle.kf_core.proofs.OneTable.{in_from_contains, contains_from_in}
 use Rattle.kf_core.proofs.Stores.{lists_decide}
 use Rattle.kf_core.proofs.Sums.{adds, each_is, sum_is}
+use Rattle.kf_core.specs.Each.{HasTrace}
 use Rattle.kf_push.proofs.BesideRows.{both_within}
 use Rattle.kf_push.proofs.CellWeights.{Trace, Test, weighs, weight_by, at_both, at_trace, weight_is, trace_weight_is, carried_weigh}
 use Rattle.kf_push.proofs.CellsFrom.{positive_part, part_within, cond_some}

@@ -10,12 +10,13 @@ use Rattle.std.proofs.Math.Nat.{mul-div_assoc, mul_comm, zero-div, zero-mul}
 use Rattle.kf_value.specs.Values.{ValueTree, is_equal}
 use Rattle.kf_value.proofs.ListLemmas.{each_flat_map, each_weaker}
 use Rattle.kf_column.specs.Traces.{Row, trace_order}
-use Rattle.kf_core.specs.Joint.{Cell, cell_of, cells, HasTrace}
+use Rattle.kf_core.specs.Joint.{Cell, cell_of, cells}
 use Rattle.kf_core.specs.Rows.{AreRowsOf}
 use Rattle.kf_core.specs.Runs.{Run, Halted}
 use Rattle.kf_core.proofs.Measures.{Measure, Trace, Ends, RunsWithin, ahead, end_value, runs_value, Full}
 use Rattle.kf_core.proofs.Sums.{adds, adds_joined, sum_filtered, sum_is}
 use Rattle.kf_core.proofs.WeightKept.{Keeps, all_weight}
+use Rattle.kf_core.specs.Each.{HasTrace}
 use Rattle.kf_push.specs.Following.{Takes}
 use Rattle.kf_push.proofs.Declaring.{Silent}
 

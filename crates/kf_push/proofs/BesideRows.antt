@@ -18,12 +18,13 @@ use Rattle.kf_column.specs.Columns.{total, proportional}
 use Rattle.kf_column.specs.Hypers.{class_total}
 use Rattle.kf_column.specs.Traces.{Row, trace_order}
 use Rattle.kf_column.proofs.AtMostOne.{In}
-use Rattle.kf_core.specs.Joint.{Cell, cell_of, cells, weight_of, trace_weight, HasTrace}
+use Rattle.kf_core.specs.Joint.{Cell, cell_of, cells, weight_of, trace_weight}
 use Rattle.kf_core.specs.Pushing.{carried_cells}
 use Rattle.kf_core.specs.Rows.{AreRowsOf}
 use Rattle.kf_core.specs.Runs.{Run}
 use Rattle.kf_core.proofs.OneTable.{in_from_contains, not_both_traces}
 use Rattle.kf_core.proofs.Sums.{adds_both, adds_joined}
+use Rattle.kf_core.specs.Each.{HasTrace}
 use Rattle.kf_push.proofs.CellWeights.{Trace, Test, weighs, weight_by, at_both, at_trace, weight_is, trace_weight_is}
 use Rattle.kf_push.proofs.CellsFrom.{IsTraceOf, IsRowOf, traces, trace_is, rows_told, rows_from}
 use Rattle.kf_push.proofs.ChainedRows.{in_left, in_right}

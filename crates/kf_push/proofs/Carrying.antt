@@ -16,11 +16,12 @@ use Rattle.kf_column.specs.Joint.{mass}
 use Rattle.kf_column.specs.Merged.{SameBeliefs, AreMerged}
 use Rattle.kf_column.specs.Traces.{Row, trace_order}
 use Rattle.kf_column.proofs.Weights.{above_column}
-use Rattle.kf_core.specs.Joint.{cells, weight_of, HasTrace}
+use Rattle.kf_core.specs.Joint.{cells, weight_of}
 use Rattle.kf_core.specs.Pushing.{carried_cells, AreBehind}
 use Rattle.kf_core.specs.Ready.{DivideAlong, IsPushed}
 use Rattle.kf_core.specs.Runs.{Run, chain, stay}
 use Rattle.kf_core.proofs.Measures.{Measure}
+use Rattle.kf_core.specs.Each.{HasTrace}
 use Rattle.kf_push.specs.Following.{Goes, Takes}
 use Rattle.kf_push.specs.Merging.{SplitsOnce, SomeAreBehind, OnlyOneBehind}
 use Rattle.kf_column.proofs.Beliefs.{some_merged, one_merged, merged_columns, merged_again, merged_totals, merged_mass, totals_tell}

@@ -12,13 +12,14 @@ use Rattle.kf_column.specs.declared.entry.Entry.{Entry}
 use Rattle.kf_column.specs.Columns.{IsColumn, weight_at}
 use Rattle.kf_column.specs.Traces.{Row, trace_order}
 use Rattle.kf_column.proofs.AtMostOne.{In}
-use Rattle.kf_core.specs.Joint.{Cell, cell_of, cells, weight_of, HasTrace}
+use Rattle.kf_core.specs.Joint.{Cell, cell_of, cells, weight_of}
 use Rattle.kf_core.specs.Pushing.{carried_cells}
 use Rattle.kf_core.specs.Rows.{AreRowsOf}
 use Rattle.kf_core.specs.Runs.{Run, Halted}
 use Rattle.kf_core.proofs.OneTable.{in_from_contains, contains_from_in}
 use Rattle.kf_core.proofs.Stores.{lists_decide}
 use Rattle.kf_core.proofs.Sums.{adds}
+use Rattle.kf_core.specs.Each.{HasTrace}
 use Rattle.kf_push.proofs.CellWeights.{Trace, weighs, at_trace, run_cells, cells_of_run, trace_weight_is}
 
 pub each_unmap : {X Y : Type 0} (P : Y → Type 0) (f : X → Y) (xs : List X) → Each P (map f xs) → Each (λ x. P (f x)) xs

@@ -8,9 +8,10 @@ use Rattle.kf_value.proofs.ListLemmas.{each_append}
 use Rattle.kf_column.specs.declared.entry.Entry.{Entry}
 use Rattle.kf_core.specs.Joint.{Cell, cell_of, cells}
 use Rattle.kf_core.specs.Pushing.{carried_cells}
-use Rattle.kf_core.specs.Runs.{Run, Halted, chain, joined, onward}
+use Rattle.kf_core.specs.Runs.{Run, Halted, chain, joined}
 use Rattle.kf_core.proofs.Measures.{each_left, each_right}
 use Rattle.kf_core.proofs.Sums.{adds, adds_joined, share_divides, share_of_share, first_positive, second_positive}
+use Rattle.kf_core.specs.Each.{onward}
 use Rattle.kf_push.specs.Following.{Takes}
 use Rattle.kf_push.proofs.CellWeights.{Trace, Test, weighs, weight_by, run_cells, cells_of_run, cells_weigh}
 

@@ -18,7 +18,7 @@ use Rattle.kf_column.specs.Traces.{Row, trace_order}
 use Rattle.kf_column.proofs.AtMostOne.{In}
 use Rattle.kf_column.proofs.Scaling.{two_ways}
 use Rattle.kf_column.proofs.Weights.{above_column}
-use Rattle.kf_core.specs.Joint.{Cell, cells, weight_of, trace_weight, HasTrace}
+use Rattle.kf_core.specs.Joint.{Cell, cells, weight_of, trace_weight}
 use Rattle.kf_core.specs.Pushing.{carried_cells}
 use Rattle.kf_core.specs.Rows.{AreRowsOf}
 use Rattle.kf_core.specs.Runs.{Run, chain}
@@ -26,6 +26,7 @@ use Rattle.kf_core.proofs.Measures.{Measure}
 use Rattle.kf_core.proofs.OneTable.{in_from_contains}
 use Rattle.kf_core.proofs.Stores.{lists_decide}
 use Rattle.kf_core.proofs.Sums.{adds_same, adds_nothing, each_is}
+use Rattle.kf_core.specs.Each.{HasTrace}
 use Rattle.kf_push.specs.Merging.{SplitsOnce}
 use Rattle.kf_push.proofs.CellWeights.{Trace, Test, weighs, weight_by, at_trace, weight_is, trace_weight_is, carried_weigh, cells_plus}
 use Rattle.kf_push.proofs.CellsFrom.{IsTraceOf, IsRowOf, traces, trace_is, cells_traced, rows_told}

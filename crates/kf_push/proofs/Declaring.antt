@@ -8,10 +8,12 @@ use Rattle.kf_value.specs.Values.{ValueTree}
 use Rattle.kf_value.proofs.ListLemmas.{each_any, each_map, each_flat_map, each_weaker}
 use Rattle.kf_core.specs.Choices.{Weighted, total}
 use Rattle.kf_core.specs.Dxs.{DxTree}
-use Rattle.kf_core.specs.Runs.{Run, Halted, Tried, tried, place, replaced, moved, joined, onward, chain, choice_run, branched, silent, ended, assigned, declared, all_runs}
+use Rattle.kf_core.specs.Runs.{Run, Halted, Tried, tried, place, replaced, joined, chain, choice_run, branched, ended, assigned, declared, all_runs}
 use Rattle.kf_core.specs.Sts.{StTree, Assign, sts}
 use Rattle.kf_core.specs.SupportLaws.{RunsChain}
 use Rattle.kf_core.proofs.OneTable.{in_from_contains}
+use Rattle.kf_core.specs.Each.{moved, onward}
+use Rattle.kf_core.specs.Leaks.{silent}
 use Rattle.kf_column.proofs.AtMostOne.{In}
 use Rattle.kf_push.specs.Merging.{SplitsOnce}
 use Rattle.kf_push.proofs.Renaming.{chain_same}

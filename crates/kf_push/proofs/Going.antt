@@ -10,10 +10,11 @@ use Rattle.kf_column.proofs.AtMostOne.{In}
 use Rattle.kf_column.specs.Columns.{IsColumn}
 use Rattle.kf_core.specs.Choices.{Weighted, total}
 use Rattle.kf_core.specs.Ready.{IsPushed}
-use Rattle.kf_core.specs.Runs.{Run, Halted, Tried, joined, chain, choice_run, branched, shown, stay, guarded}
+use Rattle.kf_core.specs.Runs.{Run, Halted, Tried, joined, chain, choice_run, branched, stay, guarded}
 use Rattle.kf_core.proofs.Filled.{Filled}
 use Rattle.kf_core.proofs.Measures.{Full}
 use Rattle.kf_core.proofs.Sums.{first_positive}
+use Rattle.kf_core.specs.Leaks.{shown}
 use Rattle.kf_push.specs.Following.{Takes, Goes, observed, side}
 use Rattle.kf_push.proofs.Carrying.{Runner, Matrix, goes_behind, pushed_chain}
 use Rattle.kf_push.proofs.Sides.{where_wanted, on, chain_side}

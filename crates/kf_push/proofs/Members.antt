@@ -6,7 +6,8 @@ use Rattle.std.proofs.lemmas.List.Elements.{All-head, All-tail}
 use Rattle.kf_value.specs.Values.{ValueTree}
 use Rattle.kf_column.proofs.AtMostOne.{In}
 use Rattle.kf_core.specs.Choices.{Weighted, total}
-use Rattle.kf_core.specs.Runs.{Run, Halted, Tried, joined, onward, chain, choice_run, branched}
+use Rattle.kf_core.specs.Runs.{Run, Halted, Tried, joined, chain, choice_run, branched}
+use Rattle.kf_core.specs.Each.{onward}
 
 -- P holds of each member
 abbrev pub Every : {X : Type 0} → (X → Type 0) → List X → Type 0

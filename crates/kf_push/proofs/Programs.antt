@@ -22,7 +22,7 @@ use Rattle.kf_core.specs.Programs.{ProgramTree}
 use Rattle.kf_core.specs.Pushing.{AreBehind, carried_cells}
 use Rattle.kf_core.specs.Ready.{DivideAlong, IsPushed, IsStart}
 use Rattle.kf_core.specs.Rows.{AreRowsOf, IsHyperOf}
-use Rattle.kf_core.specs.Runs.{Run, all_runs, assigned, chain, copied, declared, program_runs, silent, stay}
+use Rattle.kf_core.specs.Runs.{Run, all_runs, assigned, chain, copied, declared, program_runs, stay}
 use Rattle.kf_core.specs.Scale.{scale_of}
 use Rattle.kf_core.specs.Sts.{sts}
 use Rattle.kf_core.specs.Support.{program_pass}
@@ -33,6 +33,7 @@ use Rattle.kf_core.proofs.Solid.{all_solid, decls_solid}
 use Rattle.kf_core.proofs.Sums.{sum_is}
 use Rattle.kf_core.proofs.WeightKept.{Keeps, all_weight, chain_keeps, decls_keep}
 use Rattle.kf_core.proofs.WholeJoint.{within}
+use Rattle.kf_core.specs.Leaks.{silent}
 use Rattle.kf_push.specs.Following.{Goes, Takes}
 use Rattle.kf_push.specs.Merging.{SplitsOnce}
 use Rattle.kf_push.proofs.Beginning.{some_weight, takes, carried_before, cells_keep, cells_silent, has_silent, one_silent_row}

@@ -6,7 +6,8 @@ use Rattle.std.proofs.Math.Nat.{mul-one}
 use Rattle.std.proofs.lemmas.List.{map-append}
 use Rattle.kf_value.proofs.ListLemmas.{each_map}
 use Rattle.kf_core.specs.Joint.{cell_of, cells}
-use Rattle.kf_core.specs.Runs.{Run, Halted, joined, onward, chain, stay}
+use Rattle.kf_core.specs.Runs.{Run, Halted, joined, chain, stay}
+use Rattle.kf_core.specs.Each.{onward}
 
 abbrev pub renamed_end : (ℕ → ℕ) → Result ℕ Halted → Result ℕ Halted
 renamed_end f (Ok n) = Ok (f n)

@@ -14,12 +14,13 @@ use Rattle.kf_column.specs.Hypers.{class_total}
 use Rattle.kf_column.specs.Traces.{Row, trace_order}
 use Rattle.kf_column.proofs.Scaling.{product_positive, weight_at-scaled, total-scaled, proportional-scaled, times_if}
 use Rattle.kf_column.proofs.Weights.{Above, above_column, column_above}
-use Rattle.kf_core.specs.Joint.{HasTrace, weight_of, trace_weight}
+use Rattle.kf_core.specs.Joint.{weight_of, trace_weight}
 use Rattle.kf_core.specs.Pushing.{carried_cells}
 use Rattle.kf_core.specs.Rows.{AreRowsOf}
 use Rattle.kf_core.specs.Runs.{Run}
 use Rattle.kf_core.proofs.OneTable.{one_table}
 use Rattle.kf_core.proofs.Sums.{second_positive}
+use Rattle.kf_core.specs.Each.{HasTrace}
 use Rattle.kf_push.proofs.CellWeights.{Trace, at_both, at_trace, weight_is, trace_weight_is, carried_times}
 use Rattle.kf_push.proofs.RowColumns.{columns_of, row_list, row_columns, are_rows}
 

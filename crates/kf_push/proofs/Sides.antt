@@ -13,11 +13,13 @@ use Rattle.kf_column.specs.Columns.{IsColumn}
 use Rattle.kf_column.specs.Merged.{AreMerged}
 use Rattle.kf_column.specs.Traces.{trace_order}
 use Rattle.kf_core.specs.Choices.{Weighted, total}
-use Rattle.kf_core.specs.Joint.{Cell, cell_of, cells, is_cell_at, weight_of}
+use Rattle.kf_core.specs.Joint.{Cell, cell_of, cells, weight_of}
 use Rattle.kf_core.specs.Ready.{IsPushed}
-use Rattle.kf_core.specs.Runs.{Run, Tried, LoopBound, joined, onward, chain, choice_run, branched, shown, stay, stopped, guarded}
+use Rattle.kf_core.specs.Runs.{Run, Tried, LoopBound, joined, chain, choice_run, branched, stay, stopped, guarded}
 use Rattle.kf_core.proofs.OneTable.{in_from_contains, contains_from_in}
 use Rattle.kf_core.proofs.Sums.{adds, adds_joined, adds_mapped, adds_flat, adds_both, sum_filtered, each_is}
+use Rattle.kf_core.specs.Leaks.{shown}
+use Rattle.kf_core.specs.Each.{onward, is_cell_at}
 use Rattle.kf_push.specs.Following.{side}
 use Rattle.kf_column.proofs.Beliefs.{some_merged}
 use Rattle.kf_push.proofs.Carrying.{Runner, Matrix, ComeBefore, AreAlike, some_pushed, one_pushed, pushed_columns, pushed_beside, pushed_alike}

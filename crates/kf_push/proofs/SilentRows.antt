@@ -8,9 +8,10 @@ use Rattle.kf_column.specs.declared.entry.Entry.{Entry}
 use Rattle.kf_column.specs.Columns.{IsColumn, weight_at}
 use Rattle.kf_column.specs.Traces.{Row}
 use Rattle.kf_column.proofs.Weights.{weight_at_head}
-use Rattle.kf_core.specs.Joint.{Cell, weight_of, HasTrace}
+use Rattle.kf_core.specs.Joint.{Cell, weight_of}
 use Rattle.kf_core.specs.Rows.{AreRowsOf}
 use Rattle.kf_core.proofs.OneTable.{in_from_contains}
+use Rattle.kf_core.specs.Each.{HasTrace}
 use Rattle.kf_push.proofs.Beginning.{SilentCells, only_silent}
 use Rattle.kf_push.proofs.BesideRows.{both_within}
 use Rattle.kf_push.proofs.CellWeights.{trace_weight_is, weight_is}

@@ -7,8 +7,10 @@ use Rattle.kf_value.specs.Values.{ValueTree, truth}
 use Rattle.kf_column.proofs.AtMostOne.{In}
 use Rattle.kf_core.specs.Dxs.{DxTree}
 use Rattle.kf_core.specs.Sts.{StTree, StTrees, Skip, Assign, Observe, If, While, no_sts, more_sts}
-use Rattle.kf_core.specs.Runs.{Run, Halted, Tried, LoopBound, chain, branched, silent, shown, ended, stay, stopped, moved, replaced, assigned, guarded, looped, tried, place, runs, all_runs, leaks}
+use Rattle.kf_core.specs.Runs.{Run, Halted, Tried, LoopBound, chain, branched, ended, stay, stopped, replaced, assigned, guarded, looped, tried, place, runs, all_runs, leaks}
 use Rattle.kf_core.proofs.OneTable.{in_from_contains}
+use Rattle.kf_core.specs.Each.{moved}
+use Rattle.kf_core.specs.Leaks.{silent, shown}
 use Rattle.kf_push.specs.Following.{side}
 use Rattle.kf_push.specs.Merging.{SplitsOnce}
 use Rattle.kf_push.proofs.Members.{Parts, Picks, chain_parts, branched_picks}

@@ -3,7 +3,8 @@ use Rattle.std.specs.Prelude.{ℕ, ◌<◌, Bool, List, [], All, IsOk, if◌then
 use Rattle.std.specs.Int.{◌∣◌}
 use Rattle.kf_value.specs.Values.{truth}
 use Rattle.kf_column.specs.declared.entry.Entry.{Entry}
-use Rattle.kf_core.specs.Runs.{Run, Tried, branched, shown, stay}
+use Rattle.kf_core.specs.Runs.{Run, Tried, branched, stay}
+use Rattle.kf_core.specs.Leaks.{shown}
 
 -- the run ends, and its share of this weight is whole
 pub record Takes (weight : ℕ) (r : Run) : Type 0 where

@@ -7,23 +7,24 @@ use Rattle.kf_gain.specs.Gains.{Bayes}
 use Rattle.kf_gain.specs.Laws.{OneReport, SomeReport}
 use Rattle.kf_gain.specs.Vulnerabilities.{IsPosterior}
 use Rattle.kf_column.specs.Hypers.{Inner}
-use Rattle.kf_quiet.specs.Blames.{AreBlames, BlameTree, IsBlame}
+use Rattle.kf_quiet.specs.Blames.{AreBlames}
 use Rattle.kf_quiet.specs.Laws.{OnlyOneBlames, SomeBlames, SomeQuiet}
 use Rattle.kf_silent.specs.Quiet.{quiet_joint}
 use Rattle.kf_quiet.proofs.Blames.{AreFirst, first_all, first_more, first_one}
+use Rattle.kf_quiet.specs.Summaries.{SummaryTree, IsSummary}
 
 module _ (hypers : HypersExist) where
   pub some_quiet : SomeQuiet
   some_quiet turns p from to = hypers (quiet_joint turns p from to)
 
   module _ (reports : SomeReport) where
-    some_blame : (joint : List Cell) → (b : BlameTree) × IsBlame joint b
+    some_blame : (joint : List Cell) → (b : SummaryTree) × IsSummary Bayes joint b
     some_blame joint =
         let h = hypers joint in
         let z = (reports Bayes h.0 tt).1 in
-        (record { inners = length h.0; bayes = z.0 }, record { inners = h.0; is_hyper = h.1; counted = refl; bayes = z.1 })
+        (record { inners = length h.0; posterior = z.0 }, record { inners = h.0; is_hyper = h.1; counted = refl; posterior = z.1 })
 
-    some_first : (turns : ℕ) (p : ProgramTree) (count : ℕ) → (blames : List BlameTree) × AreFirst turns p count blames
+    some_first : (turns : ℕ) (p : ProgramTree) (count : ℕ) → (blames : List SummaryTree) × AreFirst turns p count blames
     some_first turns p zero = let b = some_blame (joint_of turns p) in (b.0 ∷ [], first_one turns p b.0 b.1)
     some_first turns p (suc count) =
         let had = some_first turns p count in
@@ -45,19 +46,19 @@ same_read (x ∷ xs) (y ∷ ys) long read =
     λ i. first i ∷ others i
 
 module _ (hypers : HypersAreOne) (reports : OneReport) where
-  same_inners : (a b : BlameTree) (inners others : List Inner) → inners ≡ others → a.inners ≡ length inners → b.inners ≡ length others
-      → IsPosterior Bayes inners a.bayes → IsPosterior Bayes others b.bayes → a ≡ b
+  same_inners : (a b : SummaryTree) (inners others : List Inner) → inners ≡ others → a.inners ≡ length inners → b.inners ≡ length others
+      → IsPosterior Bayes inners a.posterior → IsPosterior Bayes others b.posterior → a ≡ b
   same_inners a b inners others same count number is was =
       let counts : a.inners ≡ b.inners = count ∙ (ap length same ∙ sym number) in
-      let bayes : a.bayes ≡ b.bayes = (reports Bayes others a.bayes b.bayes).1 (subst (λ (l : List Inner). IsPosterior Bayes l a.bayes) same is) was in
-      λ i. record { inners = counts i; bayes = bayes i }
+      let bayes : a.posterior ≡ b.posterior = (reports Bayes others a.posterior b.posterior).1 (subst (λ (l : List Inner). IsPosterior Bayes l a.posterior) same is) was in
+      λ i. record { inners = counts i; posterior = bayes i }
 
-  one_blame : (joint : List Cell) (a b : BlameTree) → IsBlame joint a → IsBlame joint b → a ≡ b
+  one_blame : (joint : List Cell) (a b : SummaryTree) → IsSummary Bayes joint a → IsSummary Bayes joint b → a ≡ b
   one_blame joint a b is was =
-      same_inners a b is.inners was.inners (hypers joint is.inners was.inners is.is_hyper was.is_hyper) is.counted was.counted is.bayes was.bayes
+      same_inners a b is.inners was.inners (hypers joint is.inners was.inners is.is_hyper was.is_hyper) is.counted was.counted is.posterior was.posterior
 
-  one_read : (turns : ℕ) (p : ProgramTree) (blames others : List BlameTree) → AreBlames turns p blames → AreBlames turns p others
-      → (k : ℕ) (a b : BlameTree) → slice_get blames k ≡ Some a → slice_get others k ≡ Some b → a ≡ b
+  one_read : (turns : ℕ) (p : ProgramTree) (blames others : List SummaryTree) → AreBlames turns p blames → AreBlames turns p others
+      → (k : ℕ) (a b : SummaryTree) → slice_get blames k ≡ Some a → slice_get others k ≡ Some b → a ≡ b
   one_read turns p blames others are were zero a b h k = one_blame (joint_of turns p) a b (are.whole a h) (were.whole b k)
   one_read turns p blames others are were (suc i) a b h k =
       one_blame (quiet_joint turns p i (suc i)) a b (are.without i a h) (were.without i b k)

@@ -18,11 +18,12 @@ use Rattle.kf_column.proofs.Beliefs.{merged_columns}
 use Rattle.kf_column.proofs.Scaling.{total_positive}
 use Rattle.kf_column.proofs.Weighing.{classes_weigh, joint_column_weighs}
 use Rattle.kf_column.proofs.Weights.{above_column}
-use Rattle.kf_core.specs.Joint.{Cell, weight_of, HasTrace}
+use Rattle.kf_core.specs.Joint.{Cell, weight_of}
 use Rattle.kf_core.specs.Rows.{AreRowsOf}
 use Rattle.kf_core.proofs.OneTable.{in_from_contains}
 use Rattle.kf_core.proofs.Stores.{lists_decide}
 use Rattle.kf_core.proofs.Sums.{adds, adds_mapped, adds_nothing, adds_same, each_is, sum_is}
+use Rattle.kf_core.specs.Each.{HasTrace}
 use Rattle.kf_gain.specs.Gains.{GainOf, TableTree}
 use Rattle.kf_gain.specs.Vulnerabilities.{IsPosterior}
 use Rattle.kf_gain.specs.Worth.{IsVulnerability, NoBetter}

@@ -11,11 +11,12 @@ use Rattle.kf_value.specs.Values.{is_equal}
 use Rattle.kf_column.proofs.AtMostOne.{In}
 use Rattle.kf_core.specs.Joint.{Cell, cell_of, cells, joint_of, target_number}
 use Rattle.kf_core.specs.Programs.{ProgramTree}
-use Rattle.kf_core.specs.Runs.{Run, Halted, joined, onward, chain, all_runs, declared, copied, program_runs}
+use Rattle.kf_core.specs.Runs.{Run, Halted, joined, chain, all_runs, declared, copied, program_runs}
 use Rattle.kf_core.specs.Scale.{scale_of}
 use Rattle.kf_core.specs.Sts.{StTree, sts}
 use Rattle.kf_core.specs.SupportLaws.{RunsChain}
 use Rattle.kf_core.proofs.Stores.{lists_decide}
+use Rattle.kf_core.specs.Each.{onward}
 use Rattle.kf_silent.specs.Quiet.{hushed, quiet_runs, quiet_joint}
 use Rattle.kf_push.proofs.CellWeights.{Trace}
 use Rattle.kf_push.proofs.CellsFrom.{each_in}

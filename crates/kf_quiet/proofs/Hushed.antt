@@ -13,10 +13,10 @@ use Rattle.kf_gain.specs.Vulnerabilities.{IsPosterior}
 use Rattle.kf_gain.specs.Worth.{NoBetter}
 use Rattle.kf_gain.proofs.Measures.{some}
 use Rattle.kf_quiet.specs.Laws.{NoBlamePasses, QuietLeaksNoMore}
-use Rattle.kf_quiet.specs.Blames.{BlameTree}
 use Rattle.kf_push.proofs.CellWeights.{Trace}
 use Rattle.kf_quiet.proofs.HushRows.{turned_within}
 use Rattle.kf_quiet.proofs.HushRuns.{quiet_is, turned}
+use Rattle.kf_quiet.specs.Summaries.{SummaryTree}
 
 -- a table without actions gives no inner a vulnerability
 module _ (t : TableTree) (none : t.actions ≡ []) where
@@ -59,9 +59,9 @@ no_more sequence turns p from to g all quiet y z order of_all of_quiet =
 pub none_passes : RunsChain → NoBlamePasses
 none_passes sequence turns p blames whole b zero are is one = omega (arith, ints, same_blame whole b (sym is ∙ one))
   where
-    same_blame : (a b : BlameTree) → Some a ≡ Some b → a.bayes ≡ b.bayes
+    same_blame : (a b : SummaryTree) → Some a ≡ Some b → a.posterior ≡ b.posterior
     same_blame a b same = cc
 none_passes sequence turns p blames whole b (suc i) are is one =
     let w = are.whole whole is in
     let q = are.without i b one in
-    no_more sequence turns p i (suc i) Bayes w.inners q.inners b.bayes whole.bayes (omega arith) w.is_hyper q.is_hyper q.bayes w.bayes
+    no_more sequence turns p i (suc i) Bayes w.inners q.inners b.posterior whole.posterior (omega arith) w.is_hyper q.is_hyper q.posterior w.posterior

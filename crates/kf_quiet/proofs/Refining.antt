@@ -14,11 +14,12 @@ use Rattle.kf_column.specs.Hypers.{Inner}
 use Rattle.kf_column.specs.Traces.{Row}
 use Rattle.kf_column.proofs.AtMostOne.{In}
 use Rattle.kf_column.proofs.Weights.{Above, above_column}
-use Rattle.kf_core.specs.Joint.{Cell, HasTrace, weight_of}
+use Rattle.kf_core.specs.Joint.{Cell, weight_of}
 use Rattle.kf_core.specs.Rows.{AreRowsOf, IsHyperOf}
 use Rattle.kf_core.proofs.OneTable.{in_from_contains}
 use Rattle.kf_core.proofs.Stores.{lists_decide}
 use Rattle.kf_core.proofs.Sums.{adds, adds_mapped, adds_nothing, adds_same, each_is}
+use Rattle.kf_core.specs.Each.{HasTrace}
 use Rattle.kf_gain.specs.declared.table.Action.{Action}
 use Rattle.kf_gain.specs.Gains.{GainOf, Bayes, Tries, Guessing, Table, TableTree}
 use Rattle.kf_gain.specs.Laws.{HasActions}

@@ -8,7 +8,8 @@ use Rattle.kf_gain.specs.Gains.{GainOf, TableTree}
 use Rattle.kf_gain.specs.Vulnerabilities.{IsPosterior}
 use Rattle.kf_gain.specs.Worth.{NoBetter}
 use Rattle.kf_silent.specs.Quiet.{quiet_joint}
-use Rattle.kf_quiet.specs.Blames.{BlameTree, AreBlames}
+use Rattle.kf_quiet.specs.Blames.{AreBlames}
+use Rattle.kf_quiet.specs.Summaries.{SummaryTree}
 
 -- every program has a hyper with any of its blocks quiet
 abbrev pub SomeQuiet : Type 0
@@ -16,11 +17,11 @@ SomeQuiet = (turns : ℕ) (p : ProgramTree) (from to : ℕ) → (inners : List I
 
 -- and blames, which are told one by one
 abbrev pub SomeBlames : Type 0
-SomeBlames = (turns : ℕ) (p : ProgramTree) → (blames : List BlameTree) × AreBlames turns p blames
+SomeBlames = (turns : ℕ) (p : ProgramTree) → (blames : List SummaryTree) × AreBlames turns p blames
 
 -- only one list of them
 abbrev pub OnlyOneBlames : Type 0
-OnlyOneBlames = (turns : ℕ) (p : ProgramTree) (blames others : List BlameTree) → AreBlames turns p blames → AreBlames turns p others
+OnlyOneBlames = (turns : ℕ) (p : ProgramTree) (blames others : List SummaryTree) → AreBlames turns p blames → AreBlames turns p others
     → blames ≡ others
 
 -- Whatever the adversary wants, a block that shows nothing leaks no more than one that shows what it shows: the posterior vulnerability
@@ -32,5 +33,5 @@ QuietLeaksNoMore = (turns : ℕ) (p : ProgramTree) (from to : ℕ) (g : GainOf T
 
 -- so no statement's blame passes that of the whole program, which is the first
 abbrev pub NoBlamePasses : Type 0
-NoBlamePasses = (turns : ℕ) (p : ProgramTree) (blames : List BlameTree) (whole b : BlameTree) (i : ℕ)
-    → AreBlames turns p blames → slice_get blames 0 ≡ Some whole → slice_get blames i ≡ Some b → b.bayes ≤ℤ whole.bayes
+NoBlamePasses = (turns : ℕ) (p : ProgramTree) (blames : List SummaryTree) (whole b : SummaryTree) (i : ℕ)
+    → AreBlames turns p blames → slice_get blames 0 ≡ Some whole → slice_get blames i ≡ Some b → b.posterior ≤ℤ whole.posterior

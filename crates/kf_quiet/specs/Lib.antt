@@ -1,4 +1,5 @@
 -- Believed
+pub mod Summaries
 pub mod Blames
 -- For bodies
 pub mod Views

@@ -9,8 +9,9 @@ ghost use Rattle.kf_core.specs.Views.{st_tree};
 ghost use Rattle.kf_gain.specs.Gains.{Bayes};
 ghost use Rattle.kf_gain.specs.Vulnerabilities.{IsPosterior};
 ghost use Rattle.kf_silent.specs.Quiet.{quiet_joint};
-ghost use Rattle.kf_quiet.specs.Blames.{BlameTree, AreBlames};
+ghost use Rattle.kf_quiet.specs.Blames.{AreBlames};
 ghost use Rattle.kf_quiet.specs.Standing.{StandsBefore};
+ghost use Rattle.kf_quiet.specs.Summaries.{SummaryTree};
 ghost use Rattle.kf_quiet.specs.Unseen.{ShowsNothing};
 ghost use Rattle.kf_quiet.specs.Views.{ShowBlames, ShowsBlameOf};
 
@@ -115,7 +116,7 @@ fn blame_without<P: Pusher>(
 /// The blames of a program: the number of inners and the posterior Bayes vulnerability of its hyper, and then of its hyper where each
 /// outermost statement in turn is quiet.
 pub fn blame_of<P: Pusher>(alloc: Global, p: &P) -> Result<BlameList, Mem>
-    ensures { IfOk result (λ blames. (trees : List BlameTree) × AreBlames (P.meaning p.now).turns (P.meaning p.now).program trees
+    ensures { IfOk result (λ blames. (trees : List SummaryTree) × AreBlames (P.meaning p.now).turns (P.meaning p.now).program trees
         × ShowBlames (P.meaning p.now).scale trees blames) }
 {
     let count = p.program().body.as_slice().len();

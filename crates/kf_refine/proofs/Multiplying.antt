@@ -18,7 +18,7 @@ use Rattle.kf_simplex.specs.Systems.{LinearSystem, right_column}
 use Rattle.kf_refine.proofs.Tabling.{place_below}
 use Rattle.kf_refine.specs.Equations.{AreEquations}
 use Rattle.kf_refine.specs.Refinements.{HyperTree, count}
-use Rattle.kf_refine.specs.Verdicts.{multiplier}
+use Rattle.kf_refine.specs.Built.{multiplier}
 
 -- either some number isn't 0, or all are
 find_some : (m : ℕ) (f : ℕ → ℤ) → ((k : ℕ) × (k < m) × (f k ≢ pos 0)) ⊎ ((k : ℕ) → k < m → f k ≡ pos 0)

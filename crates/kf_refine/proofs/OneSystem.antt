@@ -11,7 +11,8 @@ use Rattle.kf_frac.proofs.CommonDivisors.{gcd_is, gcd_positive, gcd_swap, gcd_mu
 use Rattle.kf_frac.proofs.CommonMultiples.{product_positive}
 use Rattle.kf_column.proofs.AtMostOne.{In, Ordered, same_lists}
 use Rattle.kf_hyper.proofs.Rising.{Rises, rises}
-use Rattle.kf_simplex.specs.Systems.{LinearSystem, IsSystem, SameNumbers, right_column}
+use Rattle.kf_simplex.specs.Systems.{LinearSystem, IsSystem, right_column}
+use Rattle.kf_simplex.specs.Laws.{SameNumbers}
 use Rattle.kf_refine.specs.Refinements.{HyperTree, count, joint}
 use Rattle.kf_refine.specs.Equations.{AreKept, AreWhole, AreEquations}
 

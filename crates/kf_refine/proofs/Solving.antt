@@ -16,8 +16,8 @@ use Rattle.kf_column.specs.Averages.{joint_weight, average_weight}
 use Rattle.kf_simplex.specs.Base.{total}
 use Rattle.kf_simplex.specs.Systems.{LinearSystem}
 use Rattle.kf_simplex.specs.Runs.{solution}
-use Rattle.kf_simplex.specs.Solutions.{Solves}
-use Rattle.kf_simplex.specs.Answers.{AreSolution, num_at, den_at}
+use Rattle.kf_simplex.specs.Solutions.{Solves, AreSolution}
+use Rattle.kf_simplex.specs.Answers.{num_at, den_at}
 use Rattle.kf_simplex.specs.declared.outcome.Outcome.TheVariants as outcome
 use Rattle.kf_simplex.proofs.Endings.{good_end}
 use Rattle.kf_simplex.proofs.Outcomes.{solution_is_right, den_positive}

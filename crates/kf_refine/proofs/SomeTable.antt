@@ -16,9 +16,10 @@ use Rattle.kf_gain.specs.Gains.{TableTree}
 use Rattle.kf_simplex.specs.Answers.{num_at, den_at}
 use Rattle.kf_simplex.specs.Base.{at}
 use Rattle.kf_refine.specs.Refinements.{Fraction}
-use Rattle.kf_refine.specs.Verdicts.{IsMatrixOf, multiplier, IsShift, IsActionOf, IsTableOf}
+use Rattle.kf_refine.specs.Verdicts.{IsMatrixOf, IsShift, IsActionOf, IsTableOf}
 use Rattle.kf_refine.proofs.OneSystem.{Place, place}
 use Rattle.kf_refine.proofs.SomeWhole.{Greatest, DividesBelow, closed_below, both_greatest, greatest_of, greatest_below, only_one}
+use Rattle.kf_refine.specs.Built.{multiplier}
 
 -- ---- lists by a function
 

@@ -12,13 +12,13 @@ use Rattle.std.proofs.lemmas.Bool.Decides.{nat_tests}
 use Rattle.kf_column.specs.declared.entry.Entry.{Entry}
 use Rattle.kf_column.specs.Columns.{proportional}
 use Rattle.kf_column.specs.Classes.{IsReduced}
-use Rattle.kf_column.specs.Hypers.{list_order}
 use Rattle.kf_column.proofs.AtMostOne.{In}
 use Rattle.kf_column.proofs.Gathering.{same_list}
 use Rattle.kf_column.proofs.Ordered.{proportional-swap}
 use Rattle.kf_column.proofs.Posteriors.{same_inner}
 use Rattle.kf_column.proofs.Proportions.{proportional_all, all_proportional}
 use Rattle.kf_column.proofs.Scaling.{proportional_reduced, proportional_itself}
+use Rattle.kf_column.specs.Shapes.{list_order}
 use Rattle.kf_refine.specs.Rows.{Rows, found, row_of, row_at, AreAlike, AreSmallest}
 use Rattle.kf_refine.proofs.Members.{Rises, in_contains, contains_in, in_left, in_right, in_either, all_in, rises_increasing, rises_behind, front_below, back_above}
 

@@ -1,5 +1,5 @@
 -- For bodies: common divisors of joint weights, and the numbers of the equations that are built.
-use Rattle.std.specs.Prelude.{◌≡◌, ℕ, ◌-◌, ◌*◌, ◌/◌, ◌%◌, ◌^◌, ◌<◌, ◌≤◌, ◌⊎◌, ◌==◌, nat_lt, All, ℤ, pos, unsigned_abs, List, length, slice_index, if◌then◌else◌}
+use Rattle.std.specs.Prelude.{◌≡◌, ℕ, ◌-◌, ◌*◌, ◌/◌, ◌%◌, ◌^◌, ◌<◌, ◌≤◌, ◌⊎◌, ◌==◌, nat_lt, All, ℤ, pos, unsigned_abs, List, length, slice_index, if◌then◌else◌, ◌+◌}
 use Rattle.std.specs.Int.{◌∣◌}
 use Rattle.kf_frac.specs.Divisors.{gcd_of}
 use Rattle.kf_simplex.specs.declared.system.Equation.{Equation}
@@ -81,3 +81,7 @@ HasWide unknowns coefficient = (c : ℕ) × (c < unknowns) × (2 ^ 62 < unsigned
 -- one of the numbers of an equation does
 abbrev pub IsWide : ℕ → (ℕ → ℤ) → ℤ → Type 0
 IsWide unknowns coefficient right = HasWide unknowns coefficient ⊎ (2 ^ 62 < unsigned_abs right)
+
+-- the multiplier of the equation of the q-th kept value and inner j of b
+abbrev pub multiplier : ℕ → List ℤ → ℕ → ℕ → ℤ
+multiplier n multipliers q j = at multipliers (q * n + j)

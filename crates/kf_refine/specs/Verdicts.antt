@@ -37,14 +37,11 @@ pub record IsMatrixOf (m n : ℕ) (solution : List Frac) (rows : List (List Frac
   pub entries : (i j : ℕ) → i < m → j < n
       → entry rows i j ≡ record { num = num_at solution (i * n + j); den = den_at solution (i * n + j) }
 
--- the multiplier of the equation of the q-th kept value and inner j of b
-abbrev pub multiplier : ℕ → List ℤ → ℕ → ℕ → ℤ
-multiplier n multipliers q j = at multipliers (q * n + j)
-
--- the least number, from 0 on, that makes no multiplier of such an equation negative once it is added
+-- the least number, from 0 on, that makes no multiplier negative once it is added: that of the equation of the q-th kept value and inner j
+-- of b has the number q * n + j
 pub record IsShift (kept n : ℕ) (multipliers : List ℤ) (shift : ℕ) : Type 0 where
-  pub enough : (q j : ℕ) → q < kept → j < n → pos 0 ≤ℤ (multiplier n multipliers q j +ℤ pos shift)
-  pub least : (k : ℕ) → ((q j : ℕ) → q < kept → j < n → pos 0 ≤ℤ (multiplier n multipliers q j +ℤ pos k)) → shift ≤ k
+  pub enough : (q j : ℕ) → q < kept → j < n → pos 0 ≤ℤ (at multipliers (q * n + j) +ℤ pos shift)
+  pub least : (k : ℕ) → ((q j : ℕ) → q < kept → j < n → pos 0 ≤ℤ (at multipliers (q * n + j) +ℤ pos k)) → shift ≤ k
 
 -- the j-th action, from 0
 abbrev pub action_at : List Action → ℕ → Action
@@ -55,7 +52,7 @@ pub record IsActionOf (kept : List ℕ) (n : ℕ) (multipliers : List ℤ) (shif
   pub name : a.name ≡ codes "b" ++ decimal j
   pub values : map (λ e. e.value) a.gains ≡ kept
   pub gains : (q : ℕ) → q < length kept
-      → pos factor *ℤ at (map (λ e. e.gain) a.gains) q ≡ multiplier n multipliers q j +ℤ pos shift
+      → pos factor *ℤ at (map (λ e. e.gain) a.gains) q ≡ at multipliers (q * n + j) +ℤ pos shift
 
 -- the gain table of multipliers: an action for each inner of b, over 1; the shift is the gain at every other value, and all gains
 -- together have no common factor. The multipliers of the last equations, one for each inner of a, aren't used
@@ -69,7 +66,7 @@ pub record IsTableOf (values : List ℕ) (n : ℕ) (multipliers : List ℤ) (t :
   pub many : length t.actions ≡ n
   pub actions : (j : ℕ) → j < n → IsActionOf values n multipliers shift factor j (action_at t.actions j)
   pub no_common_factor : (d : ℕ) → (d * factor) ∣ shift
-      → ((q j : ℕ) → q < length values → j < n → (d * factor) ∣ unsigned_abs (multiplier n multipliers q j +ℤ pos shift))
+      → ((q j : ℕ) → q < length values → j < n → (d * factor) ∣ unsigned_abs (at multipliers (q * n + j) +ℤ pos shift))
       → d ≡ 1
 
 -- the tableau has at most 4,000,000 cells, and the run on the equations, with so many pivots, answers this

@@ -5,7 +5,8 @@ ghost use Rattle.std.specs.Int.{◌∣◌};
 ghost use Rattle.std.specs.List.Sorted.{IsStrictlyIncreasing};
 ghost use Rattle.kf_gain.specs.Views.{table_tree};
 ghost use Rattle.kf_simplex.specs.Base.{at};
-ghost use Rattle.kf_refine.specs.Verdicts.{IsActionOf, IsTableOf, multiplier};
+ghost use Rattle.kf_refine.specs.Verdicts.{IsActionOf, IsTableOf};
+ghost use Rattle.kf_refine.specs.Built.{multiplier};
 
 use kf_frac::gcd;
 use kf_gain::{Action, ActionList, GainEntry, GainEntryList, GainTable};

@@ -13,13 +13,14 @@ use Rattle.kf_core.specs.Checked.{IsChecked}
 use Rattle.kf_core.specs.ChoiceLaws.{ChoicesAreShares}
 use Rattle.kf_core.specs.Programs.{ProgramTree}
 use Rattle.kf_core.specs.Ready.{IsPushed, IsReady, IsStart}
-use Rattle.kf_core.specs.Runs.{all_runs, assigned, copied, declared, silent, stay}
+use Rattle.kf_core.specs.Runs.{all_runs, assigned, copied, declared, stay}
 use Rattle.kf_core.specs.Scale.{scale_of}
 use Rattle.kf_core.specs.Sts.{sts}
 use Rattle.kf_core.specs.Support.{program_pass}
 use Rattle.kf_core.specs.SupportLaws.{BlockAgrees, CommonScaleIsLeast, ProgramAgrees, RunsChain, ScalesArePositive}
 use Rattle.kf_core.specs.Views.{dx_items, dx_tree, program_tree}
 use Rattle.kf_core.proofs.FirstStore.{first_store_there}
+use Rattle.kf_core.specs.Leaks.{silent}
 use Rattle.kf_push.specs.Following.{Goes}
 use Rattle.kf_push.proofs.Carrying.{Matrix}
 use Rattle.kf_push.proofs.Programs.{whole_on_first, declared_goes, declared_more, declared_none, start_goes, start_made}

@@ -7,12 +7,13 @@ use Rattle.std.proofs.lemmas.List.{drop_all}
 use Rattle.std.proofs.lemmas.List.Elements.{All-from_recursion, All-push}
 use Rattle.std.proofs.lemmas.List.Sums.{sum_by-cons}
 use Rattle.kf_core.specs.Choices.{Chosen, ChoiceFault, Weighted, total}
-use Rattle.kf_core.specs.Runs.{Tried, placed_at}
+use Rattle.kf_core.specs.Runs.{Tried}
 use Rattle.kf_eval.specs.Choices.{IsChoiceFaultOf}
 use Rattle.kf_eval.specs.declared.choice.ChoiceError.{ChoiceError}
 use Rattle.kf_eval.specs.declared.choice.ChoiceError.TheVariants as error
 use Rattle.kf_core.proofs.Filled.{Filled}
 use Rattle.kf_core.proofs.Scales.{Weighty}
+use Rattle.kf_core.specs.Each.{placed_at}
 
 -- choices have some weight
 pub total_some : (g : Tried) (ws : List Weighted) → g ≡ Ok ws → Filled g → Weighty g → 1 ≤ total ws

@@ -13,10 +13,11 @@ use Rattle.kf_column.specs.Columns as column
 use Rattle.kf_core.specs.Choices.{Weighted, total}
 use Rattle.kf_core.specs.Joint.{Cell, cell_of}
 use Rattle.kf_core.specs.Pushing.{carried_cells}
-use Rattle.kf_core.specs.Runs.{Run, Tried, joined, branched, choice_run, shown, stay}
+use Rattle.kf_core.specs.Runs.{Run, Tried, joined, branched, choice_run, stay}
 use Rattle.kf_core.specs.Ready.{IsPushed}
 use Rattle.kf_core.proofs.Filled.{Filled}
 use Rattle.kf_core.proofs.Sums.{adds, adds_joined, sum_is, each_is}
+use Rattle.kf_core.specs.Leaks.{shown}
 use Rattle.kf_push.specs.Following.{Goes, Takes, observed, side}
 use Rattle.kf_push.proofs.Carrying.{Matrix, pushed_mass}
 use Rattle.kf_run.proofs.Sharing.{its_cells}

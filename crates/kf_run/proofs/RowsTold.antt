@@ -13,11 +13,12 @@ use Rattle.kf_column.specs.declared.entry.Entry.{Entry}
 use Rattle.kf_column.specs.Columns.{IsColumn, weight_at}
 use Rattle.kf_column.specs.Traces.{Row, trace_order}
 use Rattle.kf_column.proofs.Weights.{Above, column_above, weight_at_head}
-use Rattle.kf_core.specs.Joint.{Cell, is_cell_at, trace_weight, weight_of, HasTrace}
+use Rattle.kf_core.specs.Joint.{Cell, trace_weight, weight_of}
 use Rattle.kf_core.specs.Rows.{AreRowsOf}
 use Rattle.kf_core.proofs.Measures.{Full}
 use Rattle.kf_core.proofs.Stores.{lists_decide, lists_order-itself}
 use Rattle.kf_core.proofs.Sums.{adds, sum_filtered}
+use Rattle.kf_core.specs.Each.{HasTrace, is_cell_at}
 
 abbrev pub Trace : Type 0
 Trace = List ValueTree

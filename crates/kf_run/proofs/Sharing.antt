@@ -23,10 +23,12 @@ use Rattle.kf_core.specs.Dxs.{DxTree}
 use Rattle.kf_core.specs.Joint.{Cell, cells, cell_of, weight_of}
 use Rattle.kf_core.specs.Programs.{ProgramTree}
 use Rattle.kf_core.specs.Pushing.{carried_cells}
-use Rattle.kf_core.specs.Runs.{Run, Tried, assigned, copied, joined, branched, choice_run, moved, place as stop_place, replaced, shown, silent, stay, tried}
+use Rattle.kf_core.specs.Runs.{Run, Tried, assigned, copied, joined, branched, choice_run, place as stop_place, replaced, stay, tried}
 use Rattle.kf_core.proofs.Filled.{moved_some}
 use Rattle.kf_core.proofs.Measures.{Full}
 use Rattle.kf_core.proofs.Sums.{adds, adds_joined, second_positive, sum_is}
+use Rattle.kf_core.specs.Each.{moved}
+use Rattle.kf_core.specs.Leaks.{silent, shown}
 use Rattle.kf_eval.specs.Choices.{weighted_trees}
 use Rattle.kf_eval.specs.declared.choice.Choice.{Choice}
 use Rattle.kf_support.specs.Moves.{store_behind}

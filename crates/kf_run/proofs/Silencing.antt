@@ -31,11 +31,12 @@ use Rattle.kf_push.proofs.Carrying.{Runner, Matrix, behind_columns, none_behind,
 use Rattle.kf_silent.proofs.QuietBlock.{behind_more}
 use Rattle.kf_silent.proofs.QuietRuns.{goes_alike, sum_behind}
 use Rattle.kf_push.proofs.Splitting.{splits_once}
-use Rattle.kf_silent.specs.Silent.{Path, all_silent_runs, only, silent_runs, within}
+use Rattle.kf_silent.specs.Silent.{Path, all_silent_runs, silent_runs, within}
 use Rattle.kf_silent.proofs.Hushing.{SameHushed, block_hushed, statement_hushed}
 use Rattle.kf_silent.proofs.Ranges.{block_seen, silent_hushed, statement_seen}
 use Rattle.kf_silent.proofs.SilentGoes.{same_full}
 use Rattle.kf_silent.proofs.SilentSplits as traces
+use Rattle.kf_silent.specs.Paths.{only}
 use Rattle.kf_run.specs.Going.{CanGo, HasGone}
 use Rattle.kf_run.specs.Silence.{silent_at}
 use Rattle.kf_run.proofs.Blocks.{block_carries, statement_carries}

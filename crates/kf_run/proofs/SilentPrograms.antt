@@ -26,9 +26,10 @@ use Rattle.kf_push.specs.Meanings.{IsFinished, IsMeaning}
 use Rattle.kf_push.proofs.Carrying.{Runner, pushed_again, pushed_chain, pushed_columns}
 use Rattle.kf_push.proofs.Programs.{start_along}
 use Rattle.kf_push.proofs.Statements.{blocks_split, goes_first, ready_goes}
-use Rattle.kf_silent.specs.Silent.{Path, all_silent_runs, only, silent_joint, within}
+use Rattle.kf_silent.specs.Silent.{Path, all_silent_runs, silent_joint, within}
 use Rattle.kf_silent.proofs.Ranges.{block_seen, statement_seen}
 use Rattle.kf_silent.proofs.SilentGoes.{block_goes, blocks_chain, silent_hyper, silent_whole}
+use Rattle.kf_silent.specs.Paths.{only}
 use Rattle.kf_run.specs.Before.{meant}
 use Rattle.kf_run.specs.Behind.{Behind, front}
 use Rattle.kf_run.specs.Going.{CanGo, HasGone}

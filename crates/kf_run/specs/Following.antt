@@ -2,7 +2,9 @@
 use Rattle.std.specs.Prelude.{ℕ, List, Option}
 use Rattle.kf_value.specs.Types.{TypeTree}
 use Rattle.kf_core.specs.Dxs.{DxTree}
-use Rattle.kf_core.specs.Runs.{Run, branched, moved, place, shown, tried}
+use Rattle.kf_core.specs.Runs.{Run, branched, place, tried}
+use Rattle.kf_core.specs.Each.{moved}
+use Rattle.kf_core.specs.Leaks.{shown}
 use Rattle.kf_support.specs.Moves.{store_behind}
 
 -- the choices' values are leaked, and each leads to the store behind it: of an observation into none, of a shown assignment into its variable

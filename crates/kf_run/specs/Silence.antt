@@ -1,7 +1,8 @@
 -- For bodies: one silent statement, by where it stands.
 use Rattle.std.specs.Prelude.{ℕ, Bool, false, List, Option, None, Some}
 use Rattle.std.specs.Borrow.{Bor}
-use Rattle.kf_silent.specs.Silent.{Path, only}
+use Rattle.kf_silent.specs.Silent.{Path}
+use Rattle.kf_silent.specs.Paths.{only}
 
 -- the one statement at this path, or none
 abbrev pub silent_at : Option (Bor (List ℕ)) → Path → Bool

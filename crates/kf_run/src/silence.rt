@@ -1,7 +1,8 @@
 //! One statement that is silent, by where it stands: a path within the statement or block at hand, or none.
 
 ghost use Rattle.std.specs.Prelude.{◌≡◌, [], ◌∷◌};
-ghost use Rattle.kf_silent.specs.Silent.{Path, only};
+ghost use Rattle.kf_silent.specs.Silent.{Path};
+ghost use Rattle.kf_silent.specs.Paths.{only};
 ghost use Rattle.kf_run.specs.Silence.{silent_at};
 
 /// The rest of a path that begins with this number; none where it doesn't.

@@ -3,7 +3,8 @@ use Rattle.std.proofs.Common.{◌≡◌, ℕ, List, [], ◌∷◌, ◌++◌, map
 use Rattle.std.proofs.Math.Nat.{mul_assoc, one-mul}
 use Rattle.std.proofs.lemmas.Grind.{flat_map-append}
 use Rattle.std.proofs.lemmas.List.{map-append}
-use Rattle.kf_core.specs.Runs.{Run, Halted, chain, joined, onward, stay}
+use Rattle.kf_core.specs.Runs.{Run, Halted, chain, joined, stay}
+use Rattle.kf_core.specs.Each.{onward}
 use Rattle.kf_push.proofs.Carrying.{Runner}
 
 -- ---- a run that stays

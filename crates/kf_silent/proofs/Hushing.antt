@@ -6,12 +6,14 @@ use Rattle.std.proofs.lemmas.List.{map-append}
 use Rattle.kf_value.specs.Types.{TypeTree}
 use Rattle.kf_value.specs.Values.{ValueTree, truth}
 use Rattle.kf_core.specs.Choices.{Weighted, total}
-use Rattle.kf_core.specs.Runs.{Run, Tried, all_runs, assigned, branched, chain, choice_run, guarded, joined, leaks, looped, place, runs, shown, stay, tried}
+use Rattle.kf_core.specs.Runs.{Run, Tried, all_runs, assigned, branched, chain, choice_run, guarded, joined, leaks, looped, place, runs, stay, tried}
 use Rattle.kf_core.specs.Sts.{StTree, StTrees, Skip, Assign, Observe, If, While, no_sts, more_sts}
-use Rattle.kf_silent.specs.Quiet.{hush, hushed}
+use Rattle.kf_core.specs.Leaks.{shown}
+use Rattle.kf_silent.specs.Quiet.{hushed}
 use Rattle.kf_push.proofs.Carrying.{Runner}
 use Rattle.kf_silent.proofs.QuietRuns.{hushed_chain, hushed_twice}
 use Rattle.kf_silent.specs.Silent.{Path, all_silent_runs, silent_runs, unless_silent, within}
+use Rattle.kf_silent.specs.Paths.{hush}
 
 -- ---- choices
 

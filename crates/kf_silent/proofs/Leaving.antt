@@ -7,7 +7,9 @@ use Rattle.std.proofs.lemmas.List.{append_cancel_left, map-id}
 use Rattle.kf_value.specs.Values.{ValueTree, truth}
 use Rattle.kf_column.proofs.AtMostOne.{In}
 use Rattle.kf_core.specs.Choices.{Weighted, total}
-use Rattle.kf_core.specs.Runs.{Run, Halted, Tried, LoopBound, branched, chain, choice_run, guarded, joined, looped, onward, shown, stay, stopped}
+use Rattle.kf_core.specs.Runs.{Run, Halted, Tried, LoopBound, branched, chain, choice_run, guarded, joined, looped, stay, stopped}
+use Rattle.kf_core.specs.Leaks.{shown}
+use Rattle.kf_core.specs.Each.{onward}
 use Rattle.kf_silent.specs.Quiet.{hushed}
 use Rattle.kf_push.proofs.Carrying.{Runner}
 use Rattle.kf_push.proofs.CellWeights.{Trace}

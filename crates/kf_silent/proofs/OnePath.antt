@@ -6,9 +6,10 @@ use Rattle.std.proofs.lemmas.Slice.Eq.{bytes_eq-Decides}
 use Rattle.kf_value.specs.Types.{TypeTree}
 use Rattle.kf_core.specs.Runs.{all_runs, chain, runs}
 use Rattle.kf_core.specs.Sts.{StTree, sts}
-use Rattle.kf_silent.specs.Silent.{Path, all_silent_runs, only, silent_runs, within}
+use Rattle.kf_silent.specs.Silent.{Path, all_silent_runs, silent_runs, within}
 use Rattle.kf_silent.proofs.Chaining.{chain_chain, stay_chain}
 use Rattle.kf_silent.proofs.Ranges.{block_seen, statement_seen}
+use Rattle.kf_silent.specs.Paths.{only}
 
 -- nothing is silent that begins with another number
 abbrev pub IsAt : (Path → Bool) → ℕ → Type 0

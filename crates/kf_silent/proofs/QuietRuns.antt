@@ -14,11 +14,13 @@ use Rattle.kf_column.proofs.Weighing.{averages_weigh, joint_column_weighs}
 use Rattle.kf_core.specs.Joint.{Cell, cell_of, cells, weight_of}
 use Rattle.kf_core.specs.Pushing.{AreBehind, carried_cells}
 use Rattle.kf_core.specs.Ready.{IsPushed}
-use Rattle.kf_core.specs.Runs.{Run, Halted, chain, joined, onward}
+use Rattle.kf_core.specs.Runs.{Run, Halted, chain, joined}
 use Rattle.kf_core.proofs.Measures.{Full}
 use Rattle.kf_core.proofs.Sums.{adds, adds_mapped, each_is, sum_is}
+use Rattle.kf_core.specs.Each.{onward}
 use Rattle.kf_push.specs.Following.{Goes, Takes}
-use Rattle.kf_silent.specs.Quiet.{hush, hushed}
+use Rattle.kf_silent.specs.Quiet.{hushed}
+use Rattle.kf_silent.specs.Paths.{hush}
 use Rattle.kf_push.proofs.Beginning.{SilentCells}
 use Rattle.kf_push.proofs.Carrying.{Matrix, Runner, behind_columns, each_goes, goes_from_each}
 use Rattle.kf_push.proofs.CellWeights.{at_both, weight_is, weighs}

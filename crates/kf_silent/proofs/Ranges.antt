@@ -6,16 +6,18 @@ use Rattle.std.proofs.lemmas.List.{drop-drop}
 use Rattle.std.proofs.lemmas.Slice.Eq.{bytes_eq-Decides}
 use Rattle.kf_value.specs.Types.{TypeTree}
 use Rattle.kf_core.specs.Joint.{cells, target_number}
-use Rattle.kf_core.specs.Runs.{Run, all_runs, assigned, branched, chain, copied, declared, guarded, leaks, looped, place, runs, shown, stay, tried}
+use Rattle.kf_core.specs.Runs.{Run, all_runs, assigned, branched, chain, copied, declared, guarded, leaks, looped, place, runs, stay, tried}
 use Rattle.kf_core.specs.Scale.{scale_of}
 use Rattle.kf_core.specs.Sts.{StTree, StTrees, Skip, Assign, Observe, If, While, no_sts, more_sts, sts}
+use Rattle.kf_core.specs.Leaks.{shown}
 use Rattle.kf_silent.specs.Quiet.{hushed}
 use Rattle.kf_push.proofs.Carrying.{Runner}
 use Rattle.kf_silent.proofs.QuietRuns.{hushed_chain, hushed_twice}
 use Rattle.kf_silent.specs.Laws.{IsRange, NothingIsSilent, OneIsQuiet, SilentIsQuiet}
-use Rattle.kf_silent.specs.Silent.{Path, all_silent_runs, only, silent_runs, unless_silent, within}
+use Rattle.kf_silent.specs.Silent.{Path, all_silent_runs, silent_runs, unless_silent, within}
 use Rattle.kf_silent.proofs.Chaining.{chain_chain, stay_chain}
 use Rattle.kf_silent.proofs.Hushing.{statement_hushed}
+use Rattle.kf_silent.specs.Paths.{only}
 
 -- ---- where nothing is silent
 

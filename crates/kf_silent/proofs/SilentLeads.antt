@@ -3,18 +3,20 @@ use Rattle.std.proofs.Common.{◌≡◌, ℕ, suc, ◌+◌, Bool, true, false, L
 use Rattle.kf_value.specs.Types.{TypeTree}
 use Rattle.kf_core.specs.Dxs.{DxTree}
 use Rattle.kf_core.specs.Programs.{ProgramTree}
-use Rattle.kf_core.specs.Runs.{Run, assigned, branched, chain, copied, declared, guarded, leaks, looped, place, shown, stay, tried}
+use Rattle.kf_core.specs.Runs.{Run, assigned, branched, chain, copied, declared, guarded, leaks, looped, place, stay, tried}
 use Rattle.kf_core.specs.Sts.{StTree, StTrees, Skip, Assign, Observe, If, While, no_sts, more_sts, sts}
+use Rattle.kf_core.specs.Leaks.{shown}
 use Rattle.kf_push.proofs.Carrying.{Runner}
 use Rattle.kf_push.proofs.CellsFrom.{each_in}
 use Rattle.kf_push.proofs.CellWeights.{Trace}
 use Rattle.kf_push.proofs.Declaring.{declared_silent}
 use Rattle.kf_push.proofs.Splitting.{Splits, assigned_splits, guarded_splits, looped_splits, shown_splits, stay_splits}
 use Rattle.kf_silent.specs.Laws.{AreSilentToo, IsSilentAmong, IsSilentWithin}
-use Rattle.kf_silent.specs.Silent.{Path, IsAmong, IsWithin, all_silent_runs, silent_runs, within}
+use Rattle.kf_silent.specs.Silent.{Path, all_silent_runs, silent_runs, within}
 use Rattle.kf_silent.proofs.Hushing.{SameHushed, block_hushed, guarded_hushed, looped_hushed}
 use Rattle.kf_silent.proofs.Leaving.{Leads, if_leads, leads_chain, leads_guarded, leads_itself, leads_looped}
 use Rattle.kf_silent.proofs.SilentSplits.{block_splits}
+use Rattle.kf_silent.specs.Paths.{IsWithin, IsAmong}
 
 -- ---- the paths of a statement, and of the statements of a block from the one with this place on
 

@@ -2,8 +2,9 @@
 use Rattle.std.proofs.Common.{ℕ, suc, Bool, true, false, List, []}
 use Rattle.std.specs.Prelude.{if◌then◌else◌}
 use Rattle.kf_value.specs.Types.{TypeTree}
-use Rattle.kf_core.specs.Runs.{assigned, branched, guarded, leaks, looped, place, shown, stay, tried}
+use Rattle.kf_core.specs.Runs.{assigned, branched, guarded, leaks, looped, place, stay, tried}
 use Rattle.kf_core.specs.Sts.{StTree, StTrees, Skip, Assign, Observe, If, While, no_sts, more_sts}
+use Rattle.kf_core.specs.Leaks.{shown}
 use Rattle.kf_silent.specs.Quiet.{hushed}
 use Rattle.kf_push.proofs.Carrying.{Runner}
 use Rattle.kf_silent.proofs.QuietRuns.{hushed_splits}

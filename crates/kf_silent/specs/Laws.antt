@@ -10,7 +10,8 @@ use Rattle.kf_core.specs.Rows.{IsHyperOf}
 use Rattle.kf_core.specs.Sts.{StTree, sts}
 use Rattle.kf_push.specs.Merging.{SplitsOnce}
 use Rattle.kf_silent.specs.Quiet.{quiet_joint}
-use Rattle.kf_silent.specs.Silent.{Path, IsPath, all_silent_runs, only, silent_joint, within}
+use Rattle.kf_silent.specs.Silent.{Path, all_silent_runs, silent_joint, within}
+use Rattle.kf_silent.specs.Paths.{IsPath, only}
 
 -- the set has each outermost statement with a place in this range, and nothing that stands outside of the range
 pub record IsRange (silent : Path → Bool) (from to : ℕ) : Type 0 where

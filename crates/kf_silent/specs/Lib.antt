@@ -3,3 +3,4 @@ pub mod Quiet
 pub mod Silent
 -- For bodies
 pub mod Laws
+pub mod Paths

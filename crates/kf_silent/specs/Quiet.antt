@@ -7,12 +7,9 @@ use Rattle.kf_core.specs.Scale.{scale_of}
 use Rattle.kf_core.specs.Sts.{sts}
 use Rattle.kf_push.specs.Blocks.{block_runs}
 
--- a run of which nothing is seen
-abbrev pub hush : Run → Run
-hush r = record r { trace = [] }
-
+-- runs of which nothing is seen
 abbrev pub hushed : List Run → List Run
-hushed rs = map hush rs
+hushed rs = map (λ (r : Run). record r { trace = [] }) rs
 
 -- the runs of a program in which this block is quiet
 abbrev pub quiet_runs : ℕ → ProgramTree → ℕ → ℕ → List Run

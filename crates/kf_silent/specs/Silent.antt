@@ -1,10 +1,9 @@
 -- Believed: programs in which some statements, wherever they stand, leave no trace.
-use Rattle.std.specs.Prelude.{ℕ, suc, zero, ⊤, Bool, List, [], ◌∷◌, if◌then◌else◌}
-use Rattle.std.specs.Str.{bytes_eq}
+use Rattle.std.specs.Prelude.{ℕ, suc, Bool, List, [], ◌∷◌, if◌then◌else◌, true}
 use Rattle.kf_value.specs.Types.{TypeTree}
 use Rattle.kf_core.specs.Joint.{Cell, cells, target_number}
 use Rattle.kf_core.specs.Programs.{ProgramTree}
-use Rattle.kf_core.specs.Runs.{Run, assigned, branched, chain, copied, declared, guarded, leaks, looped, place, shown, stay, tried}
+use Rattle.kf_core.specs.Runs.{Run, assigned, branched, chain, copied, declared, guarded, leaks, looped, place, stay, tried}
 use Rattle.kf_core.specs.Scale.{scale_of}
 use Rattle.kf_core.specs.Sts.{StTree, StTrees, Skip, Assign, Observe, If, While, no_sts, more_sts, sts}
 use Rattle.kf_silent.specs.Quiet.{hushed}
@@ -28,7 +27,7 @@ abbrev mutual
   pub silent_runs : (Path → Bool) → List TypeTree → ℕ → StTree → ℕ → List Run
   silent_runs silent ts turns Skip n = stay n
   silent_runs silent ts turns (Assign i d visible) n = unless_silent silent (assigned (leaks visible) ts i d n)
-  silent_runs silent ts turns (Observe d) n = unless_silent silent (branched shown n (λ v. stay n) (tried ts d n))
+  silent_runs silent ts turns (Observe d) n = unless_silent silent (branched (leaks true) n (λ v. stay n) (tried ts d n))
   silent_runs silent ts turns (If d xs ys) n =
       unless_silent silent
       (guarded (tried ts d) (all_silent_runs (within silent 0) ts turns 0 xs) (all_silent_runs (within silent 1) ts turns 0 ys) n)
@@ -48,33 +47,3 @@ silent_program_runs silent turns p =
 -- their joint, over the scale of all runs
 abbrev pub silent_joint : (Path → Bool) → ℕ → ProgramTree → List Cell
 silent_joint silent turns p = cells (target_number p) (scale_of turns p) (silent_program_runs silent turns p)
-
--- this path alone
-abbrev pub only : Path → Path → Bool
-only path other = bytes_eq path other
-
--- ---- paths that name a statement
-
-abbrev mutual
-  -- the path goes into a block of the statement, or no further
-  pub IsWithin : StTree → Path → Type 0
-  IsWithin x [] = ⊤
-  IsWithin Skip (side ∷ path) = ⊥
-  IsWithin (Assign i d visible) (side ∷ path) = ⊥
-  IsWithin (Observe d) (side ∷ path) = ⊥
-  IsWithin (If d xs ys) (zero ∷ path) = IsAmong xs path
-  IsWithin (If d xs ys) (suc zero ∷ path) = IsAmong ys path
-  IsWithin (If d xs ys) (suc (suc side) ∷ path) = ⊥
-  IsWithin (While d xs) (zero ∷ path) = IsAmong xs path
-  IsWithin (While d xs) (suc side ∷ path) = ⊥
-
-  -- the path begins with a statement of the block
-  pub IsAmong : StTrees → Path → Type 0
-  IsAmong xs [] = ⊥
-  IsAmong no_sts (i ∷ path) = ⊥
-  IsAmong (more_sts x xs) (zero ∷ path) = IsWithin x path
-  IsAmong (more_sts x xs) (suc i ∷ path) = IsAmong xs (i ∷ path)
-
--- a statement of these stands there
-abbrev pub IsPath : List StTree → Path → Type 0
-IsPath xs path = IsAmong (sts xs) path

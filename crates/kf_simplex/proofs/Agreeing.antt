@@ -8,13 +8,13 @@ use Rattle.kf_simplex.specs.declared.outcome.Outcome.TheVariants as outcome
 use Rattle.kf_simplex.specs.declared.outcome.SimplexError.{SimplexError}
 use Rattle.kf_simplex.specs.declared.outcome.SimplexError.TheVariants as error
 use Rattle.kf_simplex.specs.Base.{at, total}
-use Rattle.kf_simplex.specs.Systems.{LinearSystem, IsSystem, SameNumbers}
+use Rattle.kf_simplex.specs.Systems.{LinearSystem, IsSystem}
 use Rattle.kf_simplex.specs.Tableaus.{Row, Tableau, IsInRowSpace, IsRowOf, IsSumOfRows, IsTableau}
 use Rattle.kf_simplex.specs.Runs.{IsNarrow, Enters, Leaves, IsStep, Ends, GoesOn, IsRun, EndsAt, Cause, wide, solution, multipliers, budget}
-use Rattle.kf_simplex.specs.Solutions.{Solves, Refutes}
-use Rattle.kf_simplex.specs.Answers.{IsAnswer, IsRight, IsSolutionOf, AreMultipliersOf}
+use Rattle.kf_simplex.specs.Solutions.{Solves, Refutes, IsRight}
+use Rattle.kf_simplex.specs.Answers.{IsAnswer, IsSolutionOf, AreMultipliersOf}
 use Rattle.kf_simplex.specs.Turns.{system}
-use Rattle.kf_simplex.specs.Laws.{AgreesBothWays, AgreesAsSystem, AgreesInRuns, AgreesInEnds}
+use Rattle.kf_simplex.specs.Laws.{AgreesBothWays, AgreesAsSystem, AgreesInRuns, AgreesInEnds, SameNumbers}
 use Rattle.kf_simplex.specs.Laws.{AgreesInSolutions, AgreesInMultipliers, AgreesInOutcomes, AgreesInAnswers}
 use Rattle.kf_simplex.proofs.FlatTurns.{along}
 use Rattle.kf_simplex.proofs.Sums.{total-ext}

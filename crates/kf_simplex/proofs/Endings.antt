@@ -5,7 +5,7 @@ use lib.Signed.{◌<ℤ◌}
 use Rattle.kf_frac.specs.declared.frac.Frac.{Frac}
 use Rattle.kf_simplex.specs.Systems.{LinearSystem, IsSystem}
 use Rattle.kf_simplex.specs.Tableaus.{Tableau}
-use Rattle.kf_simplex.specs.Runs.{Answers, Cause, Ends, EndsAt, IsNarrow, budget}
+use Rattle.kf_simplex.specs.Runs.{Cause, Ends, EndsAt, IsNarrow, budget}
 use Rattle.kf_simplex.specs.Cells.{AllNarrow}
 use Rattle.kf_simplex.specs.Flat.{IsWithin, tableau_of}
 use Rattle.kf_simplex.specs.Turns.{system, sizes, InRun}
@@ -31,7 +31,7 @@ pub good_end : (s : LinearSystem) (limit p : ℕ) (t : Tableau) (cause : Cause) 
 good_end s limit p t cause y h = (run_facts s limit t h.before y h.run).0
 
 -- a run that ends by its budget has spent it
-pub spent : (s : LinearSystem) (limit p : ℕ) (t : Tableau) → EndsAt s limit p t budget → Answers s limit limit budget
+pub spent : (s : LinearSystem) (limit p : ℕ) (t : Tableau) → EndsAt s limit p t budget → ((t : Tableau) × EndsAt s limit limit t budget)
 spent s limit p t h = (t, subst (λ (n : ℕ). EndsAt s limit n t budget) h.ends.3 h)
 
 -- ---- what the readers of a table ask, in the table's own sizes

@@ -4,7 +4,6 @@ use Rattle.std.proofs.Math.IntN.{ℤ, pos, ◌+ℤ◌, ◌-ℤ◌, ◌*ℤ◌, n
 use Rattle.std.proofs.lemmas.Int.{ints, by_lt_z}
 use Rattle.std.proofs.lemmas.Bool.{cases_eq, cases_lt}
 use lib.Signed.{◌<ℤ◌, ◌≤ℤ◌}
-use Rattle.kf_simplex.specs.Base.{deciding}
 use Rattle.kf_simplex.proofs.Pivots.{one_tableau, crossed_in_space}
 use Rattle.kf_simplex.specs.Tableaus.{Row, IsInRowSpace}
 use Rattle.kf_simplex.specs.Systems.{LinearSystem, right_column}
@@ -13,6 +12,7 @@ use Rattle.kf_simplex.specs.Runs.{Leaves, key}
 use Rattle.kf_simplex.specs.Laws.{SameColumns}
 use Rattle.kf_frac.proofs.Ring.{ring, neg_mul}
 use Rattle.kf_simplex.proofs.Signs.{product_positive, factor_positive, factor_zero}
+use Rattle.kf_simplex.specs.Columns.{deciding}
 
 pub key_in_range : (s : LinearSystem) (m : ℕ) → m ≤ s.equations → deciding s.unknowns (right_column s) m ≤ right_column s
 key_in_range s zero l = omega arith

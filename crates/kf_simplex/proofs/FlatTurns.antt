@@ -16,9 +16,9 @@ use Rattle.kf_simplex.specs.Systems.{LinearSystem, right_column, IsSystem}
 use Rattle.kf_simplex.specs.Tableaus.{IsPrimitive}
 use Rattle.kf_simplex.specs.Runs.{IsNarrow, Enters, Leaves, NoneEnters, GoesOn}
 use Rattle.kf_simplex.specs.Cells.{AllNarrow, IsCrossed, IsReducedRow, IsLeaving, IsEntering, PassesRows, key_at}
-use Rattle.kf_simplex.specs.Base.{deciding}
 use Rattle.kf_simplex.specs.Flat.{IsWithin, width, tableau_of}
 use Rattle.kf_simplex.specs.Turns.{Judges, InRun}
+use Rattle.kf_simplex.specs.Columns.{deciding}
 
 pub narrow_of : (s : LinearSystem) (cells : ℕ → ℕ → ℤ) (basis : List ℕ) → ((i : ℕ) → AllNarrow (cells i)) → IsNarrow s (tableau_of s cells basis)
 narrow_of s cells basis h = record { rows = λ i c l m. h i c; objective = λ c m. h s.equations c }

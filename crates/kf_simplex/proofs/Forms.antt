@@ -4,7 +4,7 @@ use Rattle.std.proofs.Math.IntN.{ℤ, pos, ◌-ℤ◌, ◌*ℤ◌}
 use lib.Signed.{◌<ℤ◌}
 use Rattle.kf_simplex.specs.Systems.{LinearSystem, right_column}
 use Rattle.kf_simplex.specs.Base.{total}
-use Rattle.kf_simplex.specs.Tableaus.{Row, Tableau, IsInRowSpace, IsPrimitive, IsRowOf, IsArtificial}
+use Rattle.kf_simplex.specs.Tableaus.{Row, Tableau, IsInRowSpace, IsPrimitive, IsRowOf}
 use Rattle.kf_simplex.specs.Runs.{key}
 
 -- an objective by its own entries: one positive number at each basic artificial, 0 at the other basic columns
@@ -13,7 +13,7 @@ pub record IsObjective (s : LinearSystem) (basis : ℕ → ℕ) (w : Row) : Type
   pub scale : ℤ
   pub scale_positive : pos 0 <ℤ scale
   pub unknown_zero : (k : ℕ) → k < s.equations → basis k < s.unknowns → w (basis k) ≡ pos 0
-  pub artificial : (k : ℕ) → k < s.equations → IsArtificial s (basis k) → w (basis k) ≡ scale
+  pub artificial : (k : ℕ) → k < s.equations → s.unknowns ≤ basis k → w (basis k) ≡ scale
 
 -- a tableau with its objective in that form
 pub record IsWorking (s : LinearSystem) (t : Tableau) : Type 0 where

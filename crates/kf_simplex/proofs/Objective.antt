@@ -6,11 +6,12 @@ use Rattle.std.proofs.lemmas.Bool.{cases_lt}
 use Rattle.kf_frac.proofs.Ring.{mul_assoc}
 use Rattle.kf_simplex.specs.Systems.{LinearSystem, right_column}
 use Rattle.kf_simplex.specs.Base.{total}
-use Rattle.kf_simplex.specs.Tableaus.{Row, Tableau, combined, IsInRowSpace, IsRowOf, IsSumOfRows, IsTableau}
+use Rattle.kf_simplex.specs.Tableaus.{Row, Tableau, IsInRowSpace, IsRowOf, IsSumOfRows, IsTableau}
 use Rattle.kf_simplex.proofs.Forms.{IsObjective, IsWorking, IsBasic, Spans}
 use Rattle.kf_simplex.proofs.Signs.{cancel, factor_zero, factor_positive}
 use Rattle.kf_simplex.proofs.Sums.{total-ext, total-scale, total-scale_right, total-swap}
 use Rattle.kf_simplex.proofs.Choices.{sum_of_objective, objective_of_sum}
+use Rattle.kf_simplex.specs.Turns.{combined}
 
 -- a sum of rows is a combination of the equations
 sum_in_space : (s : LinearSystem) (basis : ℕ → ℕ) (rows : ℕ → Row) (w : Row) → IsBasic s basis rows → IsSumOfRows s basis rows w → IsInRowSpace s w

@@ -11,10 +11,10 @@ use Rattle.kf_frac.proofs.CommonMultiples.{product_positive as nat_product_posit
 use Rattle.kf_simplex.specs.Systems.{LinearSystem, IsSystem, right_column}
 use Rattle.kf_simplex.specs.Base.{total, at}
 use Rattle.kf_simplex.specs.Tableaus.{Tableau}
-use Rattle.kf_simplex.specs.Runs.{Answers, NoneEnters, budget, key}
+use Rattle.kf_simplex.specs.Runs.{NoneEnters, budget, key, EndsAt}
 use Rattle.kf_simplex.specs.Laws.{ways}
-use Rattle.kf_simplex.specs.Solutions.{Refutes}
-use Rattle.kf_simplex.specs.Answers.{num_at, den_at, IsSolutionOf, AreMultipliersOf, AreSolution}
+use Rattle.kf_simplex.specs.Solutions.{Refutes, AreSolution}
+use Rattle.kf_simplex.specs.Answers.{num_at, den_at, IsSolutionOf, AreMultipliersOf}
 use Rattle.kf_simplex.proofs.Forms.{IsReadOff, IsLexPositive}
 use Rattle.kf_simplex.proofs.Signs.{cancel, product_not_negative, factor_not_negative, factor_zero}
 use Rattle.kf_simplex.proofs.Sums.{total-ext, total_not_negative, choose, choose-same, choose-other}
@@ -138,7 +138,7 @@ multipliers_are_right s t ys g nz none h =
 
 -- ---- the budget
 
-pub budget_left : (s : LinearSystem) (limit : ℕ) → IsSystem s → ways (s.unknowns + s.equations) s.equations ≤ limit → Answers s limit limit budget → ⊥
+pub budget_left : (s : LinearSystem) (limit : ℕ) → IsSystem s → ways (s.unknowns + s.equations) s.equations ≤ limit → ((t : Tableau) × EndsAt s limit limit t budget) → ⊥
 budget_left s limit y w a =
     let l = no_run_is_long s limit (a.0 ∷ a.1.before) y a.1.run in
     let p = a.1.pivots in

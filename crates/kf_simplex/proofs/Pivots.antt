@@ -5,13 +5,14 @@ use Rattle.std.proofs.lemmas.Int.{ints}
 use Rattle.std.proofs.lemmas.Bool.{cases_eq, cases_lt}
 use lib.Signed.{◌<ℤ◌, ◌≤ℤ◌}
 use Rattle.kf_simplex.proofs.Sums.{total-ext, total-scale, total-combine, total-swap, total_all_zero, total-single, total-scale_right, total-add, find_below, total_zero_each, choose, choose-same, choose-other}
-use Rattle.kf_simplex.specs.Tableaus.{Row, combined, IsInRowSpace}
+use Rattle.kf_simplex.specs.Tableaus.{Row, IsInRowSpace}
 use Rattle.kf_simplex.specs.Systems.{LinearSystem, right_column}
 use Rattle.kf_simplex.specs.Base.{total}
 use Rattle.kf_simplex.proofs.Forms.{IsPivot, Spans, IsBasic, IsReadOff}
 use Rattle.kf_simplex.specs.Solutions.{Solves, Refutes}
 use Rattle.kf_frac.proofs.Ring.{mul_assoc, mul_left_comm, mul_add, add_mul}
 use Rattle.kf_simplex.proofs.Signs.{cancel, product_positive, product_not_negative, factor_positive, factor_zero, factor_not_negative}
+use Rattle.kf_simplex.specs.Turns.{combined}
 
 -- combinations stay combinations under cross products and the removal of a factor
 pub crossed_in_space : (s : LinearSystem) (a b r : Row) (p q h : ℤ) → pos 0 <ℤ h → IsInRowSpace s a → IsInRowSpace s b

@@ -9,7 +9,7 @@ use lib.Signed.{◌<ℤ◌, ◌≤ℤ◌}
 use Rattle.kf_frac.proofs.Ring.{ring}
 use Rattle.kf_simplex.proofs.Signs.{cancel, cancel_lt, product_strict}
 use Rattle.kf_simplex.specs.Cells.{IsFirstDifference, key_at, IsAtMost, IsLeaving}
-use Rattle.kf_simplex.specs.Base.{deciding}
+use Rattle.kf_simplex.specs.Columns.{deciding}
 
 first_along : (f f' g g' : ℕ → ℤ) (n : ℕ) (o : Ordering) → ((m : ℕ) → m < n → f m ≡ f' m) → ((m : ℕ) → m < n → g m ≡ g' m) → IsFirstDifference f g n o → IsFirstDifference f' g' n o
 first_along f f' g g' n Less a b h = (h.0, h.1, (λ (k : ℕ) (l : k < h.0). let q = h.1 in sym (a k (omega arith)) ∙ h.2 k l ∙ b k (omega arith)), rw (sym (a h.0 h.1), sym (b h.0 h.1)) h.3)

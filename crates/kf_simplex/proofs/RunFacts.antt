@@ -5,7 +5,6 @@ use Rattle.std.proofs.Math.Nat.{dvd-mul_right}
 use Rattle.std.proofs.lemmas.Int.{ints, unsigned_abs-mul, by_lt_z}
 use Rattle.std.proofs.lemmas.Bool.{cases_eq, cases_lt}
 use lib.Signed.{◌<ℤ◌, ◌≤ℤ◌}
-use Rattle.kf_simplex.specs.Base.{deciding}
 use Rattle.kf_simplex.proofs.Sums.{choose, choose-same, choose-other, total-single}
 use Rattle.kf_simplex.proofs.Pivots.{crossed_in_space, pivot_in_space, pivot_positive, pivot_zero, pivot_spans}
 use Rattle.kf_simplex.proofs.Primitive.{one_row, row_multiple, one_times}
@@ -18,6 +17,7 @@ use Rattle.kf_simplex.specs.Runs.{IsStep, IsRun, key}
 use Rattle.kf_simplex.specs.Laws.{MeasureFalls, NoneHas, NoBasisTwice, NoRunReturns}
 use Rattle.kf_frac.proofs.Ring.{ring}
 use Rattle.kf_simplex.proofs.Signs.{product_positive}
+use Rattle.kf_simplex.specs.Columns.{deciding}
 
 pub record IsGood (s : LinearSystem) (t : Tableau) : Type 0 where
   pub tableau : IsWorking s t

@@ -4,7 +4,6 @@ use Rattle.std.proofs.Math.IntN.{ℤ, pos, negsuc, ◌*ℤ◌}
 use Rattle.std.proofs.lemmas.Int.{ints}
 use Rattle.std.proofs.lemmas.Bool.{cases_eq, cases_lt}
 use lib.Signed.{◌<ℤ◌}
-use Rattle.kf_simplex.specs.Base.{deciding}
 use Rattle.kf_simplex.proofs.Primitive.{one_row, primitive_equal}
 use Rattle.kf_simplex.proofs.Falls.{same_objective, key_in_range}
 use Rattle.kf_simplex.proofs.RunFacts.{IsGood, basic_of, run_facts}
@@ -13,6 +12,7 @@ use Rattle.kf_simplex.specs.Tableaus.{Row, Tableau, IsRowOf}
 use Rattle.kf_simplex.specs.Systems.{LinearSystem, IsSystem, right_column}
 use Rattle.kf_simplex.specs.Runs.{Enters, IsRun, Leaves, key}
 use Rattle.kf_simplex.specs.Laws.{SameTableau}
+use Rattle.kf_simplex.specs.Columns.{deciding}
 
 row_along : (s : LinearSystem) (a b : ℕ → ℕ) → ((k : ℕ) → k < s.equations → a k ≡ b k) → (i : ℕ) (r : Row) → i < s.equations → IsRowOf s a i r → IsRowOf s b i r
 row_along s a b e i r l h = record {

@@ -8,8 +8,7 @@ use Rattle.kf_simplex.specs.declared.outcome.SimplexError.{SimplexError}
 use Rattle.kf_simplex.specs.declared.outcome.SimplexError.TheVariants as error
 use Rattle.kf_simplex.specs.Systems.{LinearSystem, right_column}
 use Rattle.kf_simplex.specs.Tableaus.{Tableau}
-use Rattle.kf_simplex.specs.Runs.{EndsAt, Answers, wide, solution, multipliers, budget}
-use Rattle.kf_simplex.specs.Solutions.{Solves, Refutes}
+use Rattle.kf_simplex.specs.Runs.{EndsAt, wide, solution, multipliers, budget}
 use Rattle.kf_simplex.specs.Base.{at}
 
 -- numerators and denominators of a list of fractions; 0 and 1 past its end
@@ -35,16 +34,6 @@ pub record AreMultipliersOf (s : LinearSystem) (t : Tableau) (ys : List ℤ) : T
 abbrev pub IsAnswer : LinearSystem → ℕ → Result Outcome SimplexError → Type 0
 IsAnswer s limit (Ok (outcome.Solution xs)) = (p : ℕ) × (t : Tableau) × EndsAt s limit p t solution × IsSolutionOf s t xs
 IsAnswer s limit (Ok (outcome.Multipliers ys)) = (p : ℕ) × (t : Tableau) × EndsAt s limit p t multipliers × AreMultipliersOf s t ys
-IsAnswer s limit (Err (error.Wide p)) = Answers s limit p wide
-IsAnswer s limit (Err error.Budget) = Answers s limit limit budget
+IsAnswer s limit (Err (error.Wide p)) = (t : Tableau) × EndsAt s limit p t wide
+IsAnswer s limit (Err error.Budget) = (t : Tableau) × EndsAt s limit limit t budget
 IsAnswer s limit (Err error.Mem) = Unit {0}
-
--- the fractions solve the system: over one denominator they are whole numbers that do
-abbrev pub AreSolution : LinearSystem → List Frac → Type 0
-AreSolution s xs =
-    (x : ℕ → ℤ) × (d : ℤ) × Solves s x d × ((j : ℕ) → j < s.unknowns → x j *ℤ pos (den_at xs j) ≡ num_at xs j *ℤ d)
-
--- an outcome is right by its own numbers
-abbrev pub IsRight : LinearSystem → Outcome → Type 0
-IsRight s (outcome.Solution xs) = AreSolution s xs
-IsRight s (outcome.Multipliers ys) = Refutes s (at ys)

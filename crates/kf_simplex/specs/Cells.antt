@@ -3,7 +3,8 @@ use Rattle.std.specs.Prelude.{◌≡◌, ◌≢◌, ℕ, ◌-◌, ◌^◌, ◌<�
 use Rattle.std.specs.declared.cmp.Ordering.{Ordering}
 use Rattle.std.specs.declared.cmp.Ordering.TheVariants.{Less, Equal, Greater}
 use Rattle.std.specs.Int.{◌∣◌}
-use Rattle.kf_simplex.specs.Base.{at, deciding}
+use Rattle.kf_simplex.specs.Base.{at}
+use Rattle.kf_simplex.specs.Columns.{deciding}
 
 abbrev pub IsNarrowNumber : ℤ → Type 0
 IsNarrowNumber z = unsigned_abs z ≤ 2 ^ 62

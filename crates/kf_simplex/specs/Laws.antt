@@ -3,11 +3,11 @@ use Rattle.std.specs.Prelude.{◌≡◌, ◌≢◌, ℕ, zero, suc, ◌+◌, ◌
 use Rattle.kf_simplex.specs.declared.outcome.Outcome.{Outcome}
 use Rattle.kf_simplex.specs.declared.outcome.SimplexError.{SimplexError}
 use Rattle.kf_simplex.specs.declared.outcome.SimplexError.TheVariants as error
-use Rattle.kf_simplex.specs.Systems.{LinearSystem, IsSystem, SameNumbers, right_column}
-use Rattle.kf_simplex.specs.Tableaus.{Tableau, IsArtificial}
+use Rattle.kf_simplex.specs.Systems.{LinearSystem, IsSystem, right_column}
+use Rattle.kf_simplex.specs.Tableaus.{Tableau}
 use Rattle.kf_simplex.specs.Runs.{Cause, EndsAt, IsBelow, IsRun}
-use Rattle.kf_simplex.specs.Solutions.{Solves, Refutes, HasNoSolution}
-use Rattle.kf_simplex.specs.Answers.{IsAnswer, IsRight}
+use Rattle.kf_simplex.specs.Solutions.{Solves, Refutes, HasNoSolution, IsRight}
+use Rattle.kf_simplex.specs.Answers.{IsAnswer}
 
 -- every column of the one basis stands in the other
 abbrev pub SameColumns : ℕ → (ℕ → ℕ) → (ℕ → ℕ) → Type 0
@@ -28,7 +28,7 @@ NoRunReturns = (s : LinearSystem) (limit : ℕ) (ts : List Tableau) → IsSystem
 
 -- the objective row has this one positive number at each basic artificial
 abbrev pub IsScale : LinearSystem → Tableau → ℤ → Type 0
-IsScale s t p = (pos 0 <ℤ p) × ((i : ℕ) → i < s.equations → IsArtificial s (t.basis i) → t.objective (t.basis i) ≡ p)
+IsScale s t p = (pos 0 <ℤ p) × ((i : ℕ) → i < s.equations → s.unknowns ≤ t.basis i → t.objective (t.basis i) ≡ p)
 
 -- at each step of a run the objective row over its scale, read as its deciding list, is below that of the step before by first difference
 abbrev pub MeasureFalls : Type 0
@@ -68,6 +68,12 @@ SomeAnswer = (s : LinearSystem) (limit : ℕ) → IsSystem s
 -- where such multipliers exist, no solution does
 abbrev pub WeakDuality : Type 0
 WeakDuality = (s : LinearSystem) (y : ℕ → ℤ) → Refutes s y → HasNoSolution s
+
+-- two systems that agree at each equation and column
+pub record SameNumbers (s u : LinearSystem) : Type 0 where
+  pub unknowns : s.unknowns ≡ u.unknowns
+  pub equations : s.equations ≡ u.equations
+  pub number : (k c : ℕ) → k < s.equations → c ≤ right_column s → s.number k c ≡ u.number k c
 
 -- agreement goes both ways
 abbrev pub AgreesBothWays : Type 0

@@ -1,12 +1,11 @@
 -- Believed: the run of the simplex: from the basis of artificials to an answer, one pivot after another.
-use Rattle.std.specs.Prelude.{◌≡◌, ◌≢◌, ℕ, ◌+◌, ◌^◌, ◌<◌, ◌≤◌, ℤ, pos, ◌*ℤ◌, ◌<ℤ◌, ◌≤ℤ◌, unsigned_abs, List, [], ◌∷◌, length}
-use Rattle.kf_simplex.specs.Base.{deciding}
+use Rattle.std.specs.Prelude.{◌≡◌, ◌≢◌, ℕ, ◌+◌, ◌^◌, ◌<◌, ◌≤◌, ℤ, pos, ◌*ℤ◌, ◌<ℤ◌, ◌≤ℤ◌, unsigned_abs, List, [], ◌∷◌, length, zero, suc}
 use Rattle.kf_simplex.specs.Systems.{LinearSystem, right_column}
 use Rattle.kf_simplex.specs.Tableaus.{Row, Tableau, IsTableau}
 
--- the m-th number of the list that decides which row leaves
+-- the m-th number of the list that decides which row leaves: the right side, then the artificials in order
 abbrev pub key : LinearSystem → Row → ℕ → ℤ
-key s r m = r (deciding s.unknowns (right_column s) m)
+key s r m = r (elim m [ zero ↦ right_column s | suc k ↦ s.unknowns + k ])
 
 -- by first difference the deciding list of r over p is below that of q over a, both divisors positive
 abbrev pub IsBelow : LinearSystem → Row → ℤ → Row → ℤ → Type 0
@@ -74,6 +73,3 @@ pub record EndsAt (s : LinearSystem) (limit p : ℕ) (t : Tableau) (cause : Caus
   pub run : IsRun s limit (t ∷ before)
   pub pivots : p ≡ length before
   pub ends : Ends s limit p t cause
-
-abbrev pub Answers : LinearSystem → ℕ → ℕ → Cause → Type 0
-Answers s limit p cause = (t : Tableau) × EndsAt s limit p t cause

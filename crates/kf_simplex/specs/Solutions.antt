@@ -1,7 +1,11 @@
--- Believed: solutions of a system, and multipliers that exclude them.
-use Rattle.std.specs.Prelude.{◌≡◌, ℕ, ◌<◌, ℤ, pos, ◌*ℤ◌, ◌<ℤ◌, ◌≤ℤ◌}
+-- For bodies: solutions of a system, and multipliers that exclude them.
+use Rattle.std.specs.Prelude.{◌≡◌, ℕ, ◌<◌, ℤ, pos, ◌*ℤ◌, ◌<ℤ◌, ◌≤ℤ◌, List}
 use Rattle.kf_simplex.specs.Systems.{LinearSystem, right_column}
-use Rattle.kf_simplex.specs.Base.{total}
+use Rattle.kf_simplex.specs.Base.{total, at}
+use Rattle.kf_simplex.specs.Answers.{num_at, den_at}
+use Rattle.kf_simplex.specs.declared.outcome.Outcome.{Outcome}
+use Rattle.kf_frac.specs.declared.frac.Frac.{Frac}
+use Rattle.kf_simplex.specs.declared.outcome.Outcome.TheVariants as outcome
 
 -- the fractions x j / d solve every equation, and none is negative
 pub record Solves (s : LinearSystem) (x : ℕ → ℤ) (d : ℤ) : Type 0 where
@@ -16,3 +20,13 @@ pub record Refutes (s : LinearSystem) (y : ℕ → ℤ) : Type 0 where
 
 abbrev pub HasNoSolution : LinearSystem → Type 0
 HasNoSolution s = (x : ℕ → ℤ) (d : ℤ) → Solves s x d → ⊥
+
+-- the fractions solve the system: over one denominator they are whole numbers that do
+abbrev pub AreSolution : LinearSystem → List Frac → Type 0
+AreSolution s xs =
+    (x : ℕ → ℤ) × (d : ℤ) × Solves s x d × ((j : ℕ) → j < s.unknowns → x j *ℤ pos (den_at xs j) ≡ num_at xs j *ℤ d)
+
+-- an outcome is right by its own numbers
+abbrev pub IsRight : LinearSystem → Outcome → Type 0
+IsRight s (outcome.Solution xs) = AreSolution s xs
+IsRight s (outcome.Multipliers ys) = Refutes s (at ys)

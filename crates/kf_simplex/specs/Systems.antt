@@ -1,5 +1,5 @@
 -- Believed: systems of linear equations over unknowns that must not be negative.
-use Rattle.std.specs.Prelude.{◌≡◌, ◌≢◌, ℕ, ◌+◌, ◌<◌, ◌≤◌, ℤ, pos, ◌≤ℤ◌}
+use Rattle.std.specs.Prelude.{◌≡◌, ◌≢◌, ℕ, ◌+◌, ◌<◌, ℤ, pos, ◌≤ℤ◌}
 
 -- the number that each equation has at each column: first the unknowns, then one artificial column
 -- for each equation, then the right side
@@ -17,9 +17,3 @@ pub record IsSystem (s : LinearSystem) : Type 0 where
   pub same : (k : ℕ) → k < s.equations → s.number k (s.unknowns + k) ≡ pos 1
   pub other : (k m : ℕ) → k < s.equations → m < s.equations → k ≢ m → s.number k (s.unknowns + m) ≡ pos 0
   pub right : (k : ℕ) → k < s.equations → pos 0 ≤ℤ s.number k (right_column s)
-
--- two systems that agree at each equation and column
-pub record SameNumbers (s u : LinearSystem) : Type 0 where
-  pub unknowns : s.unknowns ≡ u.unknowns
-  pub equations : s.equations ≡ u.equations
-  pub number : (k c : ℕ) → k < s.equations → c ≤ right_column s → s.number k c ≡ u.number k c

@@ -8,13 +8,9 @@ use Rattle.kf_simplex.specs.Base.{total}
 abbrev pub Row : Type 0
 Row = ℕ → ℤ
 
--- the equations' numbers at a column, each times the row's entry at the equation's artificial column
-abbrev pub combined : LinearSystem → Row → ℕ → ℤ
-combined s r c = total s.equations (λ k. r (s.unknowns + k) *ℤ s.number k c)
-
--- the row is a combination of the equations
+-- the row is a combination of the equations, each times the row's entry at the equation's artificial column
 abbrev pub IsInRowSpace : LinearSystem → Row → Type 0
-IsInRowSpace s r = (c : ℕ) → c ≤ right_column s → r c ≡ combined s r c
+IsInRowSpace s r = (c : ℕ) → c ≤ right_column s → r c ≡ total s.equations (λ k. r (s.unknowns + k) *ℤ s.number k c)
 
 -- the entries have no common factor
 abbrev pub IsPrimitive : LinearSystem → Row → Type 0
@@ -27,9 +23,6 @@ pub record IsRowOf (s : LinearSystem) (basis : ℕ → ℕ) (i : ℕ) (r : Row) 
   pub zero_elsewhere : (k : ℕ) → k < s.equations → k ≢ i → r (basis k) ≡ pos 0
   pub primitive : IsPrimitive s r
 
-abbrev pub IsArtificial : LinearSystem → ℕ → Type 0
-IsArtificial s c = s.unknowns ≤ c
-
 -- but for positive factors, w is the sum of the rows of basic artificials, each divided by its own
 -- basic entry: row i stands in it `part i` times, and that is `common` over its basic entry
 pub record IsSumOfRows (s : LinearSystem) (basis : ℕ → ℕ) (rows : ℕ → Row) (w : Row) : Type 0 where
@@ -38,7 +31,7 @@ pub record IsSumOfRows (s : LinearSystem) (basis : ℕ → ℕ) (rows : ℕ → 
   pub common : ℤ
   pub common_positive : pos 0 <ℤ common
   pub part : ℕ → ℤ
-  pub artificial : (i : ℕ) → i < s.equations → IsArtificial s (basis i) → part i *ℤ rows i (basis i) ≡ common
+  pub artificial : (i : ℕ) → i < s.equations → s.unknowns ≤ basis i → part i *ℤ rows i (basis i) ≡ common
   pub unknown : (i : ℕ) → i < s.equations → basis i < s.unknowns → part i ≡ pos 0
   pub sum : (c : ℕ) → c ≤ right_column s → times *ℤ w c ≡ total s.equations (λ i. part i *ℤ rows i c)
 

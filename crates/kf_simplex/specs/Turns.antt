@@ -1,7 +1,7 @@
 -- For bodies: one turn of a run on a table.
-use Rattle.std.specs.Prelude.{◌≡◌, ℕ, ◌<◌, ℤ, pos, List, length, ◌∷◌}
+use Rattle.std.specs.Prelude.{◌≡◌, ℕ, ◌<◌, ℤ, pos, List, length, ◌∷◌, ◌+◌, ◌*ℤ◌}
 use Rattle.kf_simplex.specs.Systems.{LinearSystem}
-use Rattle.kf_simplex.specs.Tableaus.{Tableau}
+use Rattle.kf_simplex.specs.Tableaus.{Tableau, Row}
 use Rattle.kf_simplex.specs.Runs.{IsRun, Ends, GoesOn, Enters, Leaves, Cause, wide, solution, multipliers, budget}
 use Rattle.kf_simplex.specs.Flat.{tableau_of}
 use Rattle.kf_simplex.specs.Cells.{AllNarrow}
@@ -9,6 +9,7 @@ use Rattle.kf_simplex.specs.declared.table.Stop.{Stop}
 use Rattle.kf_simplex.specs.declared.table.Stop.TheVariants as stops
 use Rattle.kf_simplex.specs.declared.table.Turn.{Turn}
 use Rattle.kf_simplex.specs.declared.table.Turn.TheVariants as turns
+use Rattle.kf_simplex.specs.Base.{total}
 
 abbrev pub cause_of : Stop → Cause
 cause_of stops.Wide = wide
@@ -42,3 +43,7 @@ IsInside v e cells (turns.Pivot row column) = (row < e) × (column < v) × ((i :
 abbrev pub IsEnd : Turn → Type 0
 IsEnd (turns.Ends stop) = Unit {0}
 IsEnd (turns.Pivot row column) = ⊥
+
+-- the equations' numbers at a column, each times the row's entry at the equation's artificial column
+abbrev pub combined : LinearSystem → Row → ℕ → ℤ
+combined s r c = total s.equations (λ k. r (s.unknowns + k) *ℤ s.number k c)

@@ -1,9 +1,9 @@
 ghost use Rattle.std.specs.Prelude.{◌≡◌, ◌≢◌, ℕ, ◌+◌, ◌-◌, ◌*◌, ◌<◌, ◌≤◌, ◌^◌, ◌↔◌, ℤ, pos, ◌+ℤ◌, ◌-ℤ◌, ◌*ℤ◌, ◌<ℤ◌, ◌≤ℤ◌, unsigned_abs, length, map, slice_index_or, EachIndex, IsTrue, IfOk};
 ghost use Rattle.std.specs.Int.{◌∣◌};
 ghost use Rattle.kf_simplex.specs.Cells.{IsNarrowNumber, AllNarrow, AllBelow, IsCommonGcd, IsReducedRow, PassesAt, PassesRows, IsFirstDifference};
-ghost use Rattle.kf_simplex.specs.Base.{deciding};
 ghost use Rattle.kf_simplex.specs.Entries.{no_entry, number_in};
 ghost use Rattle.kf_simplex.specs.Flat.{cell};
+ghost use Rattle.kf_simplex.specs.Columns.{deciding};
 
 use crate::row::{Entry, Row, next_pair, number_at};
 use kf_frac::gcd;

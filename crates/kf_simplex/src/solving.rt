@@ -1,7 +1,8 @@
 ghost use Rattle.std.specs.Prelude.{◌≡◌, ◌≢◌, ◌+◌, ◌*◌, ◌≤◌, length, IfOk, Err};
-ghost use Rattle.kf_simplex.specs.Answers.{IsAnswer, IsRight};
+ghost use Rattle.kf_simplex.specs.Answers.{IsAnswer};
 ghost use Rattle.kf_simplex.specs.Laws.{ways};
 ghost use Rattle.kf_simplex.specs.Views.{linear};
+ghost use Rattle.kf_simplex.specs.Solutions.{IsRight};
 
 use crate::building::first_table;
 use crate::table::Stop;

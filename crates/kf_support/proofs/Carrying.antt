@@ -6,10 +6,11 @@ use Rattle.kf_core.specs.ChoiceLaws.{ChoicesAreShares}
 use Rattle.kf_core.specs.Dxs.{DxTree}
 use Rattle.kf_core.specs.Sts.{StTree, StTrees, Skip, Assign, Observe, If, While, no_sts, more_sts, sts}
 use Rattle.kf_core.specs.Programs.{ProgramTree}
-use Rattle.kf_core.specs.Runs.{Run, tried, place, chain, assigned, leaks, silent, runs, all_runs, declared, copied}
+use Rattle.kf_core.specs.Runs.{Run, tried, place, chain, assigned, leaks, runs, all_runs, declared, copied}
 use Rattle.kf_core.specs.Results.{then_ok}
 use Rattle.kf_core.specs.Support.{assign_pass, pass, all_pass, declare_pass, program_pass}
 use Rattle.kf_core.proofs.Scales.{weighty}
+use Rattle.kf_core.specs.Leaks.{silent}
 use Rattle.kf_support.specs.Carried.{carry_step, assign_lead, carry, carry_all, carry_decls, copy_lead, carry_program}
 use Rattle.kf_support.proofs.Following.{Told, Carries, stay_carries, chain_carries}
 use Rattle.kf_support.proofs.Guards.{guard_told}

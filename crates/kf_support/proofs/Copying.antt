@@ -131,8 +131,7 @@ pub record Copies (p : ProgramTree) (size store place : ℕ) (left : List ℕ) (
   pub whole : fill place left (store_at p.types after) ≡ fill (length p.decls) p.copies (store_at p.types store)
 
 abbrev numbered : ℕ → Option ℕ → ℕ
-numbered n (Some m) = m
-numbered n None = n
+numbered n found = unwrap_or found n
 
 pub copies_end : (p : ProgramTree) (checked : IsChecked p) (size store place after : ℕ) (left : List ℕ) → size ≡ product (map count p.types) → store < size → left ≡ []
     → Copies p size store place left after → after ≡ copied p store

@@ -5,7 +5,8 @@ use Rattle.std.specs.FinSet.{from_list}
 use Rattle.std.specs.Map.{keys_of}
 use Rattle.kf_core.specs.Runs.{Run, stay, chain}
 use Rattle.kf_core.specs.Results.{then_ok}
-use Rattle.kf_core.specs.Support.{StoreSet, Passed, each_pass, step}
+use Rattle.kf_core.specs.Support.{StoreSet, Passed, step}
+use Rattle.kf_core.specs.Each.{each_pass}
 use Rattle.kf_support.specs.Carried.{Reached, Lead, capped, with_ways, carry_step}
 use Rattle.kf_support.proofs.Dividing.{bound}
 use Rattle.kf_support.proofs.Placing.{through, back, beside, each_same, each_same_where, Good, Nice, Fits, Led, Works, Positive, Lands, Stepped, stepped, good_positive}

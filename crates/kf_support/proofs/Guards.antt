@@ -10,8 +10,9 @@ use Rattle.kf_value.proofs.ListLemmas.{each_any}
 use Rattle.kf_core.specs.Choices.{Weighted, total}
 use Rattle.kf_core.specs.Runs.{Run, Tried, guarded}
 use Rattle.kf_core.specs.Results.{then_ok}
-use Rattle.kf_core.specs.Support.{StoreSet, Passed, each_pass, same, can_be, where_guard, either_pass, guard_pass}
+use Rattle.kf_core.specs.Support.{StoreSet, Passed, same, can_be, where_guard, either_pass, guard_pass}
 use Rattle.kf_core.proofs.Scales.{Weighty}
+use Rattle.kf_core.specs.Each.{each_pass}
 use Rattle.kf_support.specs.Carried.{Reached, with_all, carry_step, guard_lead}
 use Rattle.kf_support.proofs.Placing.{through, back, beside, each_same, each_pair, each_same_where, Good, Fits, Works, Positive, Lands, Stepped, stepped, good_positive, all_good, all_fit}
 use Rattle.kf_support.proofs.Leading.{Leads, leads_nice, guard_to, leads_guarded, stays_if}

@@ -6,10 +6,12 @@ use Rattle.std.specs.Int.{◌∣◌}
 use Rattle.std.proofs.Math.Nat.{mul_assoc}
 use Rattle.kf_value.specs.Values.{ValueTree}
 use Rattle.kf_core.specs.Choices.{Weighted, total}
-use Rattle.kf_core.specs.Runs.{Run, Halted, Tried, joined, onward, chain, choice_run, branched, stay, shown}
+use Rattle.kf_core.specs.Runs.{Run, Halted, Tried, joined, chain, choice_run, branched, stay}
 use Rattle.kf_core.specs.Results.{then_ok}
 use Rattle.kf_core.specs.Support.{can_be}
 use Rattle.kf_core.proofs.RunEnds.{side}
+use Rattle.kf_core.specs.Leaks.{shown}
+use Rattle.kf_core.specs.Each.{onward}
 use Rattle.kf_support.specs.Carried.{capped}
 use Rattle.kf_support.proofs.Dividing.{bound, lcm_splits, capped_same}
 use Rattle.kf_frac.specs.Divisors.{lcm_of}

@@ -9,11 +9,13 @@ use Rattle.kf_value.specs.Types.{TypeTree}
 use Rattle.kf_value.specs.Values.{ValueTree}
 use Rattle.kf_core.specs.Choices.{Weighted, total}
 use Rattle.kf_core.specs.Dxs.{DxTree}
-use Rattle.kf_core.specs.Runs.{Run, Tried, tried, place, replaced, stay, moved, branched, shown, assigned, chain}
+use Rattle.kf_core.specs.Runs.{Run, Tried, tried, place, replaced, stay, branched, assigned, chain}
 use Rattle.kf_core.specs.Results.{then_ok}
-use Rattle.kf_core.specs.Support.{StoreSet, Passed, each_pass, each_moved, step, same, assign_pass}
+use Rattle.kf_core.specs.Support.{StoreSet, Passed, each_moved, step, same, assign_pass}
 use Rattle.kf_core.proofs.PassTells.{Lists, holds_listed, items_hold}
 use Rattle.kf_core.proofs.Scales.{Weighty}
+use Rattle.kf_core.specs.Each.{moved, each_pass}
+use Rattle.kf_core.specs.Leaks.{shown}
 use Rattle.kf_support.specs.Carried.{Reached, Lead, carry_step, assign_lead, observe_lead, staying}
 use Rattle.kf_support.proofs.Placing.{through, back, beside, each_same, Good, Led, Works, Positive, Lands}
 use Rattle.kf_support.proofs.Leading.{Leads, each_mapped, leads_stay, leads_chain, leads_branched}

@@ -6,8 +6,9 @@ use Rattle.std.specs.Map.{keys_of}
 use Rattle.kf_core.specs.Choices.{Weighted}
 use Rattle.kf_core.specs.Runs.{Run, Tried, LoopBound, stay, stopped, chain, guarded, looped}
 use Rattle.kf_core.specs.Results.{then_ok}
-use Rattle.kf_core.specs.Support.{StoreSet, Passed, each_pass, same, can_be, where_guard, either_pass, bounded, loop_pass}
+use Rattle.kf_core.specs.Support.{StoreSet, Passed, same, can_be, where_guard, either_pass, bounded, loop_pass}
 use Rattle.kf_core.proofs.Scales.{Weighty}
+use Rattle.kf_core.specs.Each.{each_pass}
 use Rattle.kf_support.specs.Carried.{Reached, carry_step, guard_lead, last_lead, carry_loop}
 use Rattle.kf_support.proofs.Dividing.{bound}
 use Rattle.kf_support.proofs.Placing.{through, back, beside, each_same, each_same_where, Good, Nice, Fits, Led, Works, Positive, Lands, Stepped, stepped, good_positive}

@@ -9,10 +9,10 @@ use Rattle.std.proofs.lemmas.Nat.Gcd.{dvd_trans}
 use Rattle.kf_frac.specs.Divisors.{lcm_of}
 use Rattle.kf_core.specs.ChoiceLaws.{ChoicesAreShares}
 use Rattle.kf_core.specs.Runs.{Run, program_runs}
-use Rattle.kf_core.specs.Scale.{common_scale}
 use Rattle.kf_core.specs.Support.{StoreSet, Passed, program_pass}
 use Rattle.kf_core.specs.SupportLaws.{ScalesArePositive}
 use Rattle.kf_core.proofs.Scales.{DividesMultiples, scales_divide}
+use Rattle.kf_core.specs.Each.{common_scale}
 use Rattle.kf_support.specs.Carried.{Reached, capped, scale_in, carry_program, CarryTells}
 use Rattle.kf_support.proofs.Dividing.{bound, one_bound, capped_bound, capped_positive, lcm_positive, is_capped}
 use Rattle.kf_support.proofs.Placing.{through, back, beside, each_same, Good, Fits, join_alone}

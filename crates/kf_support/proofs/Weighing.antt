@@ -13,7 +13,7 @@ use Rattle.std.specs.Bool.{beq}
 use Rattle.std.specs.List.{list_any}
 use Rattle.kf_value.specs.Views.{value_tree}
 use Rattle.kf_core.specs.Support.{can_be}
-use Rattle.kf_core.specs.Runs.{placed_at}
+use Rattle.kf_core.specs.Each.{placed_at}
 use Rattle.kf_eval.specs.Choices.{IsChoiceFaultOf, weighted_tree}
 use Rattle.kf_eval.specs.Memos.{IsChosen, IsKeptAt, kept}
 use Rattle.kf_eval.specs.declared.memo.Memo.{Memo}

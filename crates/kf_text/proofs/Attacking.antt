@@ -11,17 +11,18 @@ use Rattle.kf_column.specs.Hypers.{Inner}
 use Rattle.kf_column.specs.Shapes.{IsBelow}
 use Rattle.kf_gain.specs.declared.table.Action.{Action}
 use Rattle.kf_gain.specs.Gains.{GainOf, Bayes, Tries, Guessing, Table, TableTree}
-use Rattle.kf_attack.specs.Attacks.{AttackTree, BestTree, Values, Scores, NamedGain, AreRanked, IsBest, AreAttacks}
-use Rattle.kf_attack.specs.Views.{ShowsValue, ShowsScore, ShowsBest, ShowsAttack}
+use Rattle.kf_attack.specs.Attacks.{AttackTree, BestTree, Values, Scores, NamedGain, AreRanked, IsBest}
+use Rattle.kf_attack.specs.Views.{ShowsValue, ShowsScore, ShowsBest, ShowsAttack, AreAttacks}
 use Rattle.kf_attack.specs.declared.attack.Attack.{Attack}
 use Rattle.kf_attack.specs.declared.attack.Best.{Best}
 use Rattle.kf_attack.specs.declared.attack.Best.TheVariants as best
 use Rattle.kf_attack.specs.declared.attack.Score.{Score}
 use Rattle.kf_attack.specs.declared.attack.WeighedValue.{WeighedValue}
-use Rattle.kf_text.specs.AttackTexts.{score_line, best_lines, attack_lines, all_lines}
+use Rattle.kf_text.specs.AttackTexts.{score_line, best_lines, attack_lines}
 use Rattle.kf_text.specs.AttackViews.{own_value_line, own_score_line, own_best_lines, own_attack_lines, IsPrintable}
 use Rattle.kf_text.specs.Texts.{line, entry_line}
 use Rattle.kf_text.proofs.Printing.{same_text}
+use Rattle.kf_text.specs.Parts.{all_lines}
 
 -- ---- what is shown can be printed
 

@@ -3,22 +3,22 @@ use Rattle.std.proofs.Common.{◌≡◌, ℕ, ◌+◌, ◌-◌, ◌<◌, List, [
 use Rattle.std.proofs.lemmas.List.{take_rest}
 use Rattle.std.specs.Fmt.{decimal}
 use Rattle.std.specs.List.{flat_map, enumerate_from}
-use Rattle.kf_quiet.specs.Blames.{BlameTree}
 use Rattle.kf_quiet.specs.Views.{ShowBlames, ShowsBlame}
 use Rattle.kf_quiet.specs.declared.blame.Blame.{Blame}
+use Rattle.kf_quiet.specs.Summaries.{SummaryTree}
 use Rattle.kf_text.specs.BlameTexts.{blame_line, blame_text, without_line}
 use Rattle.kf_text.specs.BlameViews.{own_blame_line, own_blame_text, own_without_line}
 use Rattle.kf_text.specs.Texts.{line}
 use Rattle.kf_text.proofs.Printing.{same_text}
 
 module _ (scale : ℕ) where
-  one_blame : (name : List ℕ) (t : BlameTree) (b : Blame) → ShowsBlame scale t b → own_blame_line name b ≡ blame_line scale name t
+  one_blame : (name : List ℕ) (t : SummaryTree) (b : Blame) → ShowsBlame scale t b → own_blame_line name b ≡ blame_line scale name t
   one_blame name t b show =
       let inners = show.inners in
-      let bayes = same_text b.bayes t.bayes scale show.bayes in
+      let bayes = same_text b.bayes t.posterior scale show.bayes in
       λ i. line (name ++ (codes " inners " ++ (decimal (inners i) ++ (codes " bayes " ++ bayes i))))
 
-  all_without : (n : ℕ) (trees : List BlameTree) (blames : List Blame) → ShowBlames scale trees blames
+  all_without : (n : ℕ) (trees : List SummaryTree) (blames : List Blame) → ShowBlames scale trees blames
       → flat_map own_without_line (enumerate_from n blames) ≡ flat_map (without_line scale) (enumerate_from n trees)
   all_without n [] [] show = refl
   all_without n [] (b ∷ bs) show = absurd show
@@ -28,7 +28,7 @@ module _ (scale : ℕ) where
       let others = all_without (n + 1) ts bs show.1 in
       λ i. first i ++ others i
 
-  pub same_blames : (trees : List BlameTree) (blames : List Blame) → ShowBlames scale trees blames → own_blame_text blames ≡ blame_text scale trees
+  pub same_blames : (trees : List SummaryTree) (blames : List Blame) → ShowBlames scale trees blames → own_blame_text blames ≡ blame_text scale trees
   same_blames [] [] show = refl
   same_blames [] (b ∷ bs) show = absurd show
   same_blames (t ∷ ts) [] show = absurd show

@@ -4,12 +4,13 @@ use Rattle.std.proofs.lemmas.List.{take_rest}
 use Rattle.std.specs.List.{flat_map}
 use Rattle.std.specs.Fmt.{signed_decimal}
 use Rattle.kf_frac.specs.declared.frac.Frac.{Frac}
-use Rattle.kf_frac.specs.Fractions.{fraction_text, reduced_num, reduced_den, denominator_text}
-use Rattle.kf_frac.specs.Parts.{IsFraction}
+use Rattle.kf_frac.specs.Fractions.{fraction_text, reduced_num, reduced_den}
+use Rattle.kf_frac.specs.Parts.{IsFraction, denominator_text}
 use Rattle.kf_frac.proofs.LowestTerms.{text_of_reduced}
 use Rattle.kf_value.specs.declared.target_item.TargetItem.{TargetItem}
-use Rattle.kf_value.specs.Targets.{item_text, target_text}
+use Rattle.kf_value.specs.Targets.{target_text}
 use Rattle.kf_value.specs.TypeViews.{item_of}
+use Rattle.kf_value.specs.Views.{item_text}
 use Rattle.kf_text.specs.Views.{own_text}
 
 -- a fraction in lowest terms is written as the one that it was made of

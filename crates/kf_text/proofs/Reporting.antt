@@ -11,9 +11,10 @@ use Rattle.kf_gain.specs.Gains.{GainOf}
 use Rattle.kf_report.specs.Reports.{Leakage}
 use Rattle.kf_report.specs.Views.{IsQuotient, IsReport}
 use Rattle.kf_report.specs.declared.report.Report.{Report}
-use Rattle.kf_text.specs.ReportTexts.{gain_text, quotient_text, report_lines, report_text}
+use Rattle.kf_text.specs.ReportTexts.{gain_text, quotient_text, report_text}
 use Rattle.kf_text.specs.Views.{own_quotient_text, own_lines}
 use Rattle.kf_text.proofs.Printing.{same_text}
+use Rattle.kf_text.specs.Parts.{report_lines}
 
 up : (y : ℤ) → pos 0 <ℤ y → is_positive y ≡ true
 up (pos zero) above = absurd (omega (arith, ints))

@@ -2,7 +2,7 @@
 use Rattle.std.proofs.Common.{◌≡◌, ℕ, suc, ◌-◌, ◌<◌, List, [], ◌∷◌, length, get_or, refl, ap, ◌∙◌, arith}
 use Rattle.std.specs.Prelude.{sum_by}
 use Rattle.kf_column.specs.Hypers.{Inner}
-use Rattle.kf_text.specs.Texts.{last_total}
+use Rattle.kf_text.specs.Parts.{last_total}
 
 -- where totals sum to a number above 0 there is one
 pub some_inner : (inners : List Inner) (scale : ℕ) → 0 < scale → sum_by (λ (i : Inner). i.total) inners ≡ scale → 0 < length inners

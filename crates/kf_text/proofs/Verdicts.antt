@@ -5,8 +5,8 @@ use Rattle.std.specs.List.{flat_map}
 use Rattle.kf_frac.specs.Fractions.{fraction_text}
 use Rattle.kf_frac.specs.declared.frac.Frac.{Frac}
 use Rattle.kf_refine.specs.Views.{fraction_of}
-use Rattle.kf_text.specs.VerdictTexts.{spaced}
 use Rattle.kf_text.specs.Views.{own_text}
+use Rattle.kf_text.specs.Parts.{spaced}
 
 -- a fraction of a matrix prints as the fraction that it is
 pub own_texts : (row : List Frac) → map (λ f. fraction_text f.num f.den) (map fraction_of row) ≡ map own_text row

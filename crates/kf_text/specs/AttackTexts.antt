@@ -1,5 +1,6 @@
 -- Believed: printed attacks, and numbers of tries.
-use Rattle.std.specs.Prelude.{ℕ, pos, ◌+◌, List, [], ◌∷◌, ◌++◌, codes, decimal, flat_map}
+use Rattle.std.specs.Prelude.{ℕ, pos, List, ◌++◌, codes, decimal, flat_map}
+use Rattle.std.specs.List.{enumerate_from, zip}
 use Rattle.kf_frac.specs.Fractions.{fraction_text}
 use Rattle.kf_value.specs.Targets.{Item}
 use Rattle.kf_column.specs.Hypers.{Inner}
@@ -24,15 +25,11 @@ attack_lines target scale n i a =
     ++ (codes " value " ++ fraction_text a.worth a.whole)))))
     ++ best_lines target a.whole a.best
 
--- those of each inner, numbered from n on
-abbrev pub all_lines : List Item → ℕ → ℕ → List Inner → List AttackTree → List ℕ
-all_lines target scale n [] attacks = []
-all_lines target scale n (i ∷ inners) [] = []
-all_lines target scale n (i ∷ inners) (a ∷ attacks) = attack_lines target scale n i a ++ all_lines target scale (n + 1) inners attacks
-
--- the gain, then each inner's attack
+-- the gain, then each inner's attack, with its number from 0
 abbrev pub attack_text : {T : Type 0} → GainOf T → List Item → ℕ → List Inner → List AttackTree → List ℕ
-attack_text g target scale inners attacks = line (codes "gain " ++ gain_text g) ++ all_lines target scale 0 inners attacks
+attack_text g target scale inners attacks =
+    line (codes "gain " ++ gain_text g)
+    ++ flat_map (λ x. attack_lines target scale x.0 x.1.0 x.1.1) (enumerate_from 0 (zip inners attacks))
 
 -- the number of tries, and the posterior with these and with one fewer
 abbrev pub reach_text : ℕ → ReachTree → List ℕ

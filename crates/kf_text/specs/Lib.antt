@@ -6,8 +6,9 @@ pub mod BlameTexts
 pub mod CapacityTexts
 pub mod VerdictTexts
 -- For bodies
-pub mod Views
-pub mod Endings
 pub mod AttackViews
 pub mod BlameViews
 pub mod CapacityViews
+pub mod Endings
+pub mod Parts
+pub mod Views

@@ -17,16 +17,10 @@ gain_text (Table t) = codes "table"
 abbrev pub quotient_text : Leakage → List ℕ
 quotient_text l = if is_positive l.prior then fraction_text l.posterior (unsigned_abs l.prior) else codes "undefined"
 
--- the lines of a report, by the texts of its numbers
-abbrev pub report_lines : List ℕ → List ℕ → List ℕ → List ℕ → List ℕ → List ℕ
-report_lines gain prior posterior quotient difference =
-    line (codes "gain " ++ gain)
-    ++ (line (codes "prior " ++ prior)
-    ++ (line (codes "posterior " ++ posterior)
-    ++ (line (codes "quotient " ++ quotient) ++ line (codes "difference " ++ difference))))
-
 -- the gain, prior and posterior, their quotient, and the posterior minus the prior
 abbrev pub report_text : {T : Type 0} → GainOf T → Leakage → List ℕ
 report_text g l =
-    report_lines (gain_text g) (fraction_text l.prior l.whole) (fraction_text l.posterior l.whole)
-    (quotient_text l) (fraction_text (l.posterior -ℤ l.prior) l.whole)
+    line (codes "gain " ++ gain_text g)
+    ++ (line (codes "prior " ++ fraction_text l.prior l.whole)
+    ++ (line (codes "posterior " ++ fraction_text l.posterior l.whole)
+    ++ (line (codes "quotient " ++ quotient_text l) ++ line (codes "difference " ++ fraction_text (l.posterior -ℤ l.prior) l.whole))))

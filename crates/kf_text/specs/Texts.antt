@@ -1,6 +1,7 @@
 -- Believed: printed hypers, tables of traces, channels, trails and summaries of made programs.
-use Rattle.std.specs.Prelude.{ℕ, pos, List, [], ◌∷◌, ◌++◌, length, codes, decimal, flat_map, map}
-use Rattle.std.specs.List.{enumerate_from}
+use Rattle.std.specs.Prelude.{ℕ, pos, List, [], ◌∷◌, ◌++◌, length, codes, decimal, flat_map, map, None}
+use Rattle.std.specs.List.{enumerate_from, last_or}
+use Rattle.std.specs.Option.{option_map_or}
 use Rattle.kf_frac.specs.Fractions.{fraction_text}
 use Rattle.kf_value.specs.Values.{ValueTree}
 use Rattle.kf_value.specs.Texts.{text, separated}
@@ -32,13 +33,10 @@ inner_lines target scale numbered =
 abbrev pub size_lines : ℕ → ℕ → List ℕ
 size_lines scale count = line (codes "scale " ++ decimal scale) ++ line (codes "inners " ++ decimal count)
 
--- the target before these
-abbrev pub head_lines : List Item → ℕ → ℕ → List ℕ
-head_lines target scale count = target_line target ++ size_lines scale count
-
--- these, and each inner with its number from 0
+-- the target, these, and each inner with its number from 0
 abbrev pub hyper_text : List Item → ℕ → List Inner → List ℕ
-hyper_text target scale inners = head_lines target scale (length inners) ++ flat_map (inner_lines target scale) (enumerate_from 0 inners)
+hyper_text target scale inners =
+    (target_line target ++ size_lines scale (length inners)) ++ flat_map (inner_lines target scale) (enumerate_from 0 inners)
 
 -- a trace: its values in brackets, a comma and a space between them
 abbrev pub bracketed : List ValueTree → List ℕ
@@ -70,17 +68,12 @@ cell_line rows x row = line (codes "  " ++ fraction_text (pos (share_at rows row
 abbrev pub secret_lines : List Item → List Row → ℕ → List ℕ
 secret_lines target rows x = line (codes "row " ++ target_value_text target x) ++ flat_map (cell_line rows x) rows
 
--- how many traces there are, and each with its number from 0
-abbrev pub columns_lines : List Row → List ℕ
-columns_lines rows = line (codes "columns " ++ decimal (length rows)) ++ flat_map column_line (enumerate_from 0 rows)
-
--- how many secrets there are, and each
-abbrev pub rows_lines : List Item → List Row → List ℕ → List ℕ
-rows_lines target rows secrets = line (codes "rows " ++ decimal (length secrets)) ++ flat_map (secret_lines target rows) secrets
-
--- the target, the columns and the rows
+-- the target; how many traces there are, and each with its number from 0; how many secrets there are, and each
 abbrev pub channel_text : List Item → List Row → List ℕ → List ℕ
-channel_text target rows secrets = target_line target ++ (columns_lines rows ++ rows_lines target rows secrets)
+channel_text target rows secrets =
+    target_line target
+    ++ ((line (codes "columns " ++ decimal (length rows)) ++ flat_map column_line (enumerate_from 0 rows))
+    ++ (line (codes "rows " ++ decimal (length secrets)) ++ flat_map (secret_lines target rows) secrets))
 
 -- a place, and how many beliefs stand there
 abbrev pub count_line : ℕ × ℕ → List ℕ
@@ -90,18 +83,9 @@ count_line numbered = line (codes "after " ++ (decimal numbered.0 ++ (codes " in
 abbrev pub trail_text : List ℕ → List ℕ
 trail_text counts = flat_map count_line (enumerate_from 0 counts)
 
--- the total of the last inner; 0 where there is none
-abbrev pub last_total : List Inner → ℕ
-last_total [] = 0
-last_total (i ∷ []) = i.total
-last_total (i ∷ j ∷ js) = last_total (j ∷ js)
-
--- the outer of the last inner
-abbrev pub last_line : ℕ → List Inner → List ℕ
-last_line scale inners = line (codes "last " ++ fraction_text (pos (last_total inners)) scale)
-
--- how many observations there were, the scale and how many inners, and the outer of the last of these
+-- how many observations there were, the scale and how many inners, and the outer of the last of these, 0 of none
 abbrev pub make_text : ℕ → ℕ → List Inner → List ℕ
 make_text count scale inners =
     line (codes "observations " ++ decimal count)
-    ++ (size_lines scale (length inners) ++ last_line scale inners)
+    ++ (size_lines scale (length inners)
+    ++ line (codes "last " ++ fraction_text (pos (option_map_or (λ (i : Inner). i.total) (last_or None inners) 0)) scale))

@@ -1,5 +1,5 @@
 -- Believed: printed verdicts, and the marks that a check gives.
-use Rattle.std.specs.Prelude.{ℕ, List, [], ◌∷◌, ◌++◌, length, codes, decimal, flat_map, map}
+use Rattle.std.specs.Prelude.{ℕ, List, [], ◌++◌, length, codes, decimal, flat_map, map, slice_index_or}
 use Rattle.std.specs.Fmt.{signed_decimal}
 use Rattle.std.specs.List.{join_by}
 use Rattle.kf_frac.specs.Fractions.{fraction_text}
@@ -17,25 +17,16 @@ use Rattle.kf_text.specs.Texts.{line}
 
 -- ---- yes
 
--- texts with a space between them
-abbrev pub spaced : List (List ℕ) → List ℕ
-spaced ts = join_by (λ t. t) (codes " ") ts
-
--- the fractions of a row
+-- the fractions of a row, with a space between them
 abbrev pub fractions_line : List Fraction → List ℕ
-fractions_line row = line (spaced (map (λ f. fraction_text f.num f.den) row))
-
--- how many columns a matrix has; its rows are alike
-abbrev pub width : List (List Fraction) → ℕ
-width [] = 0
-width (row ∷ rows) = length row
+fractions_line row = line (join_by (λ t. t) (codes " ") (map (λ f. fraction_text f.num f.den) row))
 
 abbrev pub shape_line : ℕ → ℕ → List ℕ
 shape_line rows columns = line (codes "matrix " ++ (decimal rows ++ (codes " " ++ decimal columns)))
 
--- how many rows and columns a matrix has, and the rows
+-- how many rows and columns a matrix has, whose rows are alike, and the rows
 abbrev pub yes_text : List (List Fraction) → List ℕ
-yes_text rows = line (codes "refines yes") ++ (shape_line (length rows) (width rows) ++ flat_map fractions_line rows)
+yes_text rows = line (codes "refines yes") ++ (shape_line (length rows) (length (slice_index_or rows 0 [])) ++ flat_map fractions_line rows)
 
 -- ---- no
 

@@ -6,7 +6,8 @@ use Rattle.kf_frac.specs.Views.{num_of, den_of}
 use Rattle.kf_frac.specs.declared.frac.Frac.{Frac}
 use Rattle.kf_gain.specs.Gains.{GainOf}
 use Rattle.kf_report.specs.declared.report.Report.{Report}
-use Rattle.kf_text.specs.ReportTexts.{gain_text, report_lines}
+use Rattle.kf_text.specs.ReportTexts.{gain_text}
+use Rattle.kf_text.specs.Parts.{report_lines}
 
 abbrev pub own_text : Frac → List ℕ
 own_text f = fraction_text (num_of f) (den_of f)

@@ -1,7 +1,7 @@
 ghost use Rattle.std.specs.Prelude.{◌≡◌, ◌++◌, ℕ, List, IfOk, OnOk, flat_map};
 ghost use Rattle.std.specs.List.{enumerate_from};
-ghost use Rattle.kf_quiet.specs.Blames.{BlameTree};
 ghost use Rattle.kf_quiet.specs.Views.{ShowBlames};
+ghost use Rattle.kf_quiet.specs.Summaries.{SummaryTree};
 ghost use Rattle.kf_text.specs.BlameTexts.{blame_text as text_of_blame};
 ghost use Rattle.kf_text.specs.BlameViews.{own_blame_line, own_without_line};
 
@@ -41,7 +41,7 @@ fn print_others(alloc: Global, others: &[Blame], out: &mut Vec<u8>) -> Result<()
 /// The printed blames: a line for the whole program, and one for each outermost statement, numbered from 0, with how many inners
 /// there are and the posterior Bayes vulnerability.
 pub fn blame_text(alloc: Global, b: &BlameList) -> Result<Vec<u8>, Mem>
-    ensures { (scale : ℕ) (trees : List BlameTree) → ShowBlames scale trees b.now
+    ensures { (scale : ℕ) (trees : List SummaryTree) → ShowBlames scale trees b.now
         → IfOk result (λ text. text.items ≡ text_of_blame scale trees) }
 {
     let mut out = Vec::new(alloc);

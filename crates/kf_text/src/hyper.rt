@@ -2,7 +2,8 @@ ghost use Rattle.std.specs.Prelude.{◌≡◌, ◌<◌, ◌++◌, IfOk, OnOk, fl
 ghost use Rattle.kf_column.specs.Columns.{total};
 ghost use Rattle.kf_hyper.specs.Views.{entry_at, inner_at, inners_of, scale_of, target_of};
 ghost use Rattle.kf_text.specs.Endings.{line_end};
-ghost use Rattle.kf_text.specs.Texts.{head_lines, size_lines, entry_line, inner_lines, hyper_text as text_of_hyper};
+ghost use Rattle.kf_text.specs.Texts.{size_lines, entry_line, inner_lines, hyper_text as text_of_hyper};
+ghost use Rattle.kf_text.specs.Parts.{head_lines};
 
 use crate::items::{print_about, print_line, print_text};
 use kf_hyper::Hyper;

@@ -2,7 +2,8 @@ ghost use Rattle.std.specs.Prelude.{◌≡◌, ◌++◌, pos, IfOk, OnOk};
 ghost use Rattle.kf_frac.specs.Fractions.{reduced_num, reduced_den};
 ghost use Rattle.kf_frac.specs.Views.{num_of, den_of};
 ghost use Rattle.kf_hyper.specs.Views.{inners_of, scale_of};
-ghost use Rattle.kf_text.specs.Texts.{last_line, last_total, make_text as text_of_make};
+ghost use Rattle.kf_text.specs.Texts.{make_text as text_of_make};
+ghost use Rattle.kf_text.specs.Parts.{last_line, last_total};
 
 use crate::hyper::print_sizes;
 use crate::items::print_text;

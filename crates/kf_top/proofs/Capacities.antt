@@ -1,17 +1,16 @@
 -- Capacities: which grids aren't too wide, and what the steps of their commands come to.
-use Rattle.std.proofs.Common.{◌≡◌, ◌≢◌, ℕ, pos, ◌<◌, ◌≤◌, ◌&&◌, nat_le, le-leb, codes, List, [], Bool, true, false, Result, Ok, Err, refl, sym, ◌∙◌, ap, subst, inl, inr, ⊎_elim, if◌then◌else◌}
+use Rattle.std.proofs.Common.{◌≡◌, ◌≢◌, ℕ, ◌<◌, ◌≤◌, ◌&&◌, nat_le, le-leb, codes, List, [], Bool, true, false, Result, Ok, Err, refl, sym, ◌∙◌, ap, subst, inl, inr, ⊎_elim, if◌then◌else◌}
 use Rattle.std.proofs.lemmas.Bool.{cases_lt, lt-leb}
 use Rattle.kf_frac.specs.Fractions.{limit}
-use Rattle.kf_frac.specs.Parts.{IsFraction}
-use Rattle.kf_frac.specs.declared.frac.Frac.{Frac}
 use Rattle.kf_value.specs.Targets.{Item}
 use Rattle.kf_capacity.specs.Grids.{ChannelTree, GridTree, capacity_of, channel_grid}
+use Rattle.kf_capacity.specs.Compositions.{ComposeFault}
 use Rattle.kf_channel.specs.Channels.{all_initial}
 use Rattle.kf_core.specs.Programs.{ProgramTree}
 use Rattle.kf_load.specs.Steps.{Refused, Step, After, Gives, refusal}
 use Rattle.kf_text.specs.CapacityTexts.{algebra_text, capacity_text}
-use Rattle.kf_top.specs.Answer.{CapacityIn, Composed, ComposedIn, IsChannelTree, Shown, algebra_shown, initial, is_narrow, prints, wide_channel}
-use Rattle.kf_top.specs.CapacityViews.{CapacityAnswers, ChannelIn, narrow_grid}
+use Rattle.kf_top.specs.Answer.{CapacityIn, Composed, ComposedIn, Shown, algebra_shown, initial, is_narrow, prints, wide_channel, composed_grid}
+use Rattle.kf_top.specs.CapacityViews.{ChannelIn, narrow_grid}
 use Rattle.kf_top.specs.Stops.{Answers, Stopped}
 use Rattle.kf_top.specs.Views.{shown}
 use Rattle.kf_top.specs.declared.refusal.Done.{Done}
@@ -131,9 +130,10 @@ module _ (first second both : GridTree) where
 -- ---- two channels
 
 -- a fault that isn't want of memory is what is given for it
-pub given_fault : {E : Type 0} (Is : Result GridTree E → Type 0) (given : Result GridTree E → Result GridTree Refused) (mem e k : E) → e ≡ k → k ≢ mem
-    → (e ≢ mem → Is (Err e)) → (r : Result GridTree E) × Is r × (given (Err k) ≡ given r)
-given_fault {E} Is given mem e k same some is = (Err k, subst (λ (f : E). Is (Err f)) same (is (λ lost. some (sym same ∙ lost))), refl)
+pub given_fault : {E : Type 0} (fault_of : E → ComposeFault) (Is : Result GridTree ComposeFault → Type 0) (mem e k : E) → e ≡ k → k ≢ mem
+    → (e ≢ mem → Is (Err (fault_of e))) → (r : Result GridTree ComposeFault) × Is r × (composed_grid (Err (fault_of k)) ≡ composed_grid r)
+given_fault {E} fault_of Is mem e k same some is =
+    (Err (fault_of k), subst (λ (f : E). Is (Err (fault_of f))) same (is (λ lost. some (sym same ∙ lost))), refl)
 
 -- the channel of the second program, whose loops may turn as often as those of the first
 pub second_channel : (turns often : ℕ) → turns ≡ often → (q : ProgramTree) (r : Result ChannelTree Refused) → ChannelIn often q r → ChannelIn turns q r

@@ -12,7 +12,7 @@ use Rattle.kf_load.proofs.Faults.{is_long}
 use Rattle.kf_load.specs.declared.refusal.Stop.TheVariants as load_stop
 use Rattle.kf_top.specs.Answer.{CommandOutcome, MadeOutcome}
 use Rattle.kf_top.specs.Ends.{names_of}
-use Rattle.kf_top.specs.Outcome.{ClearedOf, ReadyOf}
+use Rattle.kf_top.specs.Outcome.{ReadyOf}
 use Rattle.kf_top.specs.Stops.{Answers, Stopped, lifted}
 use Rattle.kf_top.specs.TaskAnswers.{FilesAnswer, MayFail, TaskAnswer, stop_in}
 use Rattle.kf_top.specs.Views.{command_of, command_on_two, least_of, shown}
@@ -23,9 +23,11 @@ use Rattle.kf_top.specs.declared.about.AboutTwo.TheVariants as two
 use Rattle.kf_top.specs.declared.refusal.Done.{Done}
 use Rattle.kf_top.specs.declared.refusal.Stop.{Stop}
 use Rattle.kf_top.specs.declared.refusal.Stop.TheVariants as stop
-use Rattle.kf_words.specs.Task.{Command, Covers, Make, on_file, on_files, tables_of}
+use Rattle.kf_words.specs.Task.{Command, Covers, Make, on_files, tables_of}
+use Rattle.kf_words.specs.OfWords.{on_file}
 use Rattle.kf_top.proofs.Readings.{lift_fails, some_files}
 use Rattle.kf_top.proofs.Steps.{alone, each_alone, first_stops, lift_stops, next_answers}
+use Rattle.kf_top.specs.Steps.{ClearedOf}
 
 -- ---- what a command makes of its texts
 

@@ -5,12 +5,13 @@ use Rattle.std.specs.Io.KnownBytes.{Appends, Keeps}
 use Rattle.kf_io.specs.Faults.{Rose}
 use Rattle.kf_load.specs.Steps.{Refused, message, refusal as refused_with}
 use Rattle.kf_load.specs.declared.refusal.Refusal.TheVariants as load_refusal
-use Rattle.kf_words.specs.Task.{Task, task_of, named}
+use Rattle.kf_words.specs.Task.{Task, task_of}
 use Rattle.kf_words.specs.declared.error.WordsError.{WordsError}
 use Rattle.kf_words.specs.declared.error.WordsError.TheVariants as words_error
+use Rattle.kf_words.specs.OfWords.{named}
 use Rattle.kf_top.specs.Answer.{Shown, usage}
-use Rattle.kf_top.specs.Ends.{showing, refusing, Answered, CausesOf, Defined, HasCauses, Question, Sunk, TookNothing, Took, TookFront, HasFailed, TookLine}
-use Rattle.kf_top.specs.Outcome.{Outcome, SomeOutcome, TaskOutcome}
+use Rattle.kf_top.specs.Ends.{Answered, CausesOf, Defined, Question, Sunk, TookNothing, Took, TookFront, HasFailed, TookLine}
+use Rattle.kf_top.specs.Outcome.{Outcome, TaskOutcome}
 use Rattle.kf_top.specs.Stops.{refused}
 use Rattle.kf_top.specs.TaskAnswers.{AnswerTo, Counts, IsUnread, MayFail, RefusalCounts}
 use Rattle.kf_top.specs.Views.{shown}
@@ -20,6 +21,7 @@ use Rattle.kf_top.specs.declared.refusal.Refusal.{Refusal}
 use Rattle.kf_top.specs.declared.refusal.Refusal.TheVariants as refusal
 use Rattle.kf_top.specs.declared.refusal.Stop.{Stop}
 use Rattle.kf_top.specs.declared.refusal.Stop.TheVariants as stop
+use Rattle.kf_top.specs.Steps.{showing, refusing, HasCauses, SomeOutcome}
 
 -- ---- sinks
 
@@ -148,7 +150,9 @@ module _ (question : Question) (told : Option (List ℕ → List ℕ)) (before n
     answered_refused task r status defined is quiet line = record {
       answer = refusing r;
       defined = defined;
-      shows = record { status_is = is; out_took = took_none out.bytes_before out.bytes quiet; err_took = line };
+      status_is = is;
+      out_took = took_none out.bytes_before out.bytes quiet;
+      err_took = line;
     }
 
     pub ends_usage : now ≡ before → out.faults ≡ out.faults_before → question [] [] (Err usage) → TookNothing out → TookLine err usage.line
@@ -229,7 +233,7 @@ module _ (question : Question) (told : Option (List ℕ → List ℕ)) (before n
       ends_shown shown status defined is same unfailed took quiet =
           let low : status ≤ 1 = rw is (yes_or_no shown.yes) in
           record {
-            answered = λ no4 no12. record { answer = showing shown; defined = defined; shows = record { status_is = is; out_took = took; err_took = line_none err quiet } };
+            answered = λ no4 no12. record { answer = showing shown; defined = defined; status_is = is; out_took = took; err_took = line_none err quiet };
             usage = λ is2. absurd (omega arith);
             usage_shown = λ none memory. absurd (some_task (sym none));
             read = λ is3. absurd (omega arith);

@@ -9,7 +9,8 @@ use Rattle.kf_core.specs.Rows.{IsHyperOf}
 use Rattle.kf_gain.specs.Gains.{GainOf, TableTree}
 use Rattle.kf_gain.specs.Vulnerabilities.{IsWidth}
 use Rattle.kf_report.specs.Reports.{Leakage, IsLeakage}
-use Rattle.kf_attack.specs.Attacks.{AttackTree, AreAttacks}
+use Rattle.kf_attack.specs.Attacks.{AttackTree}
+use Rattle.kf_attack.specs.Views.{AreAttacks}
 use Rattle.kf_load.specs.Steps.{Refused, refusal}
 use Rattle.kf_text.specs.AttackTexts.{attack_text}
 use Rattle.kf_text.specs.ReportTexts.{report_text}

@@ -24,13 +24,14 @@ use Rattle.kf_cert.proofs.Printable.{verdicts_writable}
 use Rattle.kf_text.specs.VerdictTexts.{verdict_text}
 use Rattle.kf_support.specs.Cleared.{turns_of, whole_scale}
 use Rattle.kf_support.specs.declared.cleared.Cleared.{Cleared}
-use Rattle.kf_top.specs.Answer.{AreHypers, IsHyperTree, MarkOn, RefineOutcome, VerdictOn, mark_shown, most_pivots, other_target as differ_in_target, verdict_refusal, wide_cert}
+use Rattle.kf_top.specs.Answer.{AreHypers, IsHyperTree, MarkOn, RefineOutcome, VerdictOn, mark_shown, other_target as differ_in_target, verdict_refusal}
 use Rattle.kf_top.specs.Stops.{Answers, IsVerdictOn}
 use Rattle.kf_top.specs.Views.{shown}
 use Rattle.kf_top.specs.declared.verdict.Hypers.{Hypers}
 use Rattle.kf_top.specs.declared.refusal.Done.{Done}
 use Rattle.kf_top.specs.declared.refusal.Stop.{Stop}
 use Rattle.kf_top.proofs.Steps.{answers_by}
+use Rattle.kf_top.specs.Steps.{wide_cert, most_pivots}
 
 -- the hyper of a cleared program
 pub is_hyper_tree : (turns : ℕ) (cleared : Cleared) → turns_of cleared ≡ turns → (h : Hyper) → IsHyperOf (joint_of (turns_of cleared) (program_in cleared)) (inners_of h)

@@ -1,7 +1,9 @@
 -- Believed: the defined answer to a command on programs: the first refusal, or what is printed.
-use Rattle.std.specs.Prelude.{◌≡◌, ◌≢◌, ◌⊎◌, ℕ, Bool, true, false, ◌&&◌, ◌*◌, List, [], ◌∷◌, ◌++◌, length, nat_le, codes, if◌then◌else◌, Ok, Err}
+use Rattle.std.specs.Prelude.{◌≡◌, ◌≢◌, ◌⊎◌, ℕ, Bool, true, false, ◌&&◌, ◌*◌, List, [], ◌∷◌, ◌++◌, nat_le, codes, if◌then◌else◌, Ok, Err}
 use Rattle.std.specs.Fmt.{decimal}
 use Rattle.std.specs.declared.result.Result.{Result}
+use Rattle.std.specs.List.{AllZip}
+use Rattle.std.specs.Result.{result_map_both}
 use Rattle.kf_frac.specs.Fractions.{limit}
 use Rattle.kf_value.specs.Targets.{Item}
 use Rattle.kf_core.specs.Joint.{Cell, joint_of}
@@ -13,24 +15,18 @@ use Rattle.kf_column.specs.Hypers.{Inner}
 use Rattle.kf_column.specs.Traces.{Row}
 use Rattle.kf_channel.specs.Channels.{AreSecrets, all_initial}
 use Rattle.kf_capacity.specs.Grids.{ChannelTree, GridTree, channel_grid, capacity_of}
-use Rattle.kf_capacity.specs.Compositions.{IsCascade, IsParallel, IsChoice}
-use Rattle.kf_capacity.specs.declared.error.CascadeFault.{CascadeFault}
-use Rattle.kf_capacity.specs.declared.error.CascadeFault.TheVariants as cascade
-use Rattle.kf_capacity.specs.declared.error.ParallelFault.{ParallelFault}
-use Rattle.kf_capacity.specs.declared.error.ParallelFault.TheVariants as parallel
-use Rattle.kf_capacity.specs.declared.error.ChoiceFault.{ChoiceFault}
-use Rattle.kf_capacity.specs.declared.error.ChoiceFault.TheVariants as choice
+use Rattle.kf_capacity.specs.Compositions.{IsCascade, IsParallel, IsChoice, ComposeFault, Fit, Targets, Rows, Cells, Wide}
 use Rattle.kf_gain.specs.declared.error.TableError.{TableError}
 use Rattle.kf_gain.specs.declared.error.TableError.TheVariants as table
 use Rattle.kf_gain.specs.Gains.{GainOf, Bayes, Tries, Guessing, Table, TableTree}
 use Rattle.kf_gain.specs.Tables.{IsTable}
 use Rattle.kf_gain.specs.Vulnerabilities.{IsWidth}
-use Rattle.kf_report.specs.Reports.{Leakage, IsLeakage}
-use Rattle.kf_attack.specs.Attacks.{AttackTree, AreAttacks, ReachTree, IsReach}
+use Rattle.kf_report.specs.Reports.{IsLeakage}
+use Rattle.kf_attack.specs.Attacks.{IsReach, IsAttack}
 use Rattle.kf_load.specs.Steps.{Refused, Step, After, Gives, refusal}
 use Rattle.kf_load.specs.Texts.{File, TypedOf, cleared, source_of}
 use Rattle.kf_make.specs.Making.{make_source}
-use Rattle.kf_quiet.specs.Blames.{BlameTree, AreBlames}
+use Rattle.kf_quiet.specs.Blames.{AreBlames}
 use Rattle.kf_silent.specs.Quiet.{quiet_joint}
 use Rattle.kf_refine.specs.Refinements.{HyperTree}
 use Rattle.kf_refine.specs.Verdicts.{VerdictTree, Yes, No, IsVerdict, Proves}
@@ -65,6 +61,10 @@ shows verdict bytes = Ok (record { yes = verdict; bytes = bytes })
 abbrev pub prints : List ℕ → Result Shown Refused
 prints bytes = shows true bytes
 
+-- something with this property is printed
+abbrev pub PrintsSome : {A : Type 0} → (A → Type 0) → (A → List ℕ) → Step Shown
+PrintsSome {A} P text result = (x : A) × P x × (result ≡ prints (text x))
+
 -- the refusal of words that ask for nothing
 abbrev pub usage : Refused
 usage = refusal 2 [] (codes "usage: kuifje COMMAND [FILES] [--gain G] [--turns N] [--json]")
@@ -81,29 +81,13 @@ wide_channel = refusal 7 [] (codes "channel passes 2^127 - 1")
 
 -- the hyper of a joint over a scale, for a target
 abbrev pub HyperOf : List Item → ℕ → List Cell → Step Shown
-HyperOf target scale joint result = (inners : List Inner) × IsHyperOf joint inners × (result ≡ prints (hyper_text target scale inners))
-
--- its traces, each with its column
-abbrev pub TracesOf : List Item → ℕ → List Cell → Step Shown
-TracesOf target scale joint result = (rows : List Row) × AreRowsOf joint rows × (result ≡ prints (trace_text target scale rows))
-
--- how many posteriors there are after each statement of a program, whose loops turn at most so often
-abbrev pub TrailOf : ℕ → ProgramTree → Step Shown
-TrailOf turns p result = (counts : List ℕ) × IsTrail turns p counts × (result ≡ prints (trail_text counts))
-
--- the hyper of a number of noisy observations, by its scale and joint
-abbrev pub MadeOf : ℕ → ℕ → List Cell → Step Shown
-MadeOf count scale joint result = (inners : List Inner) × IsHyperOf joint inners × (result ≡ prints (make_text count scale inners))
+HyperOf target scale joint = PrintsSome (IsHyperOf joint) (hyper_text target scale)
 
 -- the made text is typed and cleared as any other, and stands in no file
 abbrev pub MadeOutcome : ℕ → ℕ → Step Shown
 MadeOutcome count turns =
     After (TypedOf [] (make_source count)) (λ t.
-    After (Gives (cleared turns t)) (λ p. MadeOf count (scale_of turns p) (joint_of turns p)))
-
--- how much is seen of a program, whose loops turn at most so often, and how much where each statement in turn is quiet
-abbrev pub BlameOf : ℕ → ProgramTree → Step Shown
-BlameOf turns p result = (blames : List BlameTree) × AreBlames turns p blames × (result ≡ prints (blame_text (scale_of turns p) blames))
+    After (Gives (cleared turns t)) (λ p. PrintsSome (IsHyperOf (joint_of turns p)) (make_text count (scale_of turns p))))
 
 -- ---- channels
 
@@ -114,8 +98,7 @@ initial p = if all_initial p.target then Ok p else Err (refusal 10 [] (codes "ta
 -- the channel from the values of a target to the traces of a joint
 abbrev pub ChannelOf : List Item → List Cell → Step Shown
 ChannelOf target joint result =
-    (rows : List Row) × AreRowsOf joint rows
-    × ((secrets : List ℕ) × AreSecrets rows secrets × (result ≡ prints (channel_text target rows secrets)))
+    (rows : List Row) × AreRowsOf joint rows × PrintsSome (AreSecrets rows) (channel_text target rows) result
 
 -- the channel of a program
 pub record IsChannelTree (turns : ℕ) (p : ProgramTree) (c : ChannelTree) : Type 0 where
@@ -133,35 +116,19 @@ CapacityIn turns p result =
     (c : ChannelTree) × IsChannelTree turns p c
     × (result ≡ (if is_narrow (channel_grid c) then prints (capacity_text (channel_grid c)) else Err wide_channel))
 
--- what is put together of two channels, or why there is nothing; want of memory is none of the causes
-abbrev pub cascade_grid : Result GridTree CascadeFault → Result GridTree Refused
-cascade_grid (Ok g) = Ok g
-cascade_grid (Err cascade.Fit) = Err (refusal 10 [] (codes "channels do not fit"))
-cascade_grid (Err cascade.Wide) = Err wide_channel
-cascade_grid (Err cascade.Mem) = Err usage
-
-abbrev pub other_rows : Refused
-other_rows = refusal 10 [] (codes "rows differ")
-
-abbrev pub parallel_grid : Result GridTree ParallelFault → Result GridTree Refused
-parallel_grid (Ok g) = Ok g
-parallel_grid (Err parallel.Targets) = Err other_target
-parallel_grid (Err parallel.Rows) = Err other_rows
-parallel_grid (Err (parallel.Cells count)) = Err (refusal 8 [] (codes "channel has " ++ (decimal count ++ codes " cells")))
-parallel_grid (Err parallel.Wide) = Err wide_channel
-parallel_grid (Err parallel.Mem) = Err usage
-
-abbrev pub choice_grid : Result GridTree ChoiceFault → Result GridTree Refused
-choice_grid (Ok g) = Ok g
-choice_grid (Err choice.Targets) = Err other_target
-choice_grid (Err choice.Rows) = Err other_rows
-choice_grid (Err choice.Wide) = Err wide_channel
-choice_grid (Err choice.Mem) = Err usage
+-- what is put together of two channels, or why there is nothing
+abbrev pub composed_grid : Result GridTree ComposeFault → Result GridTree Refused
+composed_grid (Ok g) = Ok g
+composed_grid (Err Fit) = Err (refusal 10 [] (codes "channels do not fit"))
+composed_grid (Err Targets) = Err other_target
+composed_grid (Err Rows) = Err (refusal 10 [] (codes "rows differ"))
+composed_grid (Err (Cells count)) = Err (refusal 8 [] (codes "channel has " ++ (decimal count ++ codes " cells")))
+composed_grid (Err Wide) = Err wide_channel
 
 abbrev pub Composed : Composition → ChannelTree → ChannelTree → Step GridTree
-Composed Cascade c d result = (r : Result GridTree CascadeFault) × IsCascade c d r × (result ≡ cascade_grid r)
-Composed Parallel c d result = (r : Result GridTree ParallelFault) × IsParallel c d r × (result ≡ parallel_grid r)
-Composed (Choice num den) c d result = (r : Result GridTree ChoiceFault) × IsChoice num den c d r × (result ≡ choice_grid r)
+Composed Cascade c d result = (r : Result GridTree ComposeFault) × IsCascade c d r × (result ≡ composed_grid r)
+Composed Parallel c d result = (r : Result GridTree ComposeFault) × IsParallel c d r × (result ≡ composed_grid r)
+Composed (Choice num den) c d result = (r : Result GridTree ComposeFault) × IsChoice num den c d r × (result ≡ composed_grid r)
 
 -- the capacities of two channels and of what was put together of them, where none is too wide
 abbrev pub algebra_shown : GridTree → GridTree → GridTree → Result Shown Refused
@@ -195,16 +162,13 @@ abbrev pub TableOf : List Item → List ℕ → List ℕ → Step TableTree
 TableOf target name bytes (Ok t) = IsTable target bytes (Ok t)
 TableOf target name bytes (Err r) = (e : TableError) × IsTable target bytes (Err e) × (r ≡ bad_file name (table_word e))
 
--- the gain table in a file
-abbrev pub TableIn : List Item → File → Step TableTree
-TableIn target file = After (Gives (source_of file)) (TableOf target file.name)
-
 -- a gain, and the table that its file holds
 abbrev pub GainIn : List Item → GainOf (List ℕ) → List File → Step (GainOf TableTree)
 GainIn target Bayes tables = Gives (Ok Bayes)
 GainIn target (Tries k) tables = Gives (Ok (Tries k))
 GainIn target Guessing tables = Gives (Ok Guessing)
-GainIn target (Table name) (file ∷ []) = After (TableIn target file) (λ t. Gives (Ok (Table t)))
+GainIn target (Table name) (file ∷ []) =
+    After (After (Gives (source_of file)) (TableOf target file.name)) (λ t. Gives (Ok (Table t)))
 GainIn target (Table name) tables = Gives (Err usage)
 
 -- how wide a gain is on the hyper of a joint
@@ -222,7 +186,7 @@ NarrowGain scale joint g result =
 -- how much a gain's best action gains by what is shown
 abbrev pub ReportOf : ℕ → List Cell → GainOf TableTree → Step Shown
 ReportOf scale joint g result =
-    (inners : List Inner) × IsHyperOf joint inners × ((l : Leakage) × IsLeakage g scale inners l × (result ≡ prints (report_text g l)))
+    (inners : List Inner) × IsHyperOf joint inners × PrintsSome (IsLeakage g scale inners) (report_text g) result
 
 -- a report; no number of it passes 2^127 - 1
 abbrev pub ReportIn : ℕ → List Cell → GainOf TableTree → Step Shown
@@ -231,8 +195,7 @@ ReportIn scale joint g = After (NarrowGain scale joint g) (λ m. ReportOf scale 
 -- what is best done at each inner of a hyper, under a gain
 abbrev pub AttackOf : List Item → ℕ → List Cell → GainOf TableTree → Step Shown
 AttackOf target scale joint g result =
-    (inners : List Inner) × IsHyperOf joint inners
-    × ((attacks : List AttackTree) × AreAttacks g inners attacks × (result ≡ prints (attack_text g target scale inners attacks)))
+    (inners : List Inner) × IsHyperOf joint inners × PrintsSome (AllZip (IsAttack g) inners) (attack_text g target scale inners) result
 
 -- an attack; no number of it passes 2^127 - 1
 abbrev pub AttackIn : List Item → ℕ → List Cell → GainOf TableTree → Step Shown
@@ -241,8 +204,7 @@ AttackIn target scale joint g = After (NarrowGain scale joint g) (λ m. AttackOf
 -- the least number of tries with which the posterior vulnerability is at least num / den
 abbrev pub ReachOf : ℕ → ℕ → ℕ → List Cell → Step Shown
 ReachOf num den scale joint result =
-    (inners : List Inner) × IsHyperOf joint inners
-    × ((r : ReachTree) × IsReach scale inners num den r × (result ≡ prints (reach_text scale r)))
+    (inners : List Inner) × IsHyperOf joint inners × PrintsSome (IsReach scale inners num den) (reach_text scale) result
 
 -- ---- verdicts
 
@@ -256,10 +218,6 @@ pub record IsHyperTree (turns : ℕ) (p : ProgramTree) (h : HyperTree) : Type 0 
 pub record AreHypers (turns : ℕ) (p q : ProgramTree) (a b : HyperTree) : Type 0 where
   pub first : IsHyperTree turns p a
   pub second : IsHyperTree turns q b
-
--- how many pivots a run may have
-abbrev pub most_pivots : ℕ
-most_pivots = 20000
 
 -- why there is no verdict; want of memory is none of the causes
 abbrev pub verdict_refusal : RefineError → Refused
@@ -279,9 +237,9 @@ VerdictShown json a b (Ok v) result =
     Proves a b v × (result ≡ shows (is_yes v) (if json then cert_text a.target v else verdict_text a.target v))
 VerdictShown json a b (Err e) result = result ≡ Err (verdict_refusal e)
 
--- the verdict on two hypers: whether the second leaks no more than the first
+-- the verdict on two hypers, by a run of at most 20,000 pivots: whether the second leaks no more than the first
 abbrev pub VerdictOn : Bool → HyperTree → HyperTree → Step Shown
-VerdictOn json a b result = (r : Result VerdictTree RefineError) × IsVerdict a b most_pivots r × VerdictShown json a b r result
+VerdictOn json a b result = (r : Result VerdictTree RefineError) × IsVerdict a b 20000 r × VerdictShown json a b r result
 
 -- the verdict on the hypers of two programs
 abbrev pub RefineOutcome : Bool → ℕ → ProgramTree → ProgramTree → Step Shown
@@ -296,27 +254,15 @@ cert_word (cert.Form rule) = codes "Form " ++ decimal rule
 cert_word cert.Wide = codes "Wide"
 cert_word cert.Mem = []
 
--- the certificate that bytes are, or the first rule that they break
-abbrev pub cert_read : List ℕ → Result CertTree CertError → Result CertTree Refused
-cert_read name (Ok c) = Ok c
-cert_read name (Err e) = Err (bad_file name (cert_word e))
-
--- the certificate in a file
+-- the certificate in a file, or the first rule that its bytes break
 abbrev pub CertIn : File → Step CertTree
-CertIn file = After (Gives (source_of file)) (λ bytes. Gives (cert_read file.name (cert_of bytes)))
-
--- a scale times the certificate's denominator, or its width, passes 2^127 - 1
-abbrev pub wide_cert : Refused
-wide_cert = refusal 7 [] (codes "certificate passes 2^127 - 1")
-
-abbrev pub is_accepted : Mark → Bool
-is_accepted Accepted = true
-is_accepted (Rejected rule) = false
+CertIn file =
+    After (Gives (source_of file)) (λ bytes. Gives (result_map_both (λ c. c) (λ e. bad_file file.name (cert_word e)) (cert_of bytes)))
 
 -- what is printed of a certificate; want of memory is no cause why nothing is
 abbrev pub mark_shown : Result Mark CheckError → Result Shown Refused
-mark_shown (Ok mark) = shows (is_accepted mark) (line (mark_text mark))
-mark_shown (Err check.Wide) = Err wide_cert
+mark_shown (Ok mark) = shows (elim mark [ Accepted ↦ true | Rejected rule ↦ false ]) (line (mark_text mark))
+mark_shown (Err check.Wide) = Err (refusal 7 [] (codes "certificate passes 2^127 - 1"))
 mark_shown (Err check.Mem) = Err usage
 
 -- the mark of a certificate on two hypers, which must be about one target
@@ -335,9 +281,9 @@ MarkOn turns p q c result = (a b : HyperTree) × AreHypers turns p q a b × Mark
 -- has here
 abbrev pub CommandOutcome : Command → ℕ → List File → List ProgramTree → Step Shown
 CommandOutcome Hyper turns tables (p ∷ []) = HyperOf p.target (scale_of turns p) (joint_of turns p)
-CommandOutcome Traces turns tables (p ∷ []) = TracesOf p.target (scale_of turns p) (joint_of turns p)
+CommandOutcome Traces turns tables (p ∷ []) = PrintsSome (AreRowsOf (joint_of turns p)) (trace_text p.target (scale_of turns p))
 CommandOutcome Channel turns tables (p ∷ []) = After (Gives (initial p)) (λ p. ChannelOf p.target (joint_of turns p))
-CommandOutcome Trail turns tables (p ∷ []) = TrailOf turns p
+CommandOutcome Trail turns tables (p ∷ []) = PrintsSome (IsTrail turns p) trail_text
 CommandOutcome Capacity turns tables (p ∷ []) = After (Gives (initial p)) (CapacityIn turns)
 CommandOutcome (Compose way) turns tables (p ∷ q ∷ []) =
     After (Gives (initial p)) (λ p. After (Gives (initial q)) (λ q. ComposedIn way turns p q))
@@ -349,5 +295,5 @@ CommandOutcome (Refine json) turns tables (p ∷ q ∷ []) = RefineOutcome json 
 CommandOutcome (Check name) turns (file ∷ []) (p ∷ q ∷ []) = After (CertIn file) (MarkOn turns p q)
 CommandOutcome Covers turns tables (p ∷ q ∷ []) = RefineOutcome false turns p q
 CommandOutcome (Quiet from to) turns tables (p ∷ []) = HyperOf p.target (scale_of turns p) (quiet_joint turns p from to)
-CommandOutcome Blame turns tables (p ∷ []) = BlameOf turns p
+CommandOutcome Blame turns tables (p ∷ []) = PrintsSome (AreBlames turns p) (blame_text (scale_of turns p))
 CommandOutcome command turns tables ps = Gives (Err usage)

@@ -3,14 +3,14 @@ use Rattle.std.specs.Prelude.{◌≡◌, ◌≢◌, ℕ, ◌≤◌, ◌<◌, Lis
 use Rattle.std.specs.declared.option.Option.{Option}
 use Rattle.std.specs.declared.result.Result.{Result}
 use Rattle.std.specs.Io.KnownBytes.{Appends, Keeps}
+use Rattle.std.specs.Option.{option_map_or}
 use Rattle.kf_io.specs.Faults.{Rose}
 use Rattle.kf_io.specs.Writes.{AppendsSome}
 use Rattle.kf_load.specs.Readings.{IsRead, WasRead}
 use Rattle.kf_load.specs.Steps.{Refused, Step, message}
 use Rattle.kf_load.specs.Texts.{File}
 use Rattle.kf_top.specs.Answer.{Shown, usage}
-use Rattle.kf_top.specs.Outcome.{Outcome}
-use Rattle.kf_words.specs.Task.{Task, files_of_some, tables_of, task_of}
+use Rattle.kf_words.specs.Task.{Task, tables_of}
 
 -- ---- answers
 
@@ -20,17 +20,10 @@ pub record Answer : Type 0 where
   pub out : List ℕ
   pub err : List ℕ
 
--- an answer that shows bytes: status 0 for yes, 1 for no
-abbrev pub showing : Shown → Answer
-showing shown = record { status = if shown.yes then 0 else 1; out = shown.bytes; err = [] }
-
-abbrev pub refusing : Refused → Answer
-refusing refused = record { status = refused.status; out = []; err = refused.line }
-
--- the answer that an outcome comes to
+-- the answer that an outcome comes to: status 0 for yes, 1 for no, or that of a refusal
 abbrev pub settled : Result Shown Refused → Answer
-settled (Ok shown) = showing shown
-settled (Err refused) = refusing refused
+settled (Ok shown) = record { status = if shown.yes then 0 else 1; out = shown.bytes; err = [] }
+settled (Err refused) = record { status = refused.status; out = []; err = refused.line }
 
 -- what is asked of files: what it comes to, by those of the programs and those that the command reads beside them
 abbrev pub Question : Type 1
@@ -41,10 +34,6 @@ pub record IsAnswerTo (question : Question) (programs tables : List File) (answe
   pub result : Result Shown Refused
   pub outcome : question programs tables result
   pub settles : answer ≡ settled result
-
--- the defined answer to words
-abbrev pub IsAnswer : List (List ℕ) → List File → List File → Answer → Type 0
-IsAnswer words = IsAnswerTo (Outcome words)
 
 -- ---- files
 
@@ -107,17 +96,14 @@ pub record TookLine (s : Sunk) (line : List ℕ) : Type 0 where
 
 -- ---- ends
 
-pub record Shows (answer : Answer) (out err : Sunk) (status : ℕ) : Type 0 where
-  pub status_is : status ≡ answer.status
-  pub out_took : Took out answer.out
-  pub err_took : TookLine err answer.err
-
 -- the run ended with a defined answer
 pub record Answered (task : Option Task) (question : Question) (told : Option (List ℕ → List ℕ))
     (before now : List ℕ → ℕ) (out err : Sunk) (status : ℕ) : Type 0 where
   pub answer : Answer
   pub defined : Defined task question told before now answer
-  pub shows : Shows answer out err status
+  pub status_is : status ≡ answer.status
+  pub out_took : Took out answer.out
+  pub err_took : TookLine err answer.err
 
 -- out took only a front of a defined answer, for which it wasn't certain to have room
 pub record AnsweredInPart (task : Option Task) (question : Question) (told : Option (List ℕ → List ℕ))
@@ -131,7 +117,7 @@ pub record AnsweredInPart (task : Option Task) (question : Question) (told : Opt
 -- a read of a file that the task names has failed, and the line says so
 pub record Unread (task : Option Task) (before now : List ℕ → ℕ) (err : Sunk) : Type 0 where
   pub name : List ℕ
-  pub named : Contains (files_of_some task) name
+  pub named : Contains (option_map_or (λ (t : Task). t.files ++ tables_of t.command) task []) name
   pub rose : Rose (before name) (now name)
   pub line : TookLine err (message name (codes ": read failed"))
 
@@ -150,10 +136,6 @@ pub record CausesOf (task : Option Task) (question : Question) (told : Option (L
   -- what out took before its fault is a front of a defined answer
   pub part : status ≡ 4 → AnsweredInPart task question told before now out
   pub memory : status ≡ 12 → TookLine err (message [] (codes "want of memory"))
-
--- the causes of a run of words
-abbrev pub HasCauses : List (List ℕ) → Option (List ℕ → List ℕ) → (List ℕ → ℕ) → (List ℕ → ℕ) → Sunk → Sunk → ℕ → Type 0
-HasCauses words = CausesOf (task_of words) (Outcome words)
 
 -- nothing is written before the answer is whole, and err gets a line only with a status above 1
 pub record IsQuiet (out err : Sunk) (status : ℕ) : Type 0 where

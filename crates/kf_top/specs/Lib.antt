@@ -3,8 +3,9 @@ pub mod Ends
 pub mod Outcome
 pub mod Answer
 -- For bodies
+pub mod CapacityViews
+pub mod Steps
 pub mod Stops
 pub mod TaskAnswers
-pub mod Written
-pub mod CapacityViews
 pub mod Views
+pub mod Written

@@ -1,7 +1,6 @@
 -- Believed: the defined answer to words over files.
-use Rattle.std.specs.Prelude.{◌≡◌, ℕ, List, [], ◌∷◌, ◌++◌, map, nat_le, codes, if◌then◌else◌, Ok, Err, None, Some}
+use Rattle.std.specs.Prelude.{ℕ, List, ◌++◌, nat_le, codes, if◌then◌else◌, Ok, Err, None, Some}
 use Rattle.std.specs.Fmt.{decimal}
-use Rattle.std.specs.declared.option.Option.{Option}
 use Rattle.std.specs.declared.result.Result.{Result}
 use Rattle.kf_core.specs.Programs.{ProgramTree}
 use Rattle.kf_load.specs.Steps.{Refused, Step, After, Each, Gives, refusal}
@@ -21,29 +20,19 @@ few_stores t =
 abbrev pub FullOf : Text → Step Text
 FullOf t = TextWith t.name t.bytes (full_source t.program.types t.source)
 
--- the same of all texts, whose stores are counted first
-abbrev pub FullTexts : List Text → Step (List Text)
-FullTexts texts = After (Each (λ t. Gives (few_stores t)) texts) (Each FullOf)
-
--- what a command makes of its texts: each is cleared, for `covers` with its full source, and for `quiet` the block must be there
+-- what a command makes of its texts: each is cleared, for `covers` with its full source, once the stores of all are counted, and for
+-- `quiet` the block must be there
 abbrev pub ReadyOf : Command → ℕ → List Text → Step (List ProgramTree)
-ReadyOf Covers turns texts = After (FullTexts texts) (Each (λ t. Gives (cleared turns t)))
+ReadyOf Covers turns texts =
+    After (After (Each (λ t. Gives (few_stores t)) texts) (Each FullOf)) (Each (λ t. Gives (cleared turns t)))
 ReadyOf (Quiet from to) turns texts = Each (LongCleared turns to) texts
 ReadyOf command turns texts = Each (λ t. Gives (cleared turns t)) texts
 
--- all texts first, and then their programs
-abbrev pub ClearedOf : Command → ℕ → List File → Step (List ProgramTree)
-ClearedOf command turns programs = After (Each TextOf programs) (ReadyOf command turns)
-
--- what a task comes to, by the files of its programs and those that its command reads beside them
+-- what a task comes to, by the files of its programs, whose texts come first, and those that its command reads beside them
 abbrev pub TaskOutcome : Task → List File → List File → Step Shown
 TaskOutcome task programs tables =
-    After (ClearedOf task.command task.turns programs) (CommandOutcome task.command task.turns tables)
-
-abbrev pub SomeOutcome : Option Task → List File → List File → Step Shown
-SomeOutcome None programs tables = Gives (Err usage)
-SomeOutcome (Some task) programs tables = TaskOutcome task programs tables
+    After (After (Each TextOf programs) (ReadyOf task.command task.turns)) (CommandOutcome task.command task.turns tables)
 
 -- what a run of these words over these files comes to
 abbrev pub Outcome : List (List ℕ) → List File → List File → Step Shown
-Outcome words programs tables = SomeOutcome (task_of words) programs tables
+Outcome words programs tables = elim (task_of words) [ None ↦ Gives (Err usage) | Some task ↦ TaskOutcome task programs tables ]

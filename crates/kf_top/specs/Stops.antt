@@ -17,12 +17,13 @@ use Rattle.kf_cert.specs.Shapes.{IsWritable}
 use Rattle.kf_refine.specs.Verdicts.{IsVerdict, Proves}
 use Rattle.kf_refine.specs.Views.{hyper_tree, verdict_tree}
 use Rattle.kf_refine.specs.declared.verdict.Verdict.{Verdict}
-use Rattle.kf_top.specs.Answer.{bad_file, cert_word, most_pivots, other_rows, other_target, table_word, verdict_refusal, wide_cert, wide_channel}
+use Rattle.kf_top.specs.Answer.{bad_file, cert_word, other_target, table_word, verdict_refusal, wide_channel}
 use Rattle.kf_top.specs.declared.refusal.Refusal.{Refusal}
 use Rattle.kf_top.specs.declared.refusal.Refusal.TheVariants as refusal
 use Rattle.kf_top.specs.declared.refusal.Stop.{Stop}
 use Rattle.kf_top.specs.declared.refusal.Stop.TheVariants as stop
 use Rattle.kf_top.specs.declared.verdict.Hypers.{Hypers}
+use Rattle.kf_top.specs.Steps.{wide_cert, most_pivots}
 
 abbrev pub refused : Refusal → steps.Refused
 refused (refusal.Load r) = load.refused r
@@ -35,7 +36,7 @@ refused (refusal.WideTableau pivots) = steps.refusal 7 [] (codes "tableau passes
 refused refusal.ManyPivots = steps.refusal 8 [] (codes "more than 20000 pivots")
 refused (refusal.BadCert name error) = bad_file name.now (cert_word error)
 refused refusal.WideCert = wide_cert
-refused refusal.OtherRows = other_rows
+refused refusal.OtherRows = steps.refusal 10 [] (codes "rows differ")
 refused refusal.NoFit = steps.refusal 10 [] (codes "channels do not fit")
 refused (refusal.ManyChannelCells cells) = steps.refusal 8 [] (codes "channel has " ++ (decimal cells ++ codes " cells"))
 refused refusal.WideChannel = wide_channel

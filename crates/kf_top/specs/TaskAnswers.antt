@@ -3,11 +3,12 @@ use Rattle.std.specs.Prelude.{◌≡◌, ℕ, List, [], ◌∷◌, ◌++◌, All
 use Rattle.std.specs.declared.option.Option.{Option}
 use Rattle.std.specs.declared.result.Result.{Result}
 use Rattle.kf_gain.specs.Gains.{GainOf, Bayes, Tries, Guessing, Table}
-use Rattle.kf_load.specs.Readings.{ReadAs, WasRead}
+use Rattle.kf_load.specs.Readings.{WasRead}
 use Rattle.kf_load.specs.Steps.{Step}
 use Rattle.kf_load.specs.Stops as load
 use Rattle.kf_load.specs.Texts.{File}
 use Rattle.kf_load.specs.declared.refusal.Refusal.TheVariants as load_refusal
+use Rattle.kf_load.specs.Refusals.{ReadAs}
 use Rattle.kf_top.specs.Ends.{Question, names_of}
 use Rattle.kf_top.specs.Outcome.{TaskOutcome}
 use Rattle.kf_top.specs.Stops.{Answers}

@@ -7,7 +7,8 @@ ghost use Rattle.kf_top.specs.Answer.{CommandOutcome};
 ghost use Rattle.kf_top.specs.TaskAnswers.{Counts, FilesAnswer, TaskAnswer};
 ghost use Rattle.kf_top.specs.Views.{command_of, command_on_two, least_of as least_number, shown};
 ghost use Rattle.kf_words.specs.Jobs.{IsInRange};
-ghost use Rattle.kf_words.specs.Task.{named, on_file, on_files, tables_of};
+ghost use Rattle.kf_words.specs.Task.{on_files, tables_of};
+ghost use Rattle.kf_words.specs.OfWords.{on_file, named};
 
 use crate::attack::{attack, reach};
 use crate::capacity::{Composition, capacity, composed_capacities};

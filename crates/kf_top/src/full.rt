@@ -9,8 +9,9 @@ ghost use Rattle.kf_load.specs.Texts.{cleared as whether_cleared};
 ghost use Rattle.kf_load.specs.Views.{program_in, programs_in, text_of, texts_in};
 ghost use Rattle.kf_prior.specs.Laws.{IsFull};
 ghost use Rattle.kf_support.specs.Cleared.{turns_of};
-ghost use Rattle.kf_top.specs.Outcome.{few_stores, FullOf, FullTexts, ReadyOf};
+ghost use Rattle.kf_top.specs.Outcome.{few_stores, FullOf, ReadyOf};
 ghost use Rattle.kf_top.specs.Stops.{full_tree, Answers, IsOwn};
+ghost use Rattle.kf_top.specs.Steps.{FullTexts};
 ghost use Rattle.kf_words.specs.Task.{Covers};
 ghost use Rattle.kf_core.specs.Views.{program_tree};
 

@@ -3,9 +3,10 @@
 ghost use Rattle.std.specs.Prelude.{◌∷◌, [], IfErr};
 ghost use Rattle.kf_value.specs.Views.{items_of};
 ghost use Rattle.kf_gain.specs.Views.{gain_tree, table_tree};
-ghost use Rattle.kf_top.specs.Answer.{GainIn, TableIn, TableOf};
+ghost use Rattle.kf_top.specs.Answer.{GainIn, TableOf};
 ghost use Rattle.kf_top.specs.Stops.{Answers, IsOwn};
 ghost use Rattle.kf_top.specs.TaskAnswers.{Counts, FileAnswer, FilesAnswer, names_in};
+ghost use Rattle.kf_top.specs.Steps.{TableIn};
 ghost use Rattle.kf_words.specs.Jobs.{gain_of};
 
 use crate::refusal::{Refusal, Stop, lift};

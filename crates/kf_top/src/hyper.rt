@@ -6,9 +6,10 @@ ghost use Rattle.kf_core.specs.Scale.{scale_of};
 ghost use Rattle.kf_load.specs.Steps.{After, Gives};
 ghost use Rattle.kf_load.specs.Views.{program_in};
 ghost use Rattle.kf_support.specs.Cleared.{turns_of};
-ghost use Rattle.kf_top.specs.Answer.{ChannelOf, HyperOf, MadeOutcome, TracesOf, TrailOf, initial};
+ghost use Rattle.kf_top.specs.Answer.{ChannelOf, HyperOf, MadeOutcome, initial};
 ghost use Rattle.kf_top.specs.Stops.{Answers, IsOwn};
 ghost use Rattle.kf_top.specs.Views.{shown};
+ghost use Rattle.kf_top.specs.Steps.{TracesOf, TrailOf};
 
 use crate::refusal::{Done, Refusal, Stop};
 use kf_channel::{ChannelError, channel_of};

@@ -5,9 +5,10 @@ ghost use Rattle.kf_core.specs.Scale.{scale_of};
 ghost use Rattle.kf_load.specs.Views.{program_in};
 ghost use Rattle.kf_support.specs.Cleared.{turns_of};
 ghost use Rattle.kf_silent.specs.Quiet.{quiet_joint};
-ghost use Rattle.kf_top.specs.Answer.{BlameOf, HyperOf};
+ghost use Rattle.kf_top.specs.Answer.{HyperOf};
 ghost use Rattle.kf_top.specs.Stops.{Answers, IsOwn};
 ghost use Rattle.kf_top.specs.Views.{shown};
+ghost use Rattle.kf_top.specs.Steps.{BlameOf};
 
 use crate::refusal::{Done, Stop};
 use kf_quiet::{blame_of, quiet_hyper};

@@ -1,7 +1,8 @@
 ghost use Rattle.std.specs.Prelude.{◌≡◌, ◌≤◌, ℕ, List, Some, map, string_bytes};
 ghost use Rattle.kf_top.specs.Answer.{usage as usage_refusal};
-ghost use Rattle.kf_top.specs.Ends.{sunk, HasCauses, IsQuiet, Sunk, TookNothing};
+ghost use Rattle.kf_top.specs.Ends.{sunk, IsQuiet, Sunk, TookNothing};
 ghost use Rattle.kf_top.specs.Written.{IsRefused, WrittenOf, want_of_memory};
+ghost use Rattle.kf_top.specs.Steps.{HasCauses};
 ghost use Rattle.kf_words.specs.Task.{task_of};
 ghost use Rattle.kf_words.specs.Jobs.{task_of_job, HasTurns, IsInRange};
 ghost use Rattle.kf_words.specs.declared.error.WordsError.TheVariants as words_error;

@@ -15,10 +15,11 @@ ghost use Rattle.kf_refine.specs.declared.verdict.RefineError.TheVariants as err
 ghost use Rattle.kf_support.specs.Cleared.{turns_of};
 ghost use Rattle.kf_text.specs.Texts.{line};
 ghost use Rattle.kf_text.specs.VerdictTexts.{mark_text as text_of_mark, verdict_text as text_of_verdict};
-ghost use Rattle.kf_top.specs.Answer.{is_accepted as accepts, is_yes as says_yes, most_pivots, AreHypers, CertIn, cert_read, MarkOn, RefineOutcome, VerdictOn};
+ghost use Rattle.kf_top.specs.Answer.{is_yes as says_yes, AreHypers, CertIn, MarkOn, RefineOutcome, VerdictOn};
 ghost use Rattle.kf_top.specs.Stops.{Answers, IsOwn, IsVerdictOn, Stopped};
 ghost use Rattle.kf_top.specs.TaskAnswers.{Counts, FileAnswer};
 ghost use Rattle.kf_top.specs.Views.{shown};
+ghost use Rattle.kf_top.specs.Steps.{cert_read, most_pivots, is_accepted as accepts};
 
 use crate::refusal::{Done, Refusal, Stop, lift};
 use kf_cert::{Cert, CertError, CheckError, Mark, check_cert, read_cert, write_cert};

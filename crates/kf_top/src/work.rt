@@ -1,6 +1,6 @@
 ghost use Rattle.kf_top.specs.TaskAnswers.{Counts, TaskAnswer};
-ghost use Rattle.kf_words.specs.Task.{named};
 ghost use Rattle.kf_words.specs.Jobs.{task_of_job, HasTurns, IsInRange};
+ghost use Rattle.kf_words.specs.OfWords.{named};
 
 use crate::about::{AboutOne, AboutTwo, about_one, about_two};
 use crate::capacity::Composition;

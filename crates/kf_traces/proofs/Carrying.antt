@@ -7,10 +7,11 @@ use Rattle.kf_value.specs.Values.{ValueTree, truth}
 use Rattle.kf_value.proofs.ListLemmas.{each_append}
 use Rattle.kf_core.specs.Dxs.{DxTree}
 use Rattle.kf_core.specs.Sts.{StTree, StTrees, Skip, Assign, Observe, If, While, no_sts, more_sts}
-use Rattle.kf_core.specs.Runs.{Run, Tried, tried, place, replaced, LoopBound, chain, branched, silent, shown, stay, stopped, assigned, guarded, looped, runs, all_runs, declared}
+use Rattle.kf_core.specs.Runs.{Run, Tried, tried, place, replaced, LoopBound, chain, branched, stay, stopped, assigned, guarded, looped, runs, all_runs, declared}
 use Rattle.kf_core.proofs.Measures.{Measure, Trace, ahead, Full, chain_runs, stay_within, stay_value}
 use Rattle.kf_core.proofs.Filled.{Filled, Solid, AllSolid, DeclsSolid, looped_full, all_full, declared_full}
 use Rattle.kf_core.proofs.Sums.{adds, adds_joined}
+use Rattle.kf_core.specs.Leaks.{silent, shown}
 use Rattle.kf_traces.specs.Traced.{Weights, Traced, Lead, Part, unmoved, into, split, behind, branches, alone, gone, assign_all, assign_traced, guard_traced, loop_traced, traced, all_traced, declared_traced}
 use Rattle.kf_traces.specs.Traced as spec
 use Rattle.kf_traces.proofs.Measures.{Within, measure}

@@ -11,9 +11,11 @@ use Rattle.kf_value.proofs.ListLemmas.{each_append}
 use Rattle.kf_core.specs.Choices.{Weighted, total}
 use Rattle.kf_core.specs.Dxs.{DxTree}
 use Rattle.kf_core.specs.Sts.{StTree, StTrees, Skip, Assign, Observe, If, While, no_sts, more_sts}
-use Rattle.kf_core.specs.Runs.{Run, Tried, tried, place, LoopBound, chain, branched, silent, shown, stay, stopped, moved, replaced, assigned, guarded, looped, runs, all_runs, declared}
+use Rattle.kf_core.specs.Runs.{Run, Tried, tried, place, LoopBound, chain, branched, stay, stopped, replaced, assigned, guarded, looped, runs, all_runs, declared}
 use Rattle.kf_core.proofs.Filled.{Filled, Solid, AllSolid, DeclsSolid, looped_full, all_full, declared_full}
 use Rattle.kf_core.proofs.Measures.{Measure, Trace, RunsWithin, ahead, Full, chain_runs, choices_run}
+use Rattle.kf_core.specs.Each.{moved}
+use Rattle.kf_core.specs.Leaks.{silent, shown}
 use Rattle.kf_traces.specs.Traced.{Weights, Traced, Part, Lead, unmoved, into, with_weight, with_part, with_share, with_shares, parted, split, behind, branches, alone, gone, with_move, with_moves, assign_all, assign_traced, guard_traced, loop_traced, traced, all_traced, declared_traced}
 use Rattle.kf_traces.specs.Traced as spec
 use Rattle.kf_traces.proofs.Measures.{Within}

@@ -8,9 +8,11 @@ use Rattle.kf_value.specs.Types.{TypeTree}
 use Rattle.kf_value.specs.Values.{ValueTree, order}
 use Rattle.kf_value.proofs.Orders.{same}
 use Rattle.kf_core.specs.Choices.{Weighted, total}
-use Rattle.kf_core.specs.Runs.{Run, OutOfRange, Tried, branched, silent, shown, moved, replaced, stay, stopped}
+use Rattle.kf_core.specs.Runs.{Run, OutOfRange, Tried, branched, replaced, stay, stopped}
 use Rattle.kf_core.proofs.Measures.{Measure, Trace, RunsWithin, runs_value, ahead, choices_run, stay_within, stay_value}
 use Rattle.kf_core.proofs.Sums.{adds}
+use Rattle.kf_core.specs.Each.{moved}
+use Rattle.kf_core.specs.Leaks.{silent, shown}
 use Rattle.kf_traces.specs.Traced.{Weights, Lead, Part, with_weight, with_part, with_share, with_shares, parted, split, with_move, with_moves}
 use Rattle.kf_traces.specs.Traced as spec
 use Rattle.kf_traces.proofs.Measures.{Within, measure, grown}

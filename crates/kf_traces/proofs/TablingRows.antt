@@ -14,7 +14,7 @@ use Rattle.kf_value.specs.Values.{ValueTree, is_equal}
 use Rattle.kf_value.proofs.ListLemmas.{each_weaker}
 use Rattle.kf_core.proofs.Unsquashed.{checked_again}
 use Rattle.kf_core.specs.Checked.{IsChecked}
-use Rattle.kf_core.specs.Joint.{Cell, joint_of, is_cell_at, target_number, trace_weight, weight_of, HasTrace}
+use Rattle.kf_core.specs.Joint.{Cell, joint_of, target_number, trace_weight, weight_of}
 use Rattle.kf_core.specs.Programs.{ProgramTree}
 use Rattle.kf_core.specs.Rows.{AreRowsOf}
 use Rattle.kf_core.specs.Runs.{program_runs}
@@ -29,6 +29,7 @@ use Rattle.kf_traces.specs.Laws.{sum_of, target_weight, TracesJoin, TracesTell, 
 use Rattle.kf_traces.specs.Traced.{Weights, Traced, program_traced}
 use Rattle.kf_traces.specs.Views.{Fits, AllFit}
 use Rattle.kf_core.proofs.Stores.{lists_decide, lists_order-itself}
+use Rattle.kf_core.specs.Each.{HasTrace, is_cell_at}
 
 -- ---- strictly ascending traces are different
 

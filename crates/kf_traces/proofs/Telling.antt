@@ -14,7 +14,7 @@ use Rattle.kf_core.specs.Programs.{ProgramTree}
 use Rattle.kf_core.specs.Sts.{sts}
 use Rattle.kf_core.specs.Runs.{Run, Halted, chain, declared, all_runs, copied, program_runs}
 use Rattle.kf_core.specs.Scale.{scale_of}
-use Rattle.kf_core.specs.Joint.{Cell, cell_of, cells, is_cell_at, target_number, weight_of}
+use Rattle.kf_core.specs.Joint.{Cell, cell_of, cells, target_number, weight_of}
 use Rattle.kf_core.specs.Support.{program_pass}
 use Rattle.kf_core.specs.SupportLaws.{ProgramAgrees, ScalesArePositive, CommonScaleIsLeast}
 use Rattle.kf_core.proofs.Filled.{all_full, AllSolid}
@@ -23,6 +23,7 @@ use Rattle.kf_core.proofs.Solid.{all_solid, decls_solid}
 use Rattle.kf_core.proofs.Sums.{adds, adds_flat, adds_same, adds_nothing, each_is, sum_is, sum_filtered}
 use Rattle.kf_core.proofs.WeightKept.{all_weight}
 use Rattle.kf_core.proofs.WholeJoint.{all_divide, from_keeps, within}
+use Rattle.kf_core.specs.Each.{is_cell_at}
 use Rattle.kf_traces.specs.Traced.{Weights, Traced, with_weight, copy_all, copied_traced, all_traced, declared_traced, program_traced}
 use Rattle.kf_traces.specs.Laws.{sum_of, ends_at, run_weight, TracesJoin, TracesTell}
 use Rattle.kf_traces.proofs.Measures.{Within, measure, grown}

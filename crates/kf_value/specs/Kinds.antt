@@ -1,6 +1,7 @@
 -- Believed: kinds as plain trees, and the kinds of types.
-use Rattle.std.specs.Prelude.{List, [], ◌∷◌}
+use Rattle.std.specs.Prelude.{List}
 use Rattle.kf_value.specs.Types.{TypeTree, TypeTrees, Boolean, Range, TupleOf, SetOf, no_type, more_types}
+use mathlib.Core.List.{foldr}
 
 mutual
   pub data KindTree : Type 0 where
@@ -15,8 +16,7 @@ mutual
 
 -- a list of kinds as the parts of a tree
 abbrev pub kind_parts : List KindTree → KindTrees
-kind_parts [] = no_kind
-kind_parts (k ∷ ks) = more_kinds k (kind_parts ks)
+kind_parts ks = foldr more_kinds no_kind ks
 
 -- the kind of a type's values
 abbrev mutual

@@ -24,9 +24,6 @@ shown vs = text (Tuple (parts vs))
 unfoldable pub target_value_text : List Item → ℕ → List ℕ
 target_value_text items n = elim (slice_get (target_values items) n) [ None ↦ [] | Some vs ↦ shown vs ]
 
-abbrev pub item_text : Item → List ℕ
-item_text i = (if i.initial then codes "old " else []) ++ i.name
-
 -- the text of a target: its items, a comma and a space between them
 abbrev pub target_text : List Item → List ℕ
-target_text items = separated (map item_text items)
+target_text items = separated (map (λ i. (if i.initial then codes "old " else []) ++ i.name) items)

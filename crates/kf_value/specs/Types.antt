@@ -2,6 +2,7 @@
 use Rattle.std.specs.Prelude.{ℕ, ℤ, pos, negsuc, ◌+◌, ◌*◌, ◌^◌, ◌-ℤ◌, ◌+ℤ◌, int_le, Bool, true, false, ◌&&◌, List, [], ◌∷◌, map}
 use Rattle.std.specs.List.{flat_map, range_with_len}
 use Rattle.kf_value.specs.Values.{ValueTree, Truth, Whole, Tuple, Set, parts}
+use mathlib.Core.List.{foldr}
 
 mutual
   pub data TypeTree : Type 0 where
@@ -16,8 +17,7 @@ mutual
 
 -- a list of types as the parts of a tree
 abbrev pub type_parts : List TypeTree → TypeTrees
-type_parts [] = no_type
-type_parts (t ∷ ts) = more_types t (type_parts ts)
+type_parts ts = foldr more_types no_type ts
 
 -- all lists with one value from each list, the first differences deciding their order
 abbrev pub combinations : List (List ValueTree) → List (List ValueTree)
@@ -48,8 +48,7 @@ unfoldable mutual
 
 -- the product of all numbers of a list
 abbrev pub product : List ℕ → ℕ
-product [] = 1
-product (n ∷ ns) = n * product ns
+product ns = foldr (λ n m. n * m) 1 ns
 
 -- how many values a type has
 abbrev mutual

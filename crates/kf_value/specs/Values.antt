@@ -3,6 +3,7 @@ use Rattle.std.specs.Prelude.{ℤ, pos, Bool, false, List, [], ◌∷◌, revers
 use Rattle.std.specs.declared.cmp.Ordering.{Ordering}
 use Rattle.std.specs.declared.cmp.Ordering.TheVariants.{Less, Equal, Greater}
 use Rattle.std.specs.Ordering.{bool_cmp, int_cmp, ordering_then, is_eq}
+use mathlib.Core.List.{foldr}
 
 mutual
   pub data ValueTree : Type 0 where
@@ -17,8 +18,7 @@ mutual
 
 -- a list of values as the parts of a tree, and back
 abbrev pub parts : List ValueTree → ValueTrees
-parts [] = no_value
-parts (v ∷ vs) = more_values v (parts vs)
+parts vs = foldr more_values no_value vs
 
 abbrev pub parts_list : ValueTrees → List ValueTree
 parts_list no_value = []
@@ -31,33 +31,20 @@ lexicographic [] (w ∷ ws) = Less
 lexicographic (compared ∷ rest) [] = Greater
 lexicographic (compared ∷ rest) (w ∷ ws) = ordering_then (compared w) (lexicographic rest ws)
 
--- between forms: Booleans, whole numbers, tuples, sets
-abbrev pub truth_order : Bool → ValueTree → Ordering
-truth_order b (Truth c) = bool_cmp b c
-truth_order b other = Less
-
-abbrev pub whole_order : ℤ → ValueTree → Ordering
-whole_order i (Truth c) = Greater
-whole_order i (Whole j) = int_cmp i j
-whole_order i other = Less
-
-abbrev pub tuple_order : List (ValueTree → Ordering) → ValueTree → Ordering
-tuple_order compared (Tuple ws) = lexicographic compared (parts_list ws)
-tuple_order compared (Set ws) = Less
-tuple_order compared other = Greater
-
--- sets from their greatest elements down, so that the greatest value of exactly one of them decides
-abbrev pub set_order : List (ValueTree → Ordering) → ValueTree → Ordering
-set_order compared (Set ws) = lexicographic (reverse compared) (reverse (parts_list ws))
-set_order compared other = Greater
-
--- the order of all values
+-- between forms: Booleans, whole numbers, tuples, sets; sets from their greatest elements down, so that the greatest value of exactly one
+-- of them decides
 abbrev mutual
   pub order : ValueTree → ValueTree → Ordering
-  order (Truth b) = truth_order b
-  order (Whole i) = whole_order i
-  order (Tuple vs) = tuple_order (orders vs)
-  order (Set vs) = set_order (orders vs)
+  order (Truth b) (Truth c) = bool_cmp b c
+  order (Truth b) other = Less
+  order (Whole i) (Truth c) = Greater
+  order (Whole i) (Whole j) = int_cmp i j
+  order (Whole i) other = Less
+  order (Tuple vs) (Tuple ws) = lexicographic (orders vs) (parts_list ws)
+  order (Tuple vs) (Set ws) = Less
+  order (Tuple vs) other = Greater
+  order (Set vs) (Set ws) = lexicographic (reverse (orders vs)) (reverse (parts_list ws))
+  order (Set vs) other = Greater
 
   pub orders : ValueTrees → List (ValueTree → Ordering)
   orders no_value = []

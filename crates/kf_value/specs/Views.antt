@@ -1,5 +1,5 @@
 -- For bodies: what contracts see of values, kinds, lists and targets.
-use Rattle.std.specs.Prelude.{List, map}
+use Rattle.std.specs.Prelude.{List, map, ℕ, [], ◌++◌, codes, if◌then◌else◌}
 use Rattle.kf_value.specs.declared.value.Value.{Value, fold-Value, Value-F}
 use Rattle.kf_value.specs.declared.value.ValueList.{ValueList, ValueList-F, out-ValueList}
 use Rattle.kf_value.specs.declared.kind.Kind.{Kind, fold-Kind, Kind-F}
@@ -59,3 +59,6 @@ type_trees l = map type_tree (type_items l)
 
 abbrev pub items_of : Target → List Item
 items_of t = map item_of t.items
+
+abbrev pub item_text : Item → List ℕ
+item_text i = (if i.initial then codes "old " else []) ++ i.name

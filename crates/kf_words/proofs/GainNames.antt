@@ -4,7 +4,8 @@ use Rattle.std.specs.List.{starts_with}
 use Rattle.std.specs.Str.Pattern.{LacksTextAt}
 use Rattle.std.proofs.lemmas.Str.Pattern.{starts_text}
 use Rattle.kf_gain.specs.Gains.{GainOf, Bayes, Guessing}
-use Rattle.kf_words.specs.GainWords.{gain_named, table_of, tries_of}
+use Rattle.kf_words.specs.GainWords.{gain_named}
+use Rattle.kf_words.specs.OfWords.{tries_of, table_of}
 
 lacks : (front word : List ℕ) → LacksTextAt front word 0 → starts_with nat_eq word front ≡ false
 lacks front word h = sym (starts_text false front word h)

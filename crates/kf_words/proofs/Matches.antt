@@ -12,7 +12,8 @@ use Rattle.clap.specs.declared.builder.range.ValueRange.{ValueRange}
 use Rattle.clap.specs.declared.error.kind.ErrorKind.{ErrorKind}
 use Rattle.clap.specs.declared.parser.matches.Found.{Found}
 use Rattle.clap.proofs.WalkLemmas.{first_value-rows}
-use Rattle.kf_words.specs.Arguments.{command_line, is_set, arguments_of, arguments_in, unless_faulty, words_rule}
+use Rattle.kf_words.specs.Arguments.{command_line, arguments_of, arguments_in, words_rule}
+use Rattle.kf_words.specs.CommandViews.{is_set, unless_faulty}
 
 -- a flag's first value tells whether it was used
 pub is_set_by : (flag : List ℕ) (f : Found) (value : Option (List ℕ)) → value ≡ first_value f flag

@@ -9,8 +9,9 @@ use Rattle.kf_words.specs.GainWords.{gain_named}
 use Rattle.kf_words.specs.Jobs.{HasTurns, IsInRange}
 use Rattle.kf_words.specs.Laws.{TasksInRange}
 use Rattle.kf_words.specs.Numbers.{block_of, in_range, is_numeral, number_of, pair_of, probability_of, ratio_of, threshold_of}
-use Rattle.kf_words.specs.Task.{Command, Hyper, Traces, Channel, Trail, Capacity, Compose, Cascade, Parallel, Choice, Leak, Attack, Reach, Make, Refine, Check, Covers, Quiet, Blame, Task, CommandRow, on_files, files_only, with_gain, make_row, refine_row, check_row, with_pair, commands, row_of, options_fit, default_turns, turns_of, row_task, task_of_values, task_of_arguments, observations_of, first_of, others_of, last_of, but_last}
+use Rattle.kf_words.specs.Task.{Command, Hyper, Traces, Channel, Trail, Capacity, Compose, Cascade, Parallel, Choice, Leak, Attack, Reach, Make, Refine, Check, Covers, Quiet, Blame, Task, CommandRow, on_files, files_only, with_gain, make_row, refine_row, check_row, with_pair, commands, row_of, options_fit, turns_of, row_task, task_of_values, observations_of, but_last}
 use Rattle.kf_words.proofs.Numerals.{both}
+use Rattle.kf_words.specs.OfWords.{first_of, others_of, last_of, default_turns, task_of_arguments}
 
 -- ---- what an option holds
 

@@ -3,7 +3,6 @@ use Rattle.std.specs.Prelude.{ℕ, List, [], ◌∷◌, Bool, false, Option, Non
 use Rattle.std.specs.Option.{option_map_or}
 use Rattle.std.specs.Str.{bytes_eq}
 use Rattle.clap.specs.Lexer.{usize_max}
-use Rattle.clap.specs.Kinds.{Kinds}
 use Rattle.clap.specs.Words.{App, Row, Rule, all_of, fault_of, first_of, matches_of, new_app, new_rule, with_rule}
 use Rattle.clap.specs.declared.builder.action.ArgAction.TheVariants.{SetTrue}
 
@@ -15,15 +14,11 @@ words_rule = record (new_rule (codes "words")) { range = Some (record { start_in
 abbrev pub option_rule : List ℕ → Rule
 option_rule name = record (new_rule name) { long = Some name }
 
--- a flag of this name
-abbrev pub flag_rule : List ℕ → Rule
-flag_rule name = record (option_rule name) { action = Some SetTrue }
-
 -- this program's command line: words, `--gain VALUE`, `--turns VALUE` and `--json`
 abbrev pub command_line : App
 command_line =
     with_rule (with_rule (with_rule (with_rule (new_app (codes "kuifje")) words_rule)
-    (option_rule (codes "gain"))) (option_rule (codes "turns"))) (flag_rule (codes "json"))
+    (option_rule (codes "gain"))) (option_rule (codes "turns"))) (record (option_rule (codes "json")) { action = Some SetTrue })
 
 -- the arguments: the values, which are neither options nor their values, and the options
 pub record Arguments : Type 0 where
@@ -32,24 +27,16 @@ pub record Arguments : Type 0 where
   pub turns : Option (List ℕ)
   pub json : Bool
 
--- a flag that was used reads as `true`
-abbrev pub is_set : List ℕ → List Row → Bool
-is_set flag rows = option_map_or (λ text. bytes_eq text (codes "true")) (first_of flag rows) false
-
--- the arguments, from what `clap` found for each of its rules
+-- the arguments, from what `clap` found for each of its rules; a flag that was used reads as `true`
 abbrev pub arguments_in : List Row → Arguments
 arguments_in rows = record {
   values = unwrap_or (all_of (codes "words") rows) [];
   gain = first_of (codes "gain") rows;
   turns = first_of (codes "turns") rows;
-  json = is_set (codes "json") rows;
+  json = option_map_or (λ text. bytes_eq text (codes "true")) (first_of (codes "json") rows) false;
 }
 
--- the arguments, where the words have no fault
-abbrev pub unless_faulty : Kinds → Arguments → Option Arguments
-unless_faulty [] arguments = Some arguments
-unless_faulty (_ ∷ _) arguments = None
-
--- the arguments of a list of words; the first of them, the program's name, isn't looked at
+-- the arguments of a list of words, where these have no fault; the first of them, the program's name, isn't looked at
 unfoldable pub arguments_of : List (List ℕ) → Option Arguments
-arguments_of words = unless_faulty (fault_of command_line words) (arguments_in (matches_of command_line words))
+arguments_of words =
+    elim (fault_of command_line words) [ [] ↦ Some (arguments_in (matches_of command_line words)) | fault ∷ faults ↦ None ]

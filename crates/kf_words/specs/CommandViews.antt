@@ -1,10 +1,13 @@
 -- For bodies: what the code's values show of the arguments and of the table of commands.
-use Rattle.std.specs.Prelude.{ℕ, List, [], map, Option, Some, option_map, option_and_then}
+use Rattle.std.specs.Prelude.{ℕ, List, [], map, Option, Some, option_map, option_and_then, Bool, false, codes, ◌∷◌, None}
+use Rattle.std.specs.Option.{option_map_or}
+use Rattle.std.specs.Str.{bytes_eq}
 use Rattle.kf_gain.specs.Gains.{GainOf}
 use Rattle.kf_words.specs.Arguments as spec
 use Rattle.kf_words.specs.GainWords.{gain_named}
 use Rattle.kf_words.specs.Numbers.{block_of, probability_of, threshold_of}
 use Rattle.kf_words.specs.Task as task
+use Rattle.kf_words.specs.OfWords as of_words
 use Rattle.kf_words.specs.declared.arguments.Arguments.{Arguments}
 use Rattle.kf_words.specs.declared.commands.CommandWord.{CommandWord}
 use Rattle.kf_words.specs.declared.commands.CommandWord.TheVariants as word
@@ -17,6 +20,10 @@ use Rattle.kf_words.specs.declared.commands.UnderGain.{UnderGain}
 use Rattle.kf_words.specs.declared.commands.UnderGain.TheVariants as under
 use Rattle.kf_words.specs.declared.commands.WithPair.{WithPair}
 use Rattle.kf_words.specs.declared.commands.WithPair.TheVariants as pair
+use Rattle.kf_words.specs.Arguments.{option_rule}
+use Rattle.clap.specs.Words.{Row, first_of, Rule}
+use Rattle.clap.specs.declared.builder.action.ArgAction.TheVariants.{SetTrue}
+use Rattle.clap.specs.Kinds.{Kinds}
 
 abbrev pub arguments_shown : Arguments → spec.Arguments
 arguments_shown a = record {
@@ -60,11 +67,11 @@ on_gain under.Attack g = task.Attack g
 -- commands whose last value is a pair of numbers
 abbrev pub pair_task : WithPair → List (List ℕ) → Option (ℕ → task.Task)
 pair_task pair.Choice words =
-    option_map (λ p. task.on_files (task.Compose (task.Choice p.0 p.1)) (task.but_last words)) (option_and_then probability_of (task.last_of words))
+    option_map (λ p. task.on_files (task.Compose (task.Choice p.0 p.1)) (task.but_last words)) (option_and_then probability_of (of_words.last_of words))
 pair_task pair.Reach words =
-    option_map (λ p. task.on_files (task.Reach p.0 p.1) (task.but_last words)) (option_and_then threshold_of (task.last_of words))
+    option_map (λ p. task.on_files (task.Reach p.0 p.1) (task.but_last words)) (option_and_then threshold_of (of_words.last_of words))
 pair_task pair.Quiet words =
-    option_map (λ p. task.on_files (task.Quiet p.0 p.1) (task.but_last words)) (option_and_then block_of (task.last_of words))
+    option_map (λ p. task.on_files (task.Quiet p.0 p.1) (task.but_last words)) (option_and_then block_of (of_words.last_of words))
 
 -- which task a command's word asks for, by the values after it and the options
 abbrev pub task_shown : CommandWord → List (List ℕ) → spec.Arguments → Option (ℕ → task.Task)
@@ -74,10 +81,10 @@ task_shown (word.UnderGain command) names arguments =
     option_map (λ g. task.on_files (on_gain command g) names) (option_and_then gain_named arguments.gain)
 task_shown (word.WithPair command) words arguments = pair_task command words
 task_shown word.Make words arguments =
-    option_map (λ n. task.on_files (task.Make n) []) (option_and_then task.observations_of (task.first_of words))
+    option_map (λ n. task.on_files (task.Make n) []) (option_and_then task.observations_of (of_words.first_of words))
 task_shown word.Refine names arguments = Some (task.on_files (task.Refine arguments.json) names)
 task_shown word.Check names arguments =
-    option_map (λ cert. task.on_files (task.Check cert) (task.others_of names)) (task.first_of names)
+    option_map (λ cert. task.on_files (task.Check cert) (of_words.others_of names)) (of_words.first_of names)
 
 abbrev pub row_shown : CommandRow → task.CommandRow
 row_shown row = record {
@@ -86,3 +93,15 @@ row_shown row = record {
   takes_json = row.takes_json;
   task = task_shown row.command;
 }
+
+-- a flag that was used reads as `true`
+abbrev pub is_set : List ℕ → List Row → Bool
+is_set flag rows = option_map_or (λ text. bytes_eq text (codes "true")) (first_of flag rows) false
+
+-- a flag of this name
+abbrev pub flag_rule : List ℕ → Rule
+flag_rule name = record (option_rule name) { action = Some SetTrue }
+
+-- the arguments, where the words have no fault
+abbrev pub unless_faulty : Kinds → spec.Arguments → Option spec.Arguments
+unless_faulty faults arguments = elim faults [ [] ↦ Some arguments | fault ∷ others ↦ None ]

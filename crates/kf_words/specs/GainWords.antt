@@ -7,19 +7,11 @@ use Rattle.std.specs.declared.option.Option.{Option}
 use Rattle.kf_gain.specs.Gains.{GainOf, Bayes, Tries, Guessing, Table}
 use Rattle.kf_words.specs.Numbers.{number_of}
 
--- a number of tries, 1 to 65,535
-abbrev pub tries_of : List ℕ → Option (GainOf (List ℕ))
-tries_of number = option_map Tries (number_of number)
-
--- the table in a file, whose name isn't empty
-abbrev pub table_of : List ℕ → Option (GainOf (List ℕ))
-table_of [] = None
-table_of (b ∷ name) = Some (Table (b ∷ name))
-
--- the gain that a word names
+-- the gain that a word names; a number of tries is 1 to 65,535, and the name of a table's file isn't empty
 abbrev pub gain_named : List ℕ → Option (GainOf (List ℕ))
 gain_named word =
     if bytes_eq word (codes "bayes") then Some Bayes
     else (if bytes_eq word (codes "guessing") then Some Guessing
-    else (if starts_with nat_eq word (codes "tries:") then tries_of (drop 6 word)
-    else (if starts_with nat_eq word (codes "table:") then table_of (drop 6 word) else None)))
+    else (if starts_with nat_eq word (codes "tries:") then option_map Tries (number_of (drop 6 word))
+    else (if starts_with nat_eq word (codes "table:")
+    then elim (drop 6 word) [ [] ↦ None | b ∷ name ↦ Some (Table (b ∷ name)) ] else None)))

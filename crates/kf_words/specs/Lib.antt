@@ -4,6 +4,7 @@ pub mod Arguments
 pub mod Numbers
 pub mod GainWords
 -- For bodies
-pub mod Jobs
 pub mod CommandViews
+pub mod Jobs
 pub mod Laws
+pub mod OfWords

@@ -1,7 +1,9 @@
 -- Believed: what a list of words asks for, by the table of commands.
-use Rattle.std.specs.Prelude.{ℕ, List, [], ◌∷◌, ◌++◌, Bool, true, false, not, ◌&&◌, ◌||◌, ◌==◌, Option, None, Some, is_some, codes, length, find}
+use Rattle.std.specs.Prelude.{ℕ, List, [], ◌∷◌, Bool, true, false, not, ◌&&◌, ◌||◌, ◌==◌, Option, None, Some, is_some, codes, length, find, slice_get, drop}
 use Rattle.std.specs.Prelude.{if◌then◌else◌, option_map, option_and_then, nat_le}
 use Rattle.std.specs.Str.{bytes_eq}
+use Rattle.std.specs.List.{last_or}
+use Rattle.std.specs.Option.{option_map_or}
 use Rattle.kf_gain.specs.Gains.{GainOf, Table}
 use Rattle.kf_words.specs.Arguments.{Arguments, arguments_of}
 use Rattle.kf_words.specs.GainWords.{gain_named}
@@ -56,20 +58,12 @@ pub record Task : Type 0 where
 abbrev pub on_files : Command → List (List ℕ) → ℕ → Task
 on_files command files turns = record { command = command; files = files; turns = turns }
 
--- a command on one file
-abbrev pub on_file : Command → List ℕ → ℕ → Task
-on_file command file turns = on_files command (file ∷ []) turns
-
 -- the files that a command reads beside its programs
 abbrev pub tables_of : Command → List (List ℕ)
 tables_of (Leak (Table name)) = name ∷ []
 tables_of (Attack (Table name)) = name ∷ []
 tables_of (Check name) = name ∷ []
 tables_of command = []
-
--- all files that a task names
-abbrev pub named : Task → List (List ℕ)
-named task = task.files ++ tables_of task.command
 
 -- ---- the table of commands
 
@@ -81,70 +75,36 @@ pub record CommandRow : Type 0 where
   pub takes_json : Bool
   pub task : List (List ℕ) → Arguments → Option (ℕ → Task)
 
+-- the row of a command with so many values, without options, and with this task
+abbrev pub plain_row : ℕ → (List (List ℕ) → Arguments → Option (ℕ → Task)) → CommandRow
+plain_row values task = record { values = values; needs_gain = false; takes_json = false; task = task }
+
 -- the row of a command on `files` files and nothing else
 abbrev pub files_only : Command → ℕ → CommandRow
-files_only command files = record {
-  values = files;
-  needs_gain = false;
-  takes_json = false;
-  task = λ names arguments. Some (on_files command names);
-}
+files_only command files = plain_row files (λ names arguments. Some (on_files command names))
 
--- the row of a command on `files` files, under the gain that `--gain` names
+-- the row of a command on n files, under the gain that `--gain` names
 abbrev pub with_gain : (GainOf (List ℕ) → Command) → ℕ → CommandRow
-with_gain command files = record {
-  values = files;
-  needs_gain = true;
-  takes_json = false;
-  task = λ names arguments. option_map (λ g. on_files (command g) names) (option_and_then gain_named arguments.gain);
-}
+with_gain command n =
+    record (plain_row n (λ names a. option_map (λ g. on_files (command g) names) (option_and_then gain_named a.gain))) { needs_gain = true }
 
 -- a number of observations, from 1 to 60
 abbrev pub observations_of : List ℕ → Option ℕ
 observations_of word = option_and_then (λ n. if nat_le n 60 then Some n else None) (number_of word)
 
-abbrev pub first_of : List (List ℕ) → Option (List ℕ)
-first_of [] = None
-first_of (word ∷ words) = Some word
-
 -- the row of `make`, which has one value, a number, and reads no file
 abbrev pub make_row : CommandRow
-make_row = record {
-  values = 1;
-  needs_gain = false;
-  takes_json = false;
-  task = λ words arguments. option_map (λ n. on_files (Make n) []) (option_and_then observations_of (first_of words));
-}
+make_row = plain_row 1 (λ words arguments. option_map (λ n. on_files (Make n) []) (option_and_then observations_of (slice_get words 0)))
 
 -- the row of `refine`, which takes `--json`
 abbrev pub refine_row : CommandRow
-refine_row = record {
-  values = 2;
-  needs_gain = false;
-  takes_json = true;
-  task = λ names arguments. Some (on_files (Refine arguments.json) names);
-}
-
--- all words but the first
-abbrev pub others_of : List (List ℕ) → List (List ℕ)
-others_of [] = []
-others_of (word ∷ words) = words
+refine_row = record (plain_row 2 (λ names arguments. Some (on_files (Refine arguments.json) names))) { takes_json = true }
 
 -- the row of `check`, whose first file is the certificate
 abbrev pub check_row : CommandRow
-check_row = record {
-  values = 3;
-  needs_gain = false;
-  takes_json = false;
-  task = λ names arguments. option_map (λ cert. on_files (Check cert) (others_of names)) (first_of names);
-}
+check_row = plain_row 3 (λ names arguments. option_map (λ cert. on_files (Check cert) (drop 1 names)) (slice_get names 0))
 
--- the last word, and all words but that
-abbrev pub last_of : List (List ℕ) → Option (List ℕ)
-last_of [] = None
-last_of (word ∷ []) = Some word
-last_of (word ∷ next ∷ words) = last_of (next ∷ words)
-
+-- all words but the last
 abbrev pub but_last : List (List ℕ) → List (List ℕ)
 but_last [] = []
 but_last (word ∷ []) = []
@@ -152,12 +112,8 @@ but_last (word ∷ next ∷ words) = word ∷ but_last (next ∷ words)
 
 -- the row of a command on `values` values, of which the last is a pair of numbers and the others are files
 abbrev pub with_pair : (List ℕ → Option (ℕ × ℕ)) → (ℕ → ℕ → Command) → ℕ → CommandRow
-with_pair pair command values = record {
-  values = values;
-  needs_gain = false;
-  takes_json = false;
-  task = λ words arguments. option_map (λ p. on_files (command p.0 p.1) (but_last words)) (option_and_then pair (last_of words));
-}
+with_pair pair command values = plain_row values (λ words arguments.
+    option_map (λ p. on_files (command p.0 p.1) (but_last words)) (option_and_then pair (last_or None words)))
 
 -- the table of commands, by their words
 abbrev pub commands : List (List ℕ × CommandRow)
@@ -181,14 +137,9 @@ options_fit row arguments =
 
 -- ---- the task of the words
 
--- how often a loop may turn where no word says it
-abbrev pub default_turns : ℕ
-default_turns = 1024
-
--- how often a loop may turn, as `--turns` says it where it stands
+-- how often a loop may turn, as `--turns` says it where it stands, and else 1,024 times
 abbrev pub turns_of : Option (List ℕ) → Option ℕ
-turns_of None = Some default_turns
-turns_of (Some word) = number_of word
+turns_of word = option_map_or number_of word (Some 1024)
 
 -- the task of a row and the values after the command's word, where their number and the options are the row's
 abbrev pub row_task : List (List ℕ) → Arguments → CommandRow → Option Task
@@ -201,18 +152,6 @@ abbrev pub task_of_values : List (List ℕ) → Arguments → Option Task
 task_of_values [] arguments = None
 task_of_values (word ∷ values) arguments = option_and_then (row_task values arguments) (row_of word)
 
--- the task of parsed arguments
-abbrev pub task_of_arguments : Arguments → Option Task
-task_of_arguments arguments = task_of_values arguments.values arguments
-
 -- the task of a list of words
 abbrev pub task_of : List (List ℕ) → Option Task
-task_of words = option_and_then task_of_arguments (arguments_of words)
-
-abbrev pub files_of_some : Option Task → List (List ℕ)
-files_of_some None = []
-files_of_some (Some task) = named task
-
--- the files that the words name
-abbrev pub files_of : List (List ℕ) → List (List ℕ)
-files_of words = files_of_some (task_of words)
+task_of words = option_and_then (λ (arguments : Arguments). task_of_values arguments.values arguments) (arguments_of words)

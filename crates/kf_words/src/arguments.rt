@@ -1,8 +1,8 @@
 //! The arguments of a command line, parsed by `clap`.
 ghost use Rattle.std.specs.Prelude.{◌≡◌, IfOk, IsErrOf, None, Some, codes, map, string_bytes, unwrap_or, []};
 ghost use Rattle.clap.specs.Words.{all_of, app_of, found_of, rows_of};
-ghost use Rattle.kf_words.specs.Arguments.{command_line as line_of_commands, is_set as is_set_in, arguments_of as arguments_of_words, arguments_in};
-ghost use Rattle.kf_words.specs.CommandViews.{arguments_shown};
+ghost use Rattle.kf_words.specs.Arguments.{command_line as line_of_commands, arguments_of as arguments_of_words, arguments_in};
+ghost use Rattle.kf_words.specs.CommandViews.{arguments_shown, is_set as is_set_in};
 
 use crate::error::WordsError;
 use clap::error::ErrorKind;

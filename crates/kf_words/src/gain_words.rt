@@ -1,7 +1,8 @@
 //! How words name a gain.
 ghost use Rattle.std.specs.Prelude.{◌≡◌, IfOk, option_map};
-ghost use Rattle.kf_words.specs.GainWords.{gain_named, table_of, tries_of};
+ghost use Rattle.kf_words.specs.GainWords.{gain_named};
 ghost use Rattle.kf_words.specs.Jobs.{gain_of};
+ghost use Rattle.kf_words.specs.OfWords.{tries_of, table_of};
 
 use crate::numbers::parse_number;
 use kf_value::{Mem, Name};

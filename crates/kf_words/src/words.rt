@@ -1,7 +1,8 @@
 ghost use Rattle.std.specs.Prelude.{◌≡◌, ◌≤◌, IfOk, IfSome, IsErrOf, None, Some, map, option_map, string_bytes};
 ghost use Rattle.kf_words.specs.CommandViews.{arguments_shown};
 ghost use Rattle.kf_words.specs.Jobs.{task_of_job, HasTurns, IsInRange};
-ghost use Rattle.kf_words.specs.Task.{task_of, task_of_arguments, turns_of};
+ghost use Rattle.kf_words.specs.Task.{task_of, turns_of};
+ghost use Rattle.kf_words.specs.OfWords.{task_of_arguments};
 
 use crate::arguments::{Arguments, arguments_of, matches_of};
 use crate::commands::{options_fit, row_of};

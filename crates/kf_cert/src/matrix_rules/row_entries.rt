@@ -1,9 +1,10 @@
 //! The entries of a matrix that stands row by row.
 
 ghost use Rattle.std.specs.Prelude.{◌≡◌, ◌++◌, map, IfOk, OnOk};
-ghost use Rattle.kf_cert.specs.CertTexts.{row_entries, rows_entries};
+ghost use Rattle.kf_cert.specs.CertTexts.{row_entries};
 ghost use Rattle.kf_cert.specs.Rows.{row_tree, rows_tree};
 ghost use Rattle.kf_cert.specs.Views.{entry_tree};
+ghost use Rattle.kf_cert.specs.Order.{rows_entries};
 
 use crate::NamedEntry;
 use crate::writer::is_zero;

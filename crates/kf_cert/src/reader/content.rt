@@ -6,11 +6,13 @@ ghost use Rattle.serde_json.specs.View.{view};
 ghost use Rattle.kf_json.specs.Json.{members as member_list, text_of};
 ghost use Rattle.kf_json.specs.Seen.{seen};
 ghost use Rattle.kf_refine.specs.Views.{fraction_of, matrix_tree};
-ghost use Rattle.kf_cert.specs.Certificates.{actions_at, entries_at, gains_at, matrix_at, row_said, entry_said, named_said, action_said, table_said, yes_said, cert_said};
+ghost use Rattle.kf_cert.specs.Certificates.{row_said, entry_said, named_said, action_said, table_said, yes_said, cert_said};
 ghost use Rattle.kf_cert.specs.Numbers as number;
 ghost use Rattle.kf_cert.specs.Reading.{gain_said, reads_fraction, reads_row, reads_matrix, reads_whole, reads_entry, reads_named, reads_yes, reads_gain, reads_action, reads_table, reads_cert};
 ghost use Rattle.kf_cert.specs.Views.{cert_tree, entry_tree, named_table, named_tree};
 ghost use Rattle.kf_cert.specs.declared.cert.CertError.TheVariants as broken;
+ghost use Rattle.kf_cert.specs.Forms.{matrix_at, entries_at};
+ghost use Rattle.kf_gain.specs.Tables.{actions_at, gains_at};
 
 use crate::forms::{has_entry_keys, says_yes};
 use crate::numerals::{fraction_said, whole_said};

@@ -6,6 +6,7 @@ ghost use Rattle.serde_json.specs.View.{view};
 ghost use Rattle.kf_json.specs.Json.{members as member_list, at_place, whole_of};
 ghost use Rattle.kf_json.specs.Rules.{is_name as is_a_name, first_broken};
 ghost use Rattle.kf_gain.specs.Tables as rule;
+ghost use Rattle.kf_gain.specs.Forms as single;
 ghost use Rattle.kf_json.specs.Seen.{seen};
 
 use crate::TableError;
@@ -14,7 +15,7 @@ use serde_json::Value;
 
 /// Whether `over` and `rest` are whole numbers, and `over` is at least 1.
 fn has_numbers(value: &Value) -> bool
-    ensures { result ≡ rule.form_3 (view value.now) }
+    ensures { result ≡ single.form_3 (view value.now) }
 {
     match whole(value.get("over")) {
         Some(over) => whole(value.get("rest")).is_some() && 1 <= over,
@@ -31,7 +32,7 @@ fn is_action(value: &Value) -> bool
 
 /// Whether the actions are a list of objects with the keys of one.
 fn has_actions(value: &Value) -> bool
-    ensures { result ≡ rule.form_4 (view value.now) }
+    ensures { result ≡ single.form_4 (view value.now) }
 {
     let found = value.get("actions");
     is_list(found) && members(found).iter().all(is_action)
@@ -46,7 +47,7 @@ fn is_named(action: &Value) -> bool
 
 /// Whether all actions have names.
 fn has_names(value: &Value) -> bool
-    ensures { result ≡ rule.form_5 (view value.now) }
+    ensures { result ≡ single.form_5 (view value.now) }
 {
     members(value.get("actions")).iter().all(is_named)
 }
@@ -63,7 +64,7 @@ fn is_gain(value: &Value) -> bool
 
 /// Whether the action's gains are a list of such.
 fn is_gaining(action: &Value) -> bool
-    ensures { result ≡ rule.are_gains (rule.gains_at (view action.now)) }
+    ensures { result ≡ single.are_gains (rule.gains_at (view action.now)) }
 {
     let found = action.get("gains");
     is_list(found) && members(found).iter().all(is_gain)
@@ -71,7 +72,7 @@ fn is_gaining(action: &Value) -> bool
 
 /// Whether all actions have gains.
 fn has_gains(value: &Value) -> bool
-    ensures { result ≡ rule.form_6 (view value.now) }
+    ensures { result ≡ single.form_6 (view value.now) }
 {
     members(value.get("actions")).iter().all(is_gaining)
 }

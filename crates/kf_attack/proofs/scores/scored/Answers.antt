@@ -11,8 +11,7 @@ use Rattle.kf_gain.specs.Gains.{TableTree}
 use Rattle.kf_gain.specs.Worth.{gained}
 use Rattle.kf_gain.specs.Views.{table_tree}
 use Rattle.kf_attack.specs.declared.attack.Score.{Score}
-use Rattle.kf_attack.specs.Attacks.{scored}
-use Rattle.kf_attack.specs.Views.{ShowsScore, places}
+use Rattle.kf_attack.specs.Views.{ShowsScore, places, scored}
 use Rattle.kf_attack.proofs.Scoring.{whole_positive, gained_fits, places_next, score_next, still_reached, still_best, scores_shown}
 use Rattle.kf_attack.proofs.scores.scored.Goals as goal
 

@@ -4,8 +4,7 @@ use Rattle.std.specs.List.{AllZip, range_with_len}
 use Rattle.kf_gain.specs.declared.table.Action.{Action}
 use Rattle.kf_gain.specs.Worth.{gained}
 use Rattle.kf_gain.specs.Views.{table_tree}
-use Rattle.kf_attack.specs.Attacks.{scored}
-use Rattle.kf_attack.specs.Views.{ShowsScore, places}
+use Rattle.kf_attack.specs.Views.{ShowsScore, places, scored}
 use Rattle.kf_attack.proofs.scores.scored.Given as goal
 
 abbrev pub invariant-loop-action : goal.invariant-loop-action

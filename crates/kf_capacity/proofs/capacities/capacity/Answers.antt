@@ -5,9 +5,10 @@ use Rattle.std.proofs.lemmas.Int.{ints}
 use Rattle.kf_frac.specs.Fractions.{limit, reduced_num, reduced_den}
 use Rattle.kf_frac.specs.Parts.{PartsFit}
 use Rattle.kf_frac.proofs.Scaling.{reduced_fit}
-use Rattle.kf_capacity.specs.Grids.{greatest, capacity_of}
+use Rattle.kf_capacity.specs.Grids.{capacity_of}
 use Rattle.kf_capacity.specs.Views.{grid_tree}
 use Rattle.kf_capacity.proofs.capacities.capacity.Goals as goal
+use Rattle.kf_capacity.specs.Vulnerabilities.{greatest}
 
 not_both : {T E : Type 0} (r : Result T E) → IsOk r → IsErr r → ⊥
 not_both (Ok x) ok err = true≢false (sym err)

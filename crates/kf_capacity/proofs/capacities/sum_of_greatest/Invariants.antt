@@ -1,7 +1,7 @@
 use Rattle.std.proofs.Common.{◌≡◌, ◌+◌, ◌≤◌, drop, sum_by}
 use Rattle.kf_frac.specs.Fractions.{limit}
-use Rattle.kf_capacity.specs.Grids.{greatest}
 use Rattle.kf_capacity.proofs.capacities.sum_of_greatest.Given as goal
+use Rattle.kf_capacity.specs.Vulnerabilities.{greatest}
 
 abbrev pub invariant-loop-column : goal.invariant-loop-column
 invariant-loop-column l = record {

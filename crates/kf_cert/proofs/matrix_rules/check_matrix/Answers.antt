@@ -3,7 +3,6 @@ use Rattle.std.proofs.lemmas.Result.{err_from_is_err_and}
 use Rattle.kf_refine.specs.Refinements.{count, IsShaped}
 use Rattle.kf_refine.specs.Views.{hyper_tree, matrix_tree}
 use Rattle.kf_cert.specs.Certificates.{EntryTree, matrix_of}
-use Rattle.kf_cert.specs.CertTexts.{rows_entries}
 use Rattle.kf_cert.specs.Marks.{MarkedByRules}
 use Rattle.kf_cert.specs.Rows.{matrix_between, rows_tree}
 use Rattle.kf_cert.specs.Views.{entry_tree}
@@ -11,6 +10,7 @@ use Rattle.kf_cert.specs.declared.mark.CheckError.TheVariants as error
 use Rattle.kf_cert.proofs.NamedRows.{rows_lowest}
 use Rattle.kf_cert.proofs.Rejecting.{rows_ordered, rows_marked}
 use Rattle.kf_cert.proofs.matrix_rules.check_matrix.Goals as goal
+use Rattle.kf_cert.specs.Order.{rows_entries}
 
 pub check_entries-requires : goal.check_entries-requires
 check_entries-requires c =

@@ -1,8 +1,9 @@
 use Rattle.std.proofs.Common.{◌≡◌, ◌++◌, map, drop}
 use Rattle.serde_json.specs.View.{view}
-use Rattle.kf_cert.specs.CertTexts.{entry_data, rows_entries}
+use Rattle.kf_cert.specs.CertTexts.{entry_data}
 use Rattle.kf_cert.specs.Rows.{rows_tree}
 use Rattle.kf_cert.proofs.writer.entry_values.Given as goal
+use Rattle.kf_cert.specs.Order.{rows_entries}
 
 abbrev pub invariant-loop-i : goal.invariant-loop-i
 invariant-loop-i l =

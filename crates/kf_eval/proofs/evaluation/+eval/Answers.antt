@@ -6,13 +6,14 @@ use Rattle.kf_value.proofs.ListLemmas.{left_step, left_end}
 use Rattle.kf_value.specs.Shapes.{shape_types}
 use Rattle.kf_core.specs.Runs.{store_at}
 use Rattle.kf_core.specs.Views.{ex_tree}
-use Rattle.kf_core.specs.Exs.{exs}
 use Rattle.kf_core.specs.declared.ex.Ex.{the_lemmas}
-use Rattle.kf_core.specs.Evaluation.{Evaluated, evs}
+use Rattle.kf_core.specs.Evaluation.{Evaluated, ev, evs}
+use Rattle.kf_core.specs.Exs.{ExTree}
+use Rattle.kf_core.specs.Each.{exs}
 use Rattle.kf_ops.specs.declared.row.Op.TheVariants as op
 use Rattle.kf_eval.specs.Answers.{Answers}
 use Rattle.kf_eval.specs.Kinds.{shape_kinds}
-use Rattle.kf_eval.proofs.Checking.{calls_row, needed, row_within, each_kinded, parts_kinded, members_kinded, fits_row, has_part, store_kinds, slot_within, slot_value, or_first, and_first, cond_second, needs_all, row_stops, row_answers, nth_kinded, first_stops, one_value, second_stops, two_values, values_start, values_step, values_fault, values_end}
+use Rattle.kf_eval.proofs.Checking.{apply_tree, calls_row, needed, row_within, each_kinded, parts_kinded, members_kinded, fits_row, has_part, store_kinds, slot_within, slot_value, or_first, and_first, cond_second, needs_all, row_stops, row_answers, nth_kinded, first_stops, one_value, second_stops, two_values, values_start, values_step, values_fault, values_end}
 use Rattle.kf_eval.proofs.evaluation.+eval.Goals as goal
 
 pub or-returns-then-is_true : goal.or-returns-then-is_true
@@ -231,3 +232,9 @@ pub values_of-returns : goal.values_of-returns
 values_of-returns t c =
     let used = left_end ex_tree c.args.exs.now c.loop-ex.ex-index (omega arith) in
     values_end (shape_kinds c.args.shape.now) (store_at (shape_types c.args.shape.now) c.args.store) (map ex_tree c.args.exs.now) c.loop-ex.values.items (rw used at c.loop-ex.invariant)
+
+pub value_of-returns-in-Apply : goal.value_of-returns-in-Apply
+value_of-returns-in-Apply t c =
+    let same =
+    apply_tree c.args.e.now c.in-Apply.row c.from-in-Apply.result c.in-Apply.args c.as_slice.result.now c.in-Apply.is c.from-in-Apply.ensures c.as_slice.ensures in
+    subst (λ (e : ExTree). Answers c.operation.result (ev (store_at (shape_types c.args.shape.now) c.args.store) e)) same c.operation.ensures

@@ -1,10 +1,11 @@
 use Rattle.std.proofs.Common.{◌≡◌, ◌≤◌, sym, ap, subst, Ok}
 use Rattle.kf_value.specs.Shapes.{shape_types}
 use Rattle.kf_core.specs.Views.{dx_tree}
-use Rattle.kf_core.specs.Runs.{store_at, placed_at, tried}
+use Rattle.kf_core.specs.Runs.{store_at, tried}
 use Rattle.kf_core.proofs.Scales.{weighty}
 use Rattle.kf_core.proofs.Solid.{dist_filled}
 use Rattle.kf_core.proofs.Stores.{store_is}
+use Rattle.kf_core.specs.Each.{placed_at}
 use Rattle.kf_eval.specs.Choices.{weighted_trees}
 use Rattle.kf_eval.proofs.Chosen.{total_some, all_weigh}
 use Rattle.kf_eval.proofs.memo.chosen_in.Goals as goal

@@ -2,14 +2,15 @@ use Rattle.std.proofs.Common.{◌+◌, ◌<◌, ◌&&◌, ◌||◌, rules, lengt
 use Rattle.std.proofs.lemmas.List.{length-map}
 use Rattle.kf_value.proofs.ListLemmas.{left_step, left_end}
 use Rattle.kf_value.specs.Shapes.{shape_types}
-use Rattle.kf_core.specs.Evaluation.{Evaluated}
+use Rattle.kf_core.specs.Evaluation.{Evaluated, ev}
+use Rattle.kf_core.specs.Exs.{ExTree}
 use Rattle.kf_core.specs.Runs.{store_at}
 use Rattle.kf_core.specs.Views.{ex_tree}
 use Rattle.kf_core.specs.declared.ex.Ex.{the_lemmas}
 use Rattle.kf_ops.specs.declared.row.Op.TheVariants as op
 use Rattle.kf_eval.specs.Kinds.{shape_kinds}
 use Rattle.kf_eval.specs.Scalars.{Tells, scalar_tree}
-use Rattle.kf_eval.proofs.Checking.{and_first, calls_row, cond_second, each_kinded, needed, nth_kinded, or_first, row_within, slot_within}
+use Rattle.kf_eval.proofs.Checking.{and_first, apply_tree, calls_row, cond_second, each_kinded, needed, nth_kinded, or_first, row_within, slot_within}
 use Rattle.kf_eval.proofs.Comparing.{pairs_end, pairs_start, pairs_step, tuples_compare, written_kinded}
 use Rattle.kf_eval.proofs.Finding.{listed_kinded, members_end, members_start, members_step, set_tells}
 use Rattle.kf_eval.proofs.Variables.{slot_tells}
@@ -178,3 +179,9 @@ is_listed-returns t c =
 pub scalar_of-returns-in-Slot : goal.scalar_of-returns-in-Slot
 scalar_of-returns-in-Slot t c =
     slot_tells (store_at (shape_types c.args.shape.now) c.args.store) c.args.e.now c.in-Slot.i c.from.result c.scalar_in_slot.result c.in-Slot.is c.from.ensures c.scalar_in_slot.ensures
+
+pub scalar_of-returns-in-Apply : goal.scalar_of-returns-in-Apply
+scalar_of-returns-in-Apply t c =
+    let same =
+    apply_tree c.args.e.now c.in-Apply.row c.from-in-Apply.result c.in-Apply.args c.as_slice.result.now c.in-Apply.is c.from-in-Apply.ensures c.as_slice.ensures in
+    subst (λ (e : ExTree). Tells c.operation.result (ev (store_at (shape_types c.args.shape.now) c.args.store) e)) same c.operation.ensures

@@ -1,6 +1,6 @@
 use Rattle.std.proofs.Common.{◌≡◌, map, drop}
-use Rattle.kf_core.specs.Exs.{exs}
 use Rattle.kf_core.specs.Views.{ex_tree}
+use Rattle.kf_core.specs.Each.{exs}
 use Rattle.kf_eval.specs.Totals.{have_values}
 use Rattle.kf_eval.proofs.sureness.+has_value.Given as goal
 

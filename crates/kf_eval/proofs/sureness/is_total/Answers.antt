@@ -2,8 +2,8 @@ use Rattle.std.proofs.Common.{map, length, slice_get, Some, None, refl, ◌∙�
 use Rattle.std.proofs.lemmas.Option.{slice_get_read, slice_get_past}
 use Rattle.kf_ops.specs.Rows.{operators}
 use Rattle.kf_ops.specs.Views.{row_of}
-use Rattle.kf_core.specs.Exs.{exs}
 use Rattle.kf_core.specs.Views.{ex_tree}
+use Rattle.kf_core.specs.Each.{exs}
 use Rattle.kf_eval.proofs.TotalRows.{row_found, no_row, wide_row, plain_row, divided_row}
 use Rattle.kf_eval.proofs.sureness.is_total.Goals as goal
 

@@ -1,7 +1,7 @@
 use Rattle.std.proofs.Common.{◌∙◌}
-use Rattle.kf_frac.specs.Views.{value_of}
 use Rattle.kf_frac.proofs.Signs.{rising, falling}
 use Rattle.kf_frac.proofs.arithmetic.cmp.Goals as goal
+use Rattle.kf_frac.specs.Parts.{value_of}
 
 pub returns-in-true-true : goal.returns-in-true-true
 returns-in-true-true c =

@@ -1,9 +1,9 @@
 use Rattle.std.proofs.Common.{FitsSigned, rules, ◌∙◌}
 use Rattle.std.proofs.lemmas.Int.{to_z-of_z}
 use mir.Syntax.{w128}
-use Rattle.kf_frac.specs.Views.{value_of}
 use Rattle.kf_frac.proofs.Scaling.{signed_product}
 use Rattle.kf_frac.proofs.arithmetic.times.Goals as goal
+use Rattle.kf_frac.specs.Parts.{value_of}
 
 pub returns-clause-value : goal.returns-clause-value
 returns-clause-value c =

@@ -5,10 +5,11 @@ use Rattle.serde_json.specs.View.{view}
 use Rattle.kf_value.specs.Views.{items_of}
 use Rattle.kf_json.specs.Json.{whole_of}
 use Rattle.kf_json.specs.Rules.{first_broken}
-use Rattle.kf_gain.specs.Tables.{IsTableOf, form_rules, all_once}
+use Rattle.kf_gain.specs.Tables.{IsTableOf, form_rules}
 use Rattle.kf_gain.proofs.Judging.{table_shaped, table_told, fault_none}
 use Rattle.kf_json.proofs.Viewing.{seen_at}
 use Rattle.kf_gain.proofs.reader.table_in.Goals as goal
+use Rattle.kf_gain.specs.Forms.{all_once}
 
 pub table-requires : goal.table-requires
 table-requires c =

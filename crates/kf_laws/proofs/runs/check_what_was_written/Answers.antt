@@ -1,7 +1,7 @@
 use Rattle.std.proofs.Common.{[], ◌∷◌, ◌++◌, codes}
-use Rattle.kf_top.specs.Answer.{wide_cert}
 use Rattle.kf_laws.proofs.Accepted.{accepted_or_refused}
 use Rattle.kf_laws.proofs.runs.check_what_was_written.Goals as goal
+use Rattle.kf_top.specs.Steps.{wide_cert}
 
 pub returns : goal.returns
 returns g c w room had =

@@ -1,7 +1,7 @@
 use Rattle.std.proofs.Common.{◌≡◌, drop}
 use Rattle.kf_lex.specs.declared.words.TheConstants.{OPERATOR_WORDS}
-use Rattle.kf_lex.specs.Words.{word_in}
 use Rattle.kf_lex.proofs.words.word_of.Given as goal
+use Rattle.kf_lex.specs.Operators.{word_in}
 
 -- the operator is sought among those that are left
 abbrev pub invariant-loop-pair : goal.invariant-loop-pair

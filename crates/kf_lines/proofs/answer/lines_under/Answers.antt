@@ -9,13 +9,13 @@ use Rattle.kf_gain.specs.Gains.{over_of}
 use Rattle.kf_gain.specs.Views.{gain_tree}
 use Rattle.kf_hyper.specs.Views.{inners_of}
 use Rattle.kf_lines.specs.Sites.{block_sites, program_sites}
-use Rattle.kf_lines.specs.Summaries.{SummaryTree}
 use Rattle.kf_lines.specs.Views.{AreLinesIn}
 use Rattle.kf_load.specs.Views.{program_in}
 use Rattle.kf_support.specs.Cleared.{turns_of, whole_scale}
 use Rattle.kf_lines.proofs.Answering.{lines_print}
 use Rattle.kf_lines.proofs.EachLine.{trees_of}
 use Rattle.kf_lines.proofs.answer.lines_under.Goals as goal
+use Rattle.kf_quiet.specs.Summaries.{SummaryTree}
 
 pub lines_of-requires : goal.lines_of-requires
 lines_of-requires c =

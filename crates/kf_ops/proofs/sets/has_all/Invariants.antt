@@ -2,8 +2,8 @@ use Rattle.std.proofs.Common.{◌≡◌, ◌+◌, length, map}
 use Rattle.std.specs.List.Sorted.{IsStrictlySortedBy}
 use Rattle.kf_value.specs.Values.{order}
 use Rattle.kf_value.specs.Views.{value_tree}
-use Rattle.kf_ops.specs.Values.{without}
 use Rattle.kf_ops.proofs.sets.has_all.Given as goal
+use Rattle.kf_ops.specs.Sets.{without}
 
 abbrev pub decreases-loop-next : goal.decreases-loop-next
 decreases-loop-next l = length l.wanted + length l.there

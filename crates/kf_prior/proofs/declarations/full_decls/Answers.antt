@@ -3,9 +3,9 @@ use Rattle.kf_value.specs.Shapes.{shape_types}
 use Rattle.kf_value.specs.TypeViews.{type_tree}
 use Rattle.kf_value.proofs.ListLemmas.{left_step, left_end}
 use Rattle.kf_ast.specs.Views.{decl_tree}
-use Rattle.kf_prior.specs.FullSources.{full_decls}
 use Rattle.kf_prior.proofs.Turns.{formed_here, sized_here, size_here, decls_here, no_more_decls, pushed}
 use Rattle.kf_prior.proofs.declarations.full_decls.Goals as goal
+use Rattle.kf_prior.specs.Literals.{full_decls}
 
 pub full_decl-requires-clause-formed : goal.full_decl-requires-clause-formed
 full_decl-requires-clause-formed c =

@@ -2,13 +2,14 @@ use Rattle.std.proofs.Common.{◌≡◌, ℕ, List, [], ◌∷◌, ◌++◌, ap,
 use Rattle.std.proofs.lemmas.List.{length-map}
 use Rattle.kf_core.specs.Programs.{ProgramTree}
 use Rattle.kf_core.specs.Views.{st_items, st_tree}
-use Rattle.kf_quiet.specs.Blames.{IsBlame}
 use Rattle.kf_silent.specs.Quiet.{quiet_joint}
 use Rattle.kf_quiet.specs.Views.{ShowBlames}
 use Rattle.kf_quiet.specs.declared.blame.Blame.{Blame}
 use Rattle.kf_quiet.proofs.Blames.{AreFirst, first_all, first_more, first_one, show_more}
 use Rattle.kf_quiet.specs.Standing.{StandsBefore}
 use Rattle.kf_quiet.proofs.statements.blame_of.Goals as goal
+use Rattle.kf_quiet.specs.Summaries.{SummaryTree, IsSummary}
+use Rattle.kf_gain.specs.Gains.{Bayes}
 
 pub blame_without-requires-clause-order : goal.blame_without-requires-clause-order
 blame_without-requires-clause-order g c = c.loop-i.invariant.3
@@ -40,7 +41,7 @@ loop-i-preserved g c =
     let had = c.loop-i.invariant in
     let i = c.loop-i.i in
     let next : i + 1 ≡ suc i = omega arith in
-    let is = subst (λ k. IsBlame (quiet_joint m.turns m.program i k) new.tree) next new.is in (
+    let is = subst (λ k. IsSummary Bayes (quiet_joint m.turns m.program i k) new.tree) next new.is in (
       had.0 ++ new.tree ∷ [],
       subst (λ k. AreFirst m.turns m.program k (had.0 ++ new.tree ∷ [])) (sym next) (first_more m.turns m.program i had.0 new.tree had.1 is),
       subst (ShowBlames m.scale (had.0 ++ new.tree ∷ [])) (sym c.in_ok-push-2.ensures.items)

@@ -1,8 +1,9 @@
 use Rattle.std.proofs.Common.{◌^◌, [], All, ◌∙◌}
 use Rattle.kf_value.specs.Shapes.{shape_size, shape_types}
 use Rattle.kf_column.specs.declared.entry.Entry.{Entry}
-use Rattle.kf_core.specs.Runs.{assigned, silent}
+use Rattle.kf_core.specs.Runs.{assigned}
 use Rattle.kf_core.specs.Views.{dx_tree}
+use Rattle.kf_core.specs.Leaks.{silent}
 use Rattle.kf_push.specs.Following.{Takes}
 use Rattle.kf_run.proofs.Sharing.{at_entry, entries_fit, entries_positive, shared_all, shared_next}
 use Rattle.kf_run.proofs.assigned.move_column.Goals as goal

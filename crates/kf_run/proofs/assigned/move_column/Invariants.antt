@@ -1,8 +1,9 @@
 use Rattle.std.proofs.Common.{[], map, take}
 use Rattle.kf_value.specs.Shapes.{shape_size, shape_types}
 use Rattle.kf_column.specs.Shapes.{IsBelow}
-use Rattle.kf_core.specs.Runs.{assigned, silent}
+use Rattle.kf_core.specs.Runs.{assigned}
 use Rattle.kf_core.specs.Views.{dx_tree}
+use Rattle.kf_core.specs.Leaks.{silent}
 use Rattle.kf_eval.specs.Memos.{IsMemoOf}
 use Rattle.kf_run.specs.Ways.{IsShared, along}
 use Rattle.kf_run.proofs.assigned.move_column.Given as goal

@@ -2,8 +2,10 @@ use Rattle.std.proofs.Common.{◌*◌, [], ◌∷◌, sym, ap, subst, arith}
 use Rattle.std.specs.List.{flat_map}
 use Rattle.kf_value.specs.Shapes.{shape_types}
 use Rattle.kf_core.specs.Choices.{total}
-use Rattle.kf_core.specs.Runs.{assigned, moved, place, replaced, silent, tried}
+use Rattle.kf_core.specs.Runs.{assigned, place, replaced, tried}
 use Rattle.kf_core.specs.Views.{dx_tree}
+use Rattle.kf_core.specs.Each.{moved}
+use Rattle.kf_core.specs.Leaks.{silent}
 use Rattle.kf_eval.specs.Choices.{weighted_trees}
 use Rattle.kf_run.specs.Ways.{IsShared, moves}
 use Rattle.kf_run.proofs.Sharing.{chosen_at, clear, moves_divide, moves_shared, share_fits}

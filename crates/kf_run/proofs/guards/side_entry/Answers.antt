@@ -3,8 +3,9 @@ use Rattle.std.specs.List.{flat_map}
 use Rattle.kf_value.specs.Kinds.{TruthKind}
 use Rattle.kf_value.specs.Shapes.{shape_types}
 use Rattle.kf_core.specs.Choices.{total}
-use Rattle.kf_core.specs.Runs.{shown, stay, tried}
+use Rattle.kf_core.specs.Runs.{stay, tried}
 use Rattle.kf_core.specs.Views.{dx_tree}
+use Rattle.kf_core.specs.Leaks.{shown}
 use Rattle.kf_eval.specs.Choices.{weighted_trees}
 use Rattle.kf_push.specs.Following.{side}
 use Rattle.kf_run.specs.Ways.{IsShared, sides}

@@ -2,8 +2,10 @@ use Rattle.std.proofs.Common.{◌*◌, [], ◌∷◌, sym, ap, subst, arith}
 use Rattle.std.specs.List.{flat_map}
 use Rattle.kf_value.specs.Shapes.{shape_types}
 use Rattle.kf_core.specs.Choices.{total}
-use Rattle.kf_core.specs.Runs.{moved, place, shown, tried}
+use Rattle.kf_core.specs.Runs.{place, tried}
 use Rattle.kf_core.specs.Views.{dx_tree}
+use Rattle.kf_core.specs.Each.{moved}
+use Rattle.kf_core.specs.Leaks.{shown}
 use Rattle.kf_eval.specs.Choices.{weighted_trees}
 use Rattle.kf_support.specs.Moves.{store_behind}
 use Rattle.kf_run.specs.Following.{shown_to}

@@ -2,8 +2,9 @@ use Rattle.std.proofs.Common.{◌≡◌, ℕ, List, All, ◌∙◌}
 use Rattle.kf_value.specs.Shapes.{shape_size, shape_types}
 use Rattle.kf_column.specs.declared.entry.Entry.{Entry}
 use Rattle.kf_column.specs.Shapes.{IsBelow}
-use Rattle.kf_core.specs.Runs.{Run, assigned, silent}
+use Rattle.kf_core.specs.Runs.{Run, assigned}
 use Rattle.kf_core.specs.Views.{dx_tree}
+use Rattle.kf_core.specs.Leaks.{silent}
 use Rattle.kf_push.specs.Following.{Takes}
 use Rattle.kf_run.proofs.Spread.{column_fits, column_has, spread_all, spread_joint, spread_more, spread_none}
 use Rattle.kf_run.proofs.steps.assign.Goals as goal

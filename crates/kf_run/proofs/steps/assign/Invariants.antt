@@ -1,7 +1,8 @@
 use Rattle.std.proofs.Common.{take}
 use Rattle.kf_value.specs.Shapes.{shape_size, shape_types}
-use Rattle.kf_core.specs.Runs.{assigned, silent}
+use Rattle.kf_core.specs.Runs.{assigned}
 use Rattle.kf_core.specs.Views.{dx_tree}
+use Rattle.kf_core.specs.Leaks.{silent}
 use Rattle.kf_eval.specs.Memos.{IsMemoOf}
 use Rattle.kf_run.specs.Spreading.{AreSpread}
 use Rattle.kf_run.proofs.steps.assign.Given as goal

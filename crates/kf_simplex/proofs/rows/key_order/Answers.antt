@@ -1,10 +1,10 @@
 use Rattle.std.proofs.Common.{ℕ, FitsSigned, rules, refl, arith, ◌*ℤ◌}
 use Rattle.std.proofs.lemmas.Int.{to_z-of_z}
 use mir.Syntax.{w128}
-use Rattle.kf_simplex.specs.Base.{deciding}
 use Rattle.kf_simplex.specs.Entries.{number_in}
 use Rattle.kf_simplex.proofs.Tails.{right_first}
 use Rattle.kf_simplex.proofs.rows.key_order.Goals as goal
+use Rattle.kf_simplex.specs.Columns.{deciding}
 
 pub returns-in-Less : goal.returns-in-Less
 returns-in-Less c =

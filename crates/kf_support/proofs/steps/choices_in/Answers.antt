@@ -2,9 +2,10 @@ use Rattle.std.proofs.Common.{sym, ap, subst, ◌≤◌}
 use Rattle.kf_value.specs.Shapes.{shape_types}
 use Rattle.kf_core.specs.Choices.{choices}
 use Rattle.kf_core.specs.Views.{dx_shape}
-use Rattle.kf_core.specs.Runs.{store_at, placed_at}
+use Rattle.kf_core.specs.Runs.{store_at}
 use Rattle.kf_eval.specs.Choices.{weighted_trees}
 use Rattle.kf_core.proofs.Stores.{store_is}
+use Rattle.kf_core.specs.Each.{placed_at}
 use Rattle.kf_support.proofs.Weighing.{fault_placed, some_total}
 use Rattle.kf_support.proofs.steps.choices_in.Goals as goal
 

@@ -1,8 +1,9 @@
 use Rattle.std.proofs.Common.{◌≡◌, ◌++◌, drop}
 use Rattle.std.specs.List.{flat_map, enumerate_from}
 use Rattle.kf_channel.specs.Views.{rows_of}
-use Rattle.kf_text.specs.Texts.{column_line, columns_lines}
+use Rattle.kf_text.specs.Texts.{column_line}
 use Rattle.kf_text.proofs.channel.print_columns.Given as goal
+use Rattle.kf_text.specs.Parts.{columns_lines}
 
 abbrev pub invariant-loop-j : goal.invariant-loop-j
 invariant-loop-j l =

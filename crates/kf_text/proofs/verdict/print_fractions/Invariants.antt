@@ -1,8 +1,8 @@
 use Rattle.std.proofs.Common.{◌≡◌, ℕ, List, ◌++◌, map, drop, codes}
 use Rattle.std.specs.List.{flat_map}
-use Rattle.kf_text.specs.VerdictTexts.{spaced}
 use Rattle.kf_text.specs.Views.{own_text}
 use Rattle.kf_text.proofs.verdict.print_fractions.Given as goal
+use Rattle.kf_text.specs.Parts.{spaced}
 
 -- what is left brings the fractions to their end
 abbrev pub invariant-loop-fraction : goal.invariant-loop-fraction

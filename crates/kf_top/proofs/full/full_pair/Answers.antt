@@ -2,9 +2,9 @@ use Rattle.std.proofs.lemmas.Result.{err_from_is_err_and}
 use Rattle.kf_load.specs.Steps.{Each, Gives}
 use Rattle.kf_load.specs.Texts.{cleared}
 use Rattle.kf_load.specs.Views.{programs_in, texts_in}
-use Rattle.kf_top.specs.Outcome.{FullTexts}
 use Rattle.kf_top.proofs.Steps.{first_stops, next_answers}
 use Rattle.kf_top.proofs.full.full_pair.Goals as goal
+use Rattle.kf_top.specs.Steps.{FullTexts}
 
 pub returns-in_err-full-clause-answer : goal.returns-in_err-full-clause-answer
 returns-in_err-full-clause-answer c =

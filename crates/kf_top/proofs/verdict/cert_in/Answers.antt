@@ -3,10 +3,10 @@ use Rattle.kf_cert.specs.Certificates.{cert_of}
 use Rattle.kf_cert.specs.Views.{cert_tree}
 use Rattle.kf_load.specs.Steps.{Gives}
 use Rattle.kf_load.specs.Texts.{source_of}
-use Rattle.kf_top.specs.Answer.{cert_read}
 use Rattle.kf_top.specs.Stops.{Answers}
 use Rattle.kf_top.proofs.Readings.{counts_next, file_lifts, file_then, lift_counts}
 use Rattle.kf_top.proofs.verdict.cert_in.Goals as goal
+use Rattle.kf_top.specs.Steps.{cert_read}
 
 pub returns-in-Ok-clause-answer : goal.returns-in-Ok-clause-answer
 returns-in-Ok-clause-answer g c =

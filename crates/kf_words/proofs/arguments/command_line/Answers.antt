@@ -1,8 +1,9 @@
 use Rattle.std.proofs.Common.{◌≡◌, ◌∙◌, rules, ap₂, codes}
 use Rattle.clap.specs.Words.{rule_of, with_rule}
-use Rattle.kf_words.specs.Arguments.{words_rule, option_rule, flag_rule}
+use Rattle.kf_words.specs.Arguments.{words_rule, option_rule}
 use Rattle.kf_words.proofs.Matches.{words_are}
 use Rattle.kf_words.proofs.arguments.command_line.Goals as goal
+use Rattle.kf_words.specs.CommandViews.{flag_rule}
 
 pub returns : goal.returns
 returns c =

@@ -1,9 +1,10 @@
 use Rattle.std.proofs.Common.{◌++◌, ◌∙◌, ap, map, refl}
-use Rattle.kf_cert.specs.CertTexts.{row_entries, rows_entries}
+use Rattle.kf_cert.specs.CertTexts.{row_entries}
 use Rattle.kf_cert.specs.Rows.{row_tree, rows_tree}
 use Rattle.kf_cert.specs.Views.{entry_tree}
 use Rattle.kf_cert.proofs.Pieces.{piece_added}
 use Rattle.kf_cert.proofs.matrix_rules.row_entries.entries_of.Goals as goal
+use Rattle.kf_cert.specs.Order.{rows_entries}
 
 pub loop-i-preserved : goal.loop-i-preserved
 loop-i-preserved c =

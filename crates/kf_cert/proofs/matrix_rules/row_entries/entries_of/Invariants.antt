@@ -1,8 +1,8 @@
 use Rattle.std.proofs.Common.{◌≡◌, ◌++◌, map, drop}
-use Rattle.kf_cert.specs.CertTexts.{rows_entries}
 use Rattle.kf_cert.specs.Rows.{rows_tree}
 use Rattle.kf_cert.specs.Views.{entry_tree}
 use Rattle.kf_cert.proofs.matrix_rules.row_entries.entries_of.Given as goal
+use Rattle.kf_cert.specs.Order.{rows_entries}
 
 abbrev pub invariant-loop-i : goal.invariant-loop-i
 invariant-loop-i l =

@@ -6,7 +6,8 @@ use Rattle.kf_core.specs.Rows.{IsHyperOf}
 use Rattle.kf_core.specs.Views.{program_tree}
 use Rattle.kf_support.specs.Cleared.{program_of, turns_of, whole_scale}
 use Rattle.kf_push.specs.Meanings.{IsMeaning}
-use Rattle.kf_silent.specs.Silent.{only, silent_joint}
+use Rattle.kf_silent.specs.Silent.{silent_joint}
+use Rattle.kf_silent.specs.Paths.{only}
 use Rattle.kf_run.specs.Before.{cleared_before}
 use Rattle.kf_run.specs.Behind.{Behind}
 use Rattle.kf_run.proofs.Meant.{is_meaning}

@@ -38,7 +38,7 @@ fn attacks(alloc: Global, h: &Hyper, g: &Gain) -> Result<AttackList, Mem>
     ensures { IfOk result (λ attacks. (trees : List AttackTree) × AreAttacks (gain_tree g.now) (inners_of h.now) trees
         × ShowAttacks (gain_tree g.now) trees attacks) }
 {
-    let _scale = h.scale();
+    h.has_shape();
     let mut attacks = Vec::new(alloc);
     for i in 0..h.count() {
         let entries = h.inner(i).entries().as_slice();

@@ -41,7 +41,7 @@ fn multiple(h: &Hyper, i: usize) -> u128
     requires { i < length (inners_of h.now) }
     ensures { result ≡ (inner_at h.now i).total / total (inner_at h.now i).entries }
 {
-    let _scale = h.scale();
+    h.has_shape();
     h.total(i) / h.inner(i).total()
 }
 
@@ -50,7 +50,7 @@ pub(crate) fn gains_of(alloc: Global, h: &Hyper) -> Result<Vec<u128>, Mem>
     ensures gains { IfOk result (λ gains. AreGains (inners_of h.now) gains.items) }
     ensures whole { IfOk result (λ gains. sum gains.items ≡ scale_of h.now) }
 {
-    let _scale = h.scale();
+    h.has_shape();
     let mut gains = Vec::new(alloc);
     for i in 0..h.count() {
         let entries = ranked(alloc, h.inner(i).entries().as_slice())?;

@@ -65,7 +65,7 @@ fn shared(mut secrets: Vec<DividedSecret>, entries: &[Entry]) -> Vec<DividedSecr
     secrets
 }
 
-// The greatest common divisor, without a look at what has no more to give.
+// The greatest common divisor; at once where the divisor is 1 or the weight 0.
 fn common(divisor: u128, weight: u128) -> u128
     ensures { result ≡ gcd_of divisor weight }
 {

@@ -53,7 +53,7 @@ SomeMark = (a b : HyperTree) (c : CertTree) → IsProper a → IsProper b → a.
 abbrev pub OneMark : Type 0
 OneMark = (a b : HyperTree) (c : CertTree) (r q : Result Mark CheckError) → IsMarked a b c r → IsMarked a b c q → r ≡ q
 
--- what the run answers can be written
+-- each verdict can be written: a table's actions have names for JSON, and values of the target
 abbrev pub VerdictsWritable : Type 0
 VerdictsWritable = (a b : HyperTree) (pivots : ℕ) (v : VerdictTree) → IsProper a → IsProper b → IsVerdict a b pivots (Ok v) → IsWritable a.target v
 

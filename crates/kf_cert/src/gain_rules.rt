@@ -67,7 +67,8 @@ fn separates(alloc: Global, a: &Hyper, b: &Hyper, table: GainTable) -> Result<bo
     ensures narrow { IfOk result (λ r. AreNarrow (scale_of a.now) (scale_of b.now) (table_tree table)) }
     ensures wide { IsErrOf result GainFault.Wide → AreNarrow (scale_of a.now) (scale_of b.now) (table_tree table) → ⊥ }
 {
-    let _scales = (a.scale(), b.scale());
+    a.has_shape();
+    b.has_shape();
     let gain = Gain::Table(table);
     let of_a = posterior(alloc, a, &gain)?;
     let of_b = posterior(alloc, b, &gain)?;

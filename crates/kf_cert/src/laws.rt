@@ -4,8 +4,8 @@ ghost use Rattle.kf_cert.specs.Laws.{AcceptedShows, CarryingAccepted, NamedAccep
 
 use kf_value::text_laws;
 
-/// What is accepted proves; a matrix or a table that proves is accepted, and so is what is written of a verdict, unless the check is too wide. The
-/// entries that are named of a matrix name it.
+/// What is accepted proves; a matrix or a table that proves is accepted. Each verdict can be written, and what is written of it is accepted, unless
+/// the check is too wide. The entries that are named of a matrix name it.
 pub fn cert_laws()
     ensures shows { AcceptedShows }
     ensures carrying { CarryingAccepted }

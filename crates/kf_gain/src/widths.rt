@@ -45,7 +45,7 @@ fn table_width(table: &GainTable) -> u128
 fn width(alloc: Global, h: &Hyper, g: &Gain) -> Result<u128, Mem>
     ensures { IfOk result (IsWidth (gain_tree g.now) (inners_of h.now)) }
 {
-    let _scale = h.scale();
+    h.has_shape();
     match g {
         Gain::Bayes => Ok(1),
         Gain::Tries(_) => Ok(1),

@@ -42,6 +42,11 @@ impl Column {
         &self.entries
     }
 
+    /// That it names each of its values once, in ascending order and with a weight, as its type promises. It does nothing when it runs.
+    pub fn is_column(&self)
+        ensures { IsColumn self.now }
+    {}
+
     pub(crate) fn into_entries(self) -> Vec<Entry>
         ensures kept { result.items ≡ self }
         ensures column { IsColumn self }

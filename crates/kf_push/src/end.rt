@@ -16,13 +16,13 @@ use kf_hyper::{Columns, Hyper, abstract_columns, project};
 use kf_value::Mem;
 use std::alloc::Global;
 
-/// That each of them is a column, as its own type says. It goes through them, and changes nothing.
+/// That each of them is a column, as its own type promises. It goes through them, and changes nothing.
 pub fn are_columns(columns: &Columns)
     ensures are { All IsColumn columns.now.columns }
     ensures fits { mass columns.now.columns ≤ columns.now.scale }
 {
     for column in columns.columns().as_slice() {
-        column.entries();
+        column.is_column();
     }
 }
 

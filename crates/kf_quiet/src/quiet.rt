@@ -37,15 +37,15 @@ fn hush_one<P: Pusher>(
     ensures total { IfOk result (λ after. total after ≡ total column.now) }
 {
     p.program();
-    column.entries();
+    column.is_column();
     let one = alone(alloc, p.scale(), column.copy(alloc)?)?;
     let after = p.push(alloc, from, to, &one)?;
     let erased = sum_of(alloc, &after)?;
-    erased.entries();
+    erased.is_column();
     Ok(erased)
 }
 
-/// What columns become in a quiet block: each goes through it alone, and is erased behind it.
+/// What columns become in a quiet block: each goes through it alone, and what comes of it is added up.
 fn hush_all<P: Pusher>(
     alloc: Global,
     p: &P,

@@ -44,7 +44,7 @@ fn whole_hyper<P: Pusher>(alloc: Global, p: &P, first: &Columns) -> Result<Hyper
 fn bayes_of(alloc: Global, h: &Hyper) -> Result<Frac, Mem>
     ensures { IfOk result (λ f. (z : ℤ) × IsPosterior Bayes (inners_of h.now) z × IsFraction f z (scale_of h.now)) }
 {
-    let _scale = h.scale();
+    h.has_shape();
     match posterior(alloc, h, &Gain::Bayes) {
         Ok(bayes) => Ok(bayes),
         Err(GainFault::Mem) => Err(Mem),

@@ -84,7 +84,7 @@ pub fn report_of(alloc: Global, h: &Hyper, g: &Gain) -> Result<Report, GainFault
     ensures wide { IsErrOf result GainFault.Wide → (m : ℕ) × IsWidth (gain_tree g.now) (inners_of h.now) m × (limit < scale_of h.now * m) }
 {
     gain_laws();
-    let _ = h.scale();
+    h.has_shape();
     let prior = prior(alloc, h, g)?;
     let posterior = posterior(alloc, h, g)?;
     Ok(whole_report(prior, posterior))

@@ -4,7 +4,7 @@ ghost use Rattle.std.specs.Prelude.{◌≡◌, ◌<◌, ◌≤◌, ◌^◌, ℕ,
 ghost use Rattle.std.specs.List.{AllByRecursion as Each};
 ghost use Rattle.kf_value.specs.Values.{ValueTree};
 ghost use Rattle.kf_column.specs.declared.entry.Entry.{Entry as EntryTree};
-ghost use Rattle.kf_column.specs.Columns.{IsColumn, total};
+ghost use Rattle.kf_column.specs.Columns.{total};
 ghost use Rattle.kf_column.specs.Shapes.{IsBelow};
 ghost use Rattle.kf_core.specs.Runs.{Run};
 ghost use Rattle.kf_run.specs.Groups.{AreSame, Ascend, ways_in};
@@ -18,13 +18,6 @@ use kf_value::{Mem, compare};
 use std::alloc::Global;
 use std::cmp::Ordering;
 
-/// A column names each of its values once, in ascending order and with a weight.
-pub fn is_column(column: &Column)
-    ensures { IsColumn column.now }
-{
-    column.entries();
-}
-
 /// Adds the column of these weights, where there are any.
 pub fn add_column(entries: Vec<Entry>, list: &mut Vec<Column>) -> Result<(), Mem>
     requires positive { All (λ e. 0 < e.weight) entries.items }
@@ -34,7 +27,7 @@ pub fn add_column(entries: Vec<Entry>, list: &mut Vec<Column>) -> Result<(), Mem
 {
     if !entries.is_empty() {
         let column = gathered(entries);
-        is_column(&column);
+        column.is_column();
         list.push(column)?;
     }
     Ok(())
@@ -86,7 +79,7 @@ fn add_sorted(alloc: Global, mut leaks: Vec<Leak>, list: &mut Vec<Column>) -> Re
         let count = front_of(left);
         let entries = entries_of(alloc, &left[..count])?;
         let column = gathered(entries);
-        is_column(&column);
+        column.is_column();
         list.push(column)?;
         at += count;
     }
@@ -105,7 +98,7 @@ fn add_groups(groups: Vec<Group>, list: &mut Vec<Column>) -> Result<(), Mem>
     for mut group in groups {
         group.entries.shrink_to_fit();
         let column = gathered(group.entries);
-        is_column(&column);
+        column.is_column();
         list.push(column)?;
     }
     Ok(())

@@ -20,7 +20,6 @@ ghost use Rattle.kf_silent.specs.Silent.{all_silent_runs, silent_runs};
 ghost use Rattle.kf_run.specs.Going.{CanGo, HasGone};
 ghost use Rattle.kf_run.specs.Silence.{silent_at};
 
-use crate::column_spread::is_column;
 use crate::silence::{is_itself, within};
 use crate::steps::{assignment, guard, show};
 use kf_core::{Dx, St, run_laws};
@@ -91,7 +90,7 @@ fn hush_one(
     let one = alone(alloc, scale, column.copy(alloc)?)?;
     let after = push_seen(alloc, shape, turns, statement, None, &one)?;
     let sum = sum_of(alloc, &after)?;
-    is_column(&sum);
+    sum.is_column();
     Ok(sum)
 }
 

@@ -49,7 +49,7 @@ fn seen(alloc: Global, h: &Hyper, table: &GainTable) -> Result<i128, Mem>
     requires { scale_of h.now * table_width (table_tree table.now) ≤ limit }
     ensures { IfOk result (λ z. IsPosterior (Table (table_tree table.now)) (inners_of h.now) z) }
 {
-    let _scale = h.scale();
+    h.has_shape();
     let excesses = excesses(alloc, table)?;
     let mut sum = 0;
     for i in 0..h.count() {

@@ -24,7 +24,7 @@ fn multiple(h: &Hyper, i: usize) -> u128
     requires { i < length (inners_of h.now) }
     ensures { result ≡ (inner_at h.now i).total / total (inner_at h.now i).entries }
 {
-    let _scale = h.scale();
+    h.has_shape();
     h.total(i) / h.inner(i).total()
 }
 
@@ -39,7 +39,7 @@ fn add_inner(sums: &mut BTreeMap<u64, u128>, h: &Hyper, i: usize, part: u128) ->
     if part == 0 {
         return Ok(());
     }
-    let _scale = h.scale();
+    h.has_shape();
     let times = multiple(h, i) * part;
     add_all(sums, h.inner(i).entries().as_slice(), times)?;
     Ok(())

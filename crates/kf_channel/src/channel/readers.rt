@@ -39,7 +39,7 @@ impl Channel {
         self.secrets.entries().as_slice()[i].value
     }
 
-    /// The secrets, each with its weight over all traces: what its cells are divided by.
+    /// The secrets, each with its weight over all traces, by which its weight in a trace is divided to give the cell.
     pub fn secrets(&self) -> &[Entry]
         ensures listed { values result.now ≡ secrets_of self.now }
         ensures column { IsColumn result.now }

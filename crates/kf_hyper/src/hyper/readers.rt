@@ -28,6 +28,11 @@ impl Hyper {
         self.scale
     }
 
+    /// That it has the shape which its type promises. It does nothing when it runs.
+    pub fn has_shape(&self)
+        ensures { IsShape (target_size (target_of self.now)) (scale_of self.now) (inners_of self.now) }
+    {}
+
     /// What the values of the inners are values of.
     pub fn target(&self) -> &Target
         ensures { items_of result.now ≡ target_of self.now }

@@ -23,7 +23,7 @@ attack-requires-clause-fits c =
     let fits : scale_of c.args.h.now * width_on g inners ≤ limit = room g inners (scale_of c.args.h.now) limit c.requires in
     let same : c.as_slice-entries.result.now ≡ (get_or inners i none).entries = c.as_slice-entries.ensures ∙ c.entries.ensures.kept ∙ c.inner.ensures.kept in
     subst (λ (es : List Entry). total es * width g (length es) ≤ limit) (sym same)
-    (inner_fits _ (scale_of c.args.h.now) g inners c.scale-scale.ensures.shape i none inside limit fits)
+    (inner_fits _ (scale_of c.args.h.now) g inners c.has_shape.ensures i none inside limit fits)
 
 pub loop-i-preserved : goal.loop-i-preserved
 loop-i-preserved c =

@@ -23,8 +23,8 @@ add-requires c =
       fits = λ j.
           omega (
             arith,
-            adds_fit _ (scale_of c.args.h.now) inners c.scale-scale.ensures.shape c.loop-i.i none inside es ranked c.multiple.result c.multiple.ensures c.loop-i.gains.items c.loop-i.invariant j,
-            c.scale-scale.ensures.shape.narrow,
+            adds_fit _ (scale_of c.args.h.now) inners c.has_shape.ensures c.loop-i.i none inside es ranked c.multiple.result c.multiple.ensures c.loop-i.gains.items c.loop-i.invariant j,
+            c.has_shape.ensures.narrow,
           );
     }
 
@@ -37,7 +37,7 @@ loop-i-preserved c =
     let same = c.as_slice.ensures ∙ c.entries.ensures.kept ∙ c.inner.ensures.kept in
     let ranked : AreRanked (inner_at c.args.h.now c.loop-i.i).entries es =
     subst (λ (l : List Entry). AreRanked (inner_at c.args.h.now c.loop-i.i).entries l) (sym c.as_slice-in-loop-i.ensures.value) (subst (λ (l : List Entry). AreRanked l c.in_ok-entries.entries.items) same c.in_ok-entries.ensures) in
-    gathers_next _ (scale_of c.args.h.now) inners c.scale-scale.ensures.shape c.loop-i.i none inside es ranked c.multiple.result c.multiple.ensures c.loop-i.gains.items c.add.new.gains.items c.loop-i.invariant
+    gathers_next _ (scale_of c.args.h.now) inners c.has_shape.ensures c.loop-i.i none inside es ranked c.multiple.result c.multiple.ensures c.loop-i.gains.items c.add.new.gains.items c.loop-i.invariant
     c.in_ok-add.ensures.added
 
 pub returns-clause-gains : goal.returns-clause-gains

@@ -10,10 +10,10 @@ pub total-requires-2 : goal.total-requires-2
 total-requires-2 c =
     let inners : List Inner = inners_of c.args.h.now in
     let none : Inner = record { entries = []; total = 0 } in
-    omega (arith, inner_within _ (scale_of c.args.h.now) Bayes inners c.scale-scale.ensures.shape c.args.i none c.requires, ap total c.inner.ensures.kept, c.scale-scale.ensures.shape.narrow)
+    omega (arith, inner_within _ (scale_of c.args.h.now) Bayes inners c.has_shape.ensures c.args.i none c.requires, ap total c.inner.ensures.kept, c.has_shape.ensures.narrow)
 
 pub nonzero_div-result : goal.nonzero_div-result
 nonzero_div-result c =
     let inners : List Inner = inners_of c.args.h.now in
     let none : Inner = record { entries = []; total = 0 } in
-    omega (arith, some_total _ (scale_of c.args.h.now) Bayes inners c.scale-scale.ensures.shape c.args.i none c.requires, ap total c.inner.ensures.kept, c.total-2.ensures)
+    omega (arith, some_total _ (scale_of c.args.h.now) Bayes inners c.has_shape.ensures c.args.i none c.requires, ap total c.inner.ensures.kept, c.total-2.ensures)

@@ -11,6 +11,6 @@ returns-clause-told c =
     let first = c.in_ok-of_a.ensures.is in
     let second = c.in_ok-of_b.ensures.is in
     let some = c.args.table.shape.positive in (
-      λ yes. separates_told t a b c.in_ok-of_a.of_a c.in_ok-of_b.of_b first.0 second.0 first.1 second.1 first.2 second.2 c.scale.ensures.shape.some c.scale-2.ensures.shape.some some (c.is_less.ensures.0 yes),
-      λ is. c.is_less.ensures.1 (told_separates t a b c.in_ok-of_a.of_a c.in_ok-of_b.of_b first.0 second.0 first.1 second.1 first.2 second.2 c.scale.ensures.shape.some c.scale-2.ensures.shape.some some is),
+      λ yes. separates_told t a b c.in_ok-of_a.of_a c.in_ok-of_b.of_b first.0 second.0 first.1 second.1 first.2 second.2 c.has_shape.ensures.some c.has_shape-2.ensures.some some (c.is_less.ensures.0 yes),
+      λ is. c.is_less.ensures.1 (told_separates t a b c.in_ok-of_a.of_a c.in_ok-of_b.of_b first.0 second.0 first.1 second.1 first.2 second.2 c.has_shape.ensures.some c.has_shape-2.ensures.some some is),
     )

@@ -13,7 +13,7 @@ Matrix = List (List Entry)
 
 pub alone-requires-clause-some : goal.alone-requires-clause-some
 alone-requires-clause-some g c =
-    let some = total_positive c.args.column.now (subst IsColumn c.entries.ensures.kept c.entries.ensures.column) in
+    let some = total_positive c.args.column.now c.is_column.ensures in
     omega (arith, some, c.requires.fits, c.scale.ensures)
 
 pub sum_of-requires : goal.sum_of-requires
@@ -22,7 +22,7 @@ sum_of-requires g c =
     let one : c.in_ok-one.one.columns ≡ column ∷ [] =
     ap (λ (j : Joint). j.columns) c.in_ok-one.ensures ∙ ap (λ (d : List Entry). d ∷ []) c.in_ok-copy.ensures in
     let kept : mass c.in_ok-after.after.columns ≡ mass (column ∷ []) = c.in_ok-after.ensures.mass ∙ ap mass one in
-    let some = total_positive column (subst IsColumn c.entries.ensures.kept c.entries.ensures.column) in
+    let some = total_positive column c.is_column.ensures in
     record { some = λ none. omega (arith, kept, some, ap mass none) }
 
 pub returns-clause-behind : goal.returns-clause-behind
@@ -33,4 +33,4 @@ returns-clause-behind g c =
     ap (λ (j : Joint). j.columns) c.in_ok-one.ensures ∙ ap (λ (d : List Entry). d ∷ []) c.in_ok-copy.ensures in
     sum_behind from column c.in_ok-after.after.columns
     (subst (λ (columns : Matrix). IsPushed from columns c.in_ok-after.after.columns) one c.in_ok-after.ensures.pushed)
-    c.in_ok-erased.erased (subst IsColumn c.entries-2.ensures.kept c.entries-2.ensures.column) c.in_ok-erased.ensures.weights
+    c.in_ok-erased.erased c.is_column-2.ensures c.in_ok-erased.ensures.weights

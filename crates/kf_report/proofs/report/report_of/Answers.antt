@@ -9,7 +9,7 @@ whole_report-requires c =
     let after = c.in_ok-posterior.ensures.is in
     let width = c.in_ok-prior.ensures.narrow in (
       leakage c.args.g.now (scale_of c.args.h.now) before.0 after.0,
-      narrow_leakage c.gain_laws.ensures.width c.args.g.now _ (scale_of c.args.h.now) width.0 (inners_of c.args.h.now) before.0 after.0 c.scale.ensures.shape width.1 width.2 before.1 after.1,
+      narrow_leakage c.gain_laws.ensures.width c.args.g.now _ (scale_of c.args.h.now) width.0 (inners_of c.args.h.now) before.0 after.0 c.has_shape.ensures width.1 width.2 before.1 after.1,
       record { prior = before.2; posterior = after.2 },
     )
 
@@ -22,6 +22,6 @@ returns-clause-is c =
       l,
       record { prior = before.1; posterior = after.1; whole = refl },
       c.whole_report.ensures l
-          (narrow_leakage c.gain_laws.ensures.width c.args.g.now _ (scale_of c.args.h.now) width.0 (inners_of c.args.h.now) before.0 after.0 c.scale.ensures.shape width.1 width.2 before.1 after.1)
+          (narrow_leakage c.gain_laws.ensures.width c.args.g.now _ (scale_of c.args.h.now) width.0 (inners_of c.args.h.now) before.0 after.0 c.has_shape.ensures width.1 width.2 before.1 after.1)
           (record { prior = before.2; posterior = after.2 }),
     )

@@ -25,7 +25,7 @@ total-total-requires c =
     let i : ℕ = c.loop-i.i in
     let g : GainOf TableTree = Table (table_tree c.args.table.now) in
     let inside : i < length inners = subst (λ (n : ℕ). i < n) c.count-i-end.ensures c.loop-i-test.true in
-    omega (arith, inner_within _ (scale_of c.args.h.now) g inners c.scale-scale.ensures.shape i none inside, ap total c.inner-inner.ensures.kept, c.scale-scale.ensures.shape.narrow)
+    omega (arith, inner_within _ (scale_of c.args.h.now) g inners c.has_shape.ensures i none inside, ap total c.inner-inner.ensures.kept, c.has_shape.ensures.narrow)
 
 pub best_gain-requires-clause-narrow : goal.best_gain-requires-clause-narrow
 best_gain-requires-clause-narrow c =
@@ -34,7 +34,7 @@ best_gain-requires-clause-narrow c =
     let g : GainOf TableTree = Table (table_tree c.args.table.now) in
     let inside : i < length inners = subst (λ (n : ℕ). i < n) c.count-i-end.ensures c.loop-i-test.true in
     let part : c.total-total.result ≡ total (get_or inners i none).entries = c.total-total.ensures ∙ ap total c.inner-inner.ensures.kept in
-    omega (arith, inner_within _ (scale_of c.args.h.now) g inners c.scale-scale.ensures.shape i none inside, part, c.scale-scale.ensures.shape.narrow)
+    omega (arith, inner_within _ (scale_of c.args.h.now) g inners c.has_shape.ensures i none inside, part, c.has_shape.ensures.narrow)
 
 pub best_gain-requires-clause-fits : goal.best_gain-requires-clause-fits
 best_gain-requires-clause-fits c =
@@ -45,7 +45,7 @@ best_gain-requires-clause-fits c =
     let fits : scale_of c.args.h.now * width_on g inners ≤ limit = c.requires in
     let part : c.total-total.result ≡ total (get_or inners i none).entries = c.total-total.ensures ∙ ap total c.inner-inner.ensures.kept in
     inner_room (table_tree c.args.table.now) c.total-total.result limit
-    (subst (λ (n : ℕ). n * width g (length (get_or inners i none).entries) ≤ limit) (sym part) (inner_fits _ (scale_of c.args.h.now) g inners c.scale-scale.ensures.shape i none inside limit fits))
+    (subst (λ (n : ℕ). n * width g (length (get_or inners i none).entries) ≤ limit) (sym part) (inner_fits _ (scale_of c.args.h.now) g inners c.has_shape.ensures i none inside limit fits))
 
 pub nonzero_div-total : goal.nonzero_div-total
 nonzero_div-total c =
@@ -54,7 +54,7 @@ nonzero_div-total c =
     let g : GainOf TableTree = Table (table_tree c.args.table.now) in
     let inside : i < length inners = subst (λ (n : ℕ). i < n) c.count-i-end.ensures c.loop-i-test.true in
     let part : c.total-total.result ≡ total (get_or inners i none).entries = c.total-total.ensures ∙ ap total c.inner-inner.ensures.kept in
-    omega (arith, some_total _ (scale_of c.args.h.now) g inners c.scale-scale.ensures.shape i none inside, part)
+    omega (arith, some_total _ (scale_of c.args.h.now) g inners c.has_shape.ensures i none inside, part)
 
 pub times-sum-requires-clause-fits : goal.times-sum-requires-clause-fits
 times-sum-requires-clause-fits c =
@@ -72,7 +72,7 @@ times-sum-requires-clause-fits c =
     let is : IsVulnerability g (get_or inners i none).entries v = subst (λ (es : List Entry). IsVulnerability g es v) same c.in_ok-best.ensures in
     omega (
       arith,
-      product_fits _ (scale_of c.args.h.now) g inners c.scale-scale.ensures.shape i none inside v is limit fits,
+      product_fits _ (scale_of c.args.h.now) g inners c.has_shape.ensures i none inside v is limit fits,
       ap (λ (n : ℕ). n * unsigned_abs v) multiple,
       ap (λ (x : ℤ). (c.total.result / c.total-total.result) * unsigned_abs x) kept,
     )
@@ -96,7 +96,7 @@ overflow_add-sum c =
     let sum : ℤ = to_z w128 c.loop-i.sum-bits in
     let product : z ≡ pos ((get_or inners i none).total / total (get_or inners i none).entries) *ℤ v =
     to_z-of_z w128 c.times-sum.result fit ∙ c.times-sum.ensures ∙ (λ j. pos (multiple j) *ℤ kept j) in
-    fits_signed_from_abs w128 (sum +ℤ z) (omega (arith, sum_fits _ (scale_of c.args.h.now) g inners c.scale-scale.ensures.shape i none inside v is sum z product limit fits c.loop-i.invariant.within))
+    fits_signed_from_abs w128 (sum +ℤ z) (omega (arith, sum_fits _ (scale_of c.args.h.now) g inners c.has_shape.ensures i none inside v is sum z product limit fits c.loop-i.invariant.within))
 
 pub loop-i-preserved : goal.loop-i-preserved
 loop-i-preserved c =
@@ -117,11 +117,11 @@ loop-i-preserved c =
     let sum : ℤ = to_z w128 c.loop-i.sum-bits in
     let product : z ≡ pos ((get_or inners i none).total / total (get_or inners i none).entries) *ℤ v =
     to_z-of_z w128 c.times-sum.result fit ∙ c.times-sum.ensures ∙ (λ j. pos (multiple j) *ℤ kept j) in
-    let whole : FitsSigned w128 (sum +ℤ z) = fits_signed_from_abs w128 (sum +ℤ z) (omega (arith, sum_fits _ (scale_of c.args.h.now) g inners c.scale-scale.ensures.shape i none inside v is sum z product limit fits c.loop-i.invariant.within)) in
+    let whole : FitsSigned w128 (sum +ℤ z) = fits_signed_from_abs w128 (sum +ℤ z) (omega (arith, sum_fits _ (scale_of c.args.h.now) g inners c.has_shape.ensures i none inside v is sum z product limit fits c.loop-i.invariant.within)) in
     let both : to_z w128 (of_z w128 (sum +ℤ z)) ≡ sum +ℤ z = to_z-of_z w128 (sum +ℤ z) whole in
     record {
-      others = λ y p. subst (λ (x : ℤ). IsPosterior g inners (x +ℤ y)) (sym both) (next_inner _ (scale_of c.args.h.now) g inners c.scale-scale.ensures.shape i none inside v is sum z product c.loop-i.invariant.others y p);
-      within = rw both (sum_within _ (scale_of c.args.h.now) g inners c.scale-scale.ensures.shape i none inside v is sum z product c.loop-i.invariant.within);
+      others = λ y p. subst (λ (x : ℤ). IsPosterior g inners (x +ℤ y)) (sym both) (next_inner _ (scale_of c.args.h.now) g inners c.has_shape.ensures i none inside v is sum z product c.loop-i.invariant.others y p);
+      within = rw both (sum_within _ (scale_of c.args.h.now) g inners c.has_shape.ensures i none inside v is sum z product c.loop-i.invariant.within);
     }
 
 pub returns : goal.returns

@@ -8,9 +8,9 @@ use Rattle.kf_cert.proofs.matrix_rules.cells.multiple.Goals as goal
 pub total-requires-2 : goal.total-requires-2
 total-requires-2 c =
     let none : Inner = record { entries = []; total = 0 } in
-    omega (arith, ap total c.inner.ensures.kept, sum_narrow (inners_of c.args.h.now) _ _ c.scale-scale.ensures.shape c.args.i none c.requires)
+    omega (arith, ap total c.inner.ensures.kept, sum_narrow (inners_of c.args.h.now) _ _ c.has_shape.ensures c.args.i none c.requires)
 
 pub nonzero_div-result : goal.nonzero_div-result
 nonzero_div-result c =
     let none : Inner = record { entries = []; total = 0 } in
-    omega (arith, c.total-2.ensures, ap total c.inner.ensures.kept, sum_some (inners_of c.args.h.now) _ _ c.scale-scale.ensures.shape c.args.i none c.requires)
+    omega (arith, c.total-2.ensures, ap total c.inner.ensures.kept, sum_some (inners_of c.args.h.now) _ _ c.has_shape.ensures c.args.i none c.requires)

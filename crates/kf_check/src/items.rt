@@ -91,11 +91,11 @@ pub fn check_item(
             stores,
         });
     }
-    let place = declared.variables.len() + copies;
-    let stores = grow(place, stores, &variable.ty, at)?;
+    let copy_slot = declared.variables.len() + copies;
+    let stores = grow(copy_slot, stores, &variable.ty, at)?;
     Ok(ReadItem {
         item: read,
-        slot: place as u8,
+        slot: copy_slot as u8,
         copied: Some(slot),
         stores,
     })

@@ -63,7 +63,7 @@ fn all_variables(alloc: Global, variables: &[Variable]) -> Result<Targeted, Type
     ensures { AnswersTarget (map variable_of variables.now) [] result }
 {
     let items = final_items(alloc, variables)?;
-    let slots = places(alloc, variables.len())?;
+    let slots = first_slots(alloc, variables.len())?;
     Ok(Targeted {
         target: Target {
             items: TargetItemList::new(items),
@@ -85,17 +85,17 @@ fn final_items(alloc: Global, variables: &[Variable]) -> Result<Vec<TargetItem>,
     Ok(items)
 }
 
-/// The first places, from 0.
-fn places(alloc: Global, count: usize) -> Result<Vec<u8>, TypeError>
+/// The first slots, from 0.
+fn first_slots(alloc: Global, count: usize) -> Result<Vec<u8>, TypeError>
     requires { count ≤ 32 }
-    ensures places { IfOk result (λ v. v.items ≡ range_with_len 0 count) }
+    ensures slots { IfOk result (λ v. v.items ≡ range_with_len 0 count) }
     ensures memory { IfErr result (λ e. e ≡ TypeError.Mem) }
 {
-    let mut places = Vec::new(alloc);
+    let mut slots = Vec::new(alloc);
     for i in 0..count {
-        places.push(i as u8)?;
+        slots.push(i as u8)?;
     }
-    Ok(places)
+    Ok(slots)
 }
 
 /// The target that is these items, or its first broken rule.

@@ -61,7 +61,7 @@ impl MemFiles {
 }
 
 // Where the first file of this name stands.
-pub(crate) fn place_of(files: &[FileEntry], name: &str) -> Option<usize>
+pub(crate) fn index_of(files: &[FileEntry], name: &str) -> Option<usize>
     ensures { result ≡ position (has_name name.now) files.now }
 {
     files.iter().position(|file| file.name.as_str() == name)
@@ -84,7 +84,7 @@ impl Files for MemFiles {
     {
         let call = self.calls;
         self.calls = call.saturating_add(1);
-        match place_of(self.files.as_slice(), name) {
+        match index_of(self.files.as_slice(), name) {
             Some(place) if !self.fail.as_slice().contains(&call) => {
                 let file = &self.files.as_slice()[place];
                 Ok(give(file.bytes.as_slice(), at, self.piece, buf))

@@ -3,7 +3,7 @@ ghost use Rattle.kf_io.specs.Entries.{bytes_of};
 ghost use Rattle.kf_io.specs.Reads.{Gives};
 
 use crate::give::give;
-use crate::mem_files::place_of;
+use crate::mem_files::index_of;
 use crate::{Failed, FileList, Files};
 use std::marker::Model;
 
@@ -49,7 +49,7 @@ impl Files for SureFiles {
         ensures never_fails { IsOk result }
         ensures kept { self.new ≡ self.old }
     {
-        match place_of(self.files.as_slice(), name) {
+        match index_of(self.files.as_slice(), name) {
             Some(place) => {
                 let file = &self.files.as_slice()[place];
                 Ok(give(file.bytes.as_slice(), at, self.piece, buf))

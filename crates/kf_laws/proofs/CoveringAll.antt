@@ -174,7 +174,7 @@ module _ (no_more : QuietLeaksNoMore) (from to turns : ℕ) (hyper quiet : Answe
         p,
         all.0,
         hushed.0,
-        record { all_are = all.1; hushed_are = hushed.1; all_told = all.2; hushed_told = hushed.2 },
+        record { all_are = all.1; hushed_are = hushed.1; all_printed = all.2; hushed_printed = hushed.2 },
         λ g y z one other. no_more turns p from to g all.0 hushed.0 y z order all.1 hushed.1 one other,
       )
   by_programs (p ∷ q ∷ ps) st su is_hyper is_quiet told told_too = absurd (cc)

@@ -29,9 +29,9 @@ use Rattle.kf_laws.proofs.ShownAnswers.{command_shown, printed, task_shown}
 -- ---- what is shown
 
 -- a capacity that is shown is that of the program's channel
-capacity_told : (answer : Answer) (shown : Shown) (turns : ℕ) (p : ProgramTree) → answer ≡ showing shown → After (Gives (initial p)) (CapacityIn turns) (Ok shown)
+capacity_printed : (answer : Answer) (shown : Shown) (turns : ℕ) (p : ProgramTree) → answer ≡ showing shown → After (Gives (initial p)) (CapacityIn turns) (Ok shown)
     → (c : ChannelTree) × IsChannelTree turns p c × (answer.out ≡ capacity_text (channel_grid c))
-capacity_told answer shown turns p shows is =
+capacity_printed answer shown turns p shows is =
     let c : ChannelTree = is.2.0 in
     let told : Shown = record { yes = true; bytes = capacity_text (channel_grid c) } in
     let same : is.0 ≡ p = (kept (all_initial p.target) p is.0 (refusal 10 [] (codes "target is not initial")) is.1).0 in
@@ -51,7 +51,7 @@ module _ (contents : List ℕ → List ℕ) (name : List ℕ) (gain : GainOf (Li
       → AreLeakAnswers contents name gain turns capacity leak
   by_programs [] su st cleared is_capacity is_leak told told_too = absurd (cc)
   by_programs (p ∷ []) su st cleared is_capacity is_leak told told_too =
-      let channel = capacity_told capacity su turns p is_capacity told in
+      let channel = capacity_printed capacity su turns p is_capacity told in
       let report : ReportOf (scale_of turns p) (joint_of turns p) told_too.0 (Ok st) = told_too.2.2 in
       record {
         program = p;
@@ -64,8 +64,8 @@ module _ (contents : List ℕ → List ℕ) (name : List ℕ) (gain : GainOf (Li
         is_hyper = report.1;
         report = report.2.0;
         is_report = report.2.1;
-        capacity_told = channel.2;
-        leak_told = printed leak st (report_text told_too.0 report.2.0) is_leak report.2.2;
+        capacity_printed = channel.2;
+        leak_printed = printed leak st (report_text told_too.0 report.2.0) is_leak report.2.2;
       }
   by_programs (p ∷ q ∷ ps) su st cleared is_capacity is_leak told told_too = absurd (cc)
 

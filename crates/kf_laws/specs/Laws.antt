@@ -82,8 +82,8 @@ NoIsSeparated = (contents : List ℕ → List ℕ) (first second : List ℕ) (tu
 pub record AreQuietAnswers (from to turns : ℕ) (hyper quiet : Answer) (p : ProgramTree) (all hushed : List Inner) : Type 0 where
   pub all_are : IsHyperOf (joint_of turns p) all
   pub hushed_are : IsHyperOf (quiet_joint turns p from to) hushed
-  pub all_told : hyper.out ≡ hyper_text p.target (scale_of turns p) all
-  pub hushed_told : quiet.out ≡ hyper_text p.target (scale_of turns p) hushed
+  pub all_printed : hyper.out ≡ hyper_text p.target (scale_of turns p) all
+  pub hushed_printed : quiet.out ≡ hyper_text p.target (scale_of turns p) hushed
 
 -- what `quiet` states is never worth more to an adversary than what `hyper` states of the same text
 abbrev pub QuietIsNoBetter : Type 0
@@ -106,8 +106,8 @@ pub record AreLeakAnswers (contents : List ℕ → List ℕ) (name : List ℕ) (
   pub is_hyper : IsHyperOf (joint_of turns program) inners
   pub report : Leakage
   pub is_report : IsLeakage g (scale_of turns program) inners report
-  pub capacity_told : capacity.out ≡ capacity_text (channel_grid channel)
-  pub leak_told : leak.out ≡ report_text g report
+  pub capacity_printed : capacity.out ≡ capacity_text (channel_grid channel)
+  pub leak_printed : leak.out ≡ report_text g report
 
 -- the posterior is at most the prior times a grid's capacity
 abbrev pub IsWithin : Leakage → GridTree → Type 0

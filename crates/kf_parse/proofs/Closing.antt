@@ -3,7 +3,7 @@ use Rattle.std.proofs.Common.{◌≡◌, ℕ, List, [], append-nil, ap, ◌∙�
 use Rattle.kf_lex.specs.declared.token.Token.{Token}
 use Rattle.kf_ast.specs.Sources.{SourceTree}
 use Rattle.kf_parse.specs.Outcomes.{Outcome, got}
-use Rattle.kf_parse.specs.Plain.{plain}
+use Rattle.kf_parse.specs.Plain.{whole_trees}
 use Rattle.kf_parse.specs.Reading as r
 use Rattle.kf_parse.specs.Depth.{open_brackets}
 use Rattle.kf_parse.specs.Laws.{ClosesAll}
@@ -19,5 +19,5 @@ pub closes_all : ClosesAll
 closes_all src ts x e =
     let takes = program_takes src ts x e in
     let o : Outcome SourceTree = got x [] in
-    let read : r.program plain src takes.0 ts ≡ o = takes.1 takes.0 (omega arith) in
-    all_passed ts (subst (λ (v : Outcome SourceTree). Leveled 0 0 takes.0 ts v) read ((program_balanced plain src takes.0).leveled ts))
+    let read : r.program whole_trees src takes.0 ts ≡ o = takes.1 takes.0 (omega arith) in
+    all_passed ts (subst (λ (v : Outcome SourceTree). Leveled 0 0 takes.0 ts v) read ((program_balanced whole_trees src takes.0).leveled ts))

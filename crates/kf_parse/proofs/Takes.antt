@@ -14,7 +14,7 @@ use Rattle.kf_parse.specs.Tokens.{is}
 use Rattle.kf_parse.specs.Grammar as g
 use Rattle.kf_parse.specs.Grammar.{IsSign, IsWord, IsNumber, IsName, IsInfix, named, joined, Parts, E, Chain, Operand, Others}
 use Rattle.kf_parse.specs.Outcomes.{got, Parser, and_then, pure, ◌>>=◌}
-use Rattle.kf_parse.specs.Plain.{plain}
+use Rattle.kf_parse.specs.Plain.{whole_trees}
 use Rattle.kf_parse.specs.Reading as r
 use Rattle.kf_parse.proofs.OperatorTokens.{infix_known, prefix_known}
 use Rattle.kf_parse.proofs.TakesTurns.{apart, Leads, Ends, repeat_takes, leads_nowhere, leads_from, leads_on, Reads, Runs, runs_on}
@@ -55,12 +55,12 @@ pub record Heads (src : List ℕ) (l : ℕ) (ts : List Token) : Type 0 where
   pub tail : List Token
   pub whole : ts ≡ head ∷ tail
   pub says : (k : ℕ) → k < l → r.binds_at k (prefix_op head.kind) ≡ false
-  pub sure : (d : ℕ) (o : Token) → r.dist_by plain src d o head.kind ≡ None
+  pub sure : (d : ℕ) (o : Token) → r.dist_by whole_trees src d o head.kind ≡ None
 
 module _ (src : List ℕ) where
   -- the reader of a level, in which brackets nest less deep than the second number
   pub at_level : ℕ → ℕ → Parser ExprTree
-  at_level l d = r.level plain src (r.expr plain src d) (8 - l)
+  at_level l d = r.level whole_trees src (r.expr whole_trees src d) (8 - l)
 
   -- tokens that are an expression
   pub record Claim (l : ℕ) (ts : List Token) (x : ExprTree) : Type 0 where
@@ -70,47 +70,47 @@ module _ (src : List ℕ) where
 
   -- an expression as brackets hold it
   abbrev pub Exprs : List Token → ExprTree → Type 0
-  Exprs ts x = Reads (r.expr plain src) (Stops 1) ts x
+  Exprs ts x = Reads (r.expr whole_trees src) (Stops 1) ts x
 
   pub expr_reads : (ts : List Token) (x : ExprTree) → Claim 1 ts x → Exprs ts x
   unfolding at_level
   expr_reads ts x c = record { depth = suc c.reads.depth; takes = takes }
     where
-      takes : (d : ℕ) → suc c.reads.depth ≤ d → (rest : List Token) → Stops 1 rest → r.expr plain src d (ts ++ rest) ≡ got x rest
+      takes : (d : ℕ) → suc c.reads.depth ≤ d → (rest : List Token) → Stops 1 rest → r.expr whole_trees src d (ts ++ rest) ≡ got x rest
       takes zero de rest st = absurd (omega arith)
       takes (suc d) de rest st = step.expr_level src d (ts ++ rest) ∙ c.reads.takes d (omega arith) rest st
 
   -- tokens that are an operand
   pub record Taken (ts : List Token) (x : ExprTree) : Type 0 where
     pub heads : Heads src 8 ts
-    pub reads : Reads (λ d. r.operand plain src (r.expr plain src d)) (λ us. Unit {0}) ts x
+    pub reads : Reads (λ d. r.operand whole_trees src (r.expr whole_trees src d)) (λ us. Unit {0}) ts x
 
   -- operators behind an expression
   abbrev pub Chains : ℕ → ExprTree → List Token → ExprTree → Type 0
-  Chains l x ts z = Runs (λ d. r.operation plain src (at_level (suc l) d) l) (Stops (suc l)) x ts z
+  Chains l x ts z = Runs (λ d. r.operation whole_trees src (at_level (suc l) d) l) (Stops (suc l)) x ts z
 
   -- more of a list
   abbrev pub Lists : List ExprTree → List Token → List ExprTree → Type 0
-  Lists xs ts ys = Runs (λ d. step.other_step src (r.expr plain src d)) (Stops 1) xs ts ys
+  Lists xs ts ys = Runs (λ d. step.other_step src (r.expr whole_trees src d)) (Stops 1) xs ts ys
 
   heads_before : (l m : ℕ) (a b ts : List Token) → m ≤ l → ts ≡ a ++ b → Heads src l a → Heads src m ts
   heads_before l m a b ts low w h = record { head = h.head; tail = h.tail ++ b; whole = w ∙ ap (λ z. z ++ b) h.whole; says = λ k less. h.says k (omega arith); sure = h.sure }
 
-  past_heads : (next : Parser ExprTree) (l : ℕ) (ts us : List Token) (x : ExprTree) → Heads src (suc l) ts → next (ts ++ us) ≡ got x us → r.prefixed plain src next l (ts ++ us) ≡ r.operations plain src next l x us
+  past_heads : (next : Parser ExprTree) (l : ℕ) (ts us : List Token) (x : ExprTree) → Heads src (suc l) ts → next (ts ++ us) ≡ got x us → r.prefixed whole_trees src next l (ts ++ us) ≡ r.operations whole_trees src next l x us
   past_heads next l ts us x h e =
       let P : List Token → Type 0 = λ z. next (z ++ us) ≡ got x us in
-      ap (λ z. r.prefixed plain src next l (z ++ us)) h.whole ∙ step.prefixed_infix src next l h.head x (h.tail ++ us) us (h.says l (omega arith)) (subst P h.whole e)
+      ap (λ z. r.prefixed whole_trees src next l (z ++ us)) h.whole ∙ step.prefixed_infix src next l h.head x (h.tail ++ us) us (h.says l (omega arith)) (subst P h.whole e)
 
-  at_above : (l d : ℕ) (ts : List Token) → 1 ≤ l → l ≤ 7 → at_level l d ts ≡ r.prefixed plain src (at_level (suc l) d) l ts
+  at_above : (l d : ℕ) (ts : List Token) → 1 ≤ l → l ≤ 7 → at_level l d ts ≡ r.prefixed whole_trees src (at_level (suc l) d) l ts
   unfolding at_level
   at_above l d ts low high =
       let e : 8 - l ≡ suc (8 - suc l) = omega arith in
-      ap (λ h. r.level plain src (r.expr plain src d) h ts) e ∙ step.level_above src (r.expr plain src d) (8 - suc l) l ts (omega arith)
+      ap (λ h. r.level whole_trees src (r.expr whole_trees src d) h ts) e ∙ step.level_above src (r.expr whole_trees src d) (8 - suc l) l ts (omega arith)
 
-  operations_end : (next : Parser ExprTree) (l : ℕ) (x z : ExprTree) (ts rest : List Token) → (l ≡ 4 → ⊥) → Leads (r.operation plain src next l) x ts z rest → Stops l rest → r.operations plain src next l x ts ≡ got z rest
-  operations_end next l x z ts rest ne a st = ap (λ f. f ts) (step.operations_climb src next l x ne) ∙ repeat_takes (r.operation plain src next l) x z ts rest a (ends rest st)
+  operations_end : (next : Parser ExprTree) (l : ℕ) (x z : ExprTree) (ts rest : List Token) → (l ≡ 4 → ⊥) → Leads (r.operation whole_trees src next l) x ts z rest → Stops l rest → r.operations whole_trees src next l x ts ≡ got z rest
+  operations_end next l x z ts rest ne a st = ap (λ f. f ts) (step.operations_climb src next l x ne) ∙ repeat_takes (r.operation whole_trees src next l) x z ts rest a (ends rest st)
     where
-      ends : (us : List Token) → Stops l us → Ends (r.operation plain src next l) z us
+      ends : (us : List Token) → Stops l us → Ends (r.operation whole_trees src next l) z us
       ends [] e = tt
       ends (o ∷ us) e = step.operation_ends src next l o z (loose l (infix_op o.kind) e.0)
 
@@ -120,7 +120,7 @@ module _ (src : List ℕ) where
     heads = heads_before (suc l) l a b ts (omega arith) w c.heads;
     reads = record {
       depth = c.reads.depth + f.depth;
-      takes = λ d de rest st. at_above l d (ts ++ rest) low (omega (arith, c.high)) ∙ ap (λ v. r.prefixed plain src (at_level (suc l) d) l v) (apart a b rest w)
+      takes = λ d de rest st. at_above l d (ts ++ rest) low (omega (arith, c.high)) ∙ ap (λ v. r.prefixed whole_trees src (at_level (suc l) d) l v) (apart a b rest w)
           ∙ past_heads (at_level (suc l) d) l a (b ++ rest) x c.heads (c.reads.takes d (omega arith) (b ++ rest) (f.starts rest (stops_above l rest st)))
           ∙ operations_end (at_level (suc l) d) l x z (b ++ rest) rest ne (f.leads d (omega arith) rest (stops_above l rest st)) st;
     };
@@ -137,7 +137,7 @@ module _ (src : List ℕ) where
     };
   }
     where
-      ends : (d : ℕ) (us : List Token) → Stops 4 us → r.compared plain src (at_level 5 d) x us ≡ got x us
+      ends : (d : ℕ) (us : List Token) → Stops 4 us → r.compared whole_trees src (at_level 5 d) x us ≡ got x us
       ends d [] e = step.compared_at_end src (at_level 5 d) x
       ends d (o ∷ us) e = step.compared_ends src (at_level 5 d) o x us (loose 4 (infix_op o.kind) e.0)
 
@@ -147,14 +147,14 @@ module _ (src : List ℕ) where
     heads = heads_before 5 4 a (o ∷ b) ts (omega arith) w c.heads;
     reads = record {
       depth = c.reads.depth + e.reads.depth;
-      takes = λ d de rest st. at_above 4 d (ts ++ rest) (omega arith) (omega arith) ∙ ap (λ v. r.prefixed plain src (at_level 5 d) 4 v) (apart a (o ∷ b) rest w)
+      takes = λ d de rest st. at_above 4 d (ts ++ rest) (omega arith) (omega arith) ∙ ap (λ v. r.prefixed whole_trees src (at_level 5 d) 4 v) (apart a (o ∷ b) rest w)
           ∙ past_heads (at_level 5 d) 4 a (o ∷ (b ++ rest)) x c.heads (c.reads.takes d (omega arith) (o ∷ (b ++ rest)) (stops_infix 4 o op (b ++ rest) i))
           ∙ ap (λ f. f (o ∷ (b ++ rest))) (step.operations_compare src (at_level 5 d) x)
           ∙ step.compared_goes src (at_level 5 d) o op x y (b ++ rest) rest i (e.reads.takes d (omega arith) rest (stops_above 4 rest st));
     };
   }
 
-  prefix_no_dist : (k : Tok) (op : Op) → prefix_op k ≡ Some op → (d : ℕ) (o : Token) → r.dist_by plain src d o k ≡ None
+  prefix_no_dist : (k : Tok) (op : Op) → prefix_op k ≡ Some op → (d : ℕ) (o : Token) → r.dist_by whole_trees src d o k ≡ None
   prefix_no_dist (t.Word w.UniformWord) op e d o = absurd (let none : None ≡ Some op = e in cc)
   prefix_no_dist (t.Word w.ChooseWord) op e d o = absurd (let none : None ≡ Some op = e in cc)
   prefix_no_dist (t.Word w.FlipWord) op e d o = absurd (let none : None ≡ Some op = e in cc)
@@ -177,7 +177,7 @@ module _ (src : List ℕ) where
   }
 
   pub chain_on : (l : ℕ) (a b ts : List Token) (o : Token) (op : Op) (x y z : ExprTree) → Chains l x a y → IsInfix l op o → Claim (suc l) b z → ts ≡ a ++ o ∷ b → Chains l x ts (joined op y z)
-  chain_on l a b ts o op x y z f i c w = runs_on (λ d. r.operation plain src (at_level (suc l) d) l) (Stops (suc l)) x y (joined op y z) a b ts o (λ d. at_level (suc l) d >>= (λ z'. pure (joined op y z'))) f
+  chain_on l a b ts o op x y z f i c w = runs_on (λ d. r.operation whole_trees src (at_level (suc l) d) l) (Stops (suc l)) x y (joined op y z) a b ts o (λ d. at_level (suc l) d >>= (λ z'. pure (joined op y z'))) f
       (λ us. stops_infix l o op us i) (λ d. step.operation_goes src (at_level (suc l) d) l o op y i)
       (record { depth = c.reads.depth; takes = λ d de rest st. ap (λ v. and_then v (λ z'. pure (joined op y z'))) (c.reads.takes d de rest st) }) w
 
@@ -191,9 +191,9 @@ module _ (src : List ℕ) where
   parts_lead (g.no_part {x = x}) rest = leads_nowhere (step.part_step src) x rest
   parts_lead (g.part {a = a} {ts = ts} d n {k = k} {x = x} {y = y} p i j w) rest = part_leads a ts d n k x y (λ us. parts_lead p us) i j w rest
 
-  at_eight : (d : ℕ) (ts : List Token) → at_level 8 d ts ≡ r.postfix plain src (r.expr plain src d) ts
+  at_eight : (d : ℕ) (ts : List Token) → at_level 8 d ts ≡ r.postfix whole_trees src (r.expr whole_trees src d) ts
   unfolding at_level
-  at_eight d ts = step.level_lowest src (r.expr plain src d) 0 ts refl
+  at_eight d ts = step.level_lowest src (r.expr whole_trees src d) 0 ts refl
 
   pub claim_parts : (a b ts : List Token) (x z : ExprTree) → Taken a x → ((rest : List Token) → Leads (step.part_step src) x (b ++ rest) z rest) → ts ≡ a ++ b → Claim 8 ts z
   claim_parts a b ts x z p f w = record {
@@ -202,7 +202,7 @@ module _ (src : List ℕ) where
     reads = record {
       depth = p.reads.depth;
       takes = λ d de rest st. ap (at_level 8 d) (apart a b rest w) ∙ at_eight d (a ++ (b ++ rest))
-          ∙ step.postfix_goes src (r.expr plain src d) x z (a ++ (b ++ rest)) (b ++ rest) rest (p.reads.takes d de (b ++ rest) tt) (repeat_takes (step.part_step src) x z (b ++ rest) rest (f rest) (ends rest st));
+          ∙ step.postfix_goes src (r.expr whole_trees src d) x z (a ++ (b ++ rest)) (b ++ rest) rest (p.reads.takes d de (b ++ rest) tt) (repeat_takes (step.part_step src) x z (b ++ rest) rest (f rest) (ends rest st));
     };
   }
     where

@@ -12,7 +12,7 @@ use Rattle.kf_parse.specs.Tokens.{is}
 use Rattle.kf_parse.specs.Grammar as g
 use Rattle.kf_parse.specs.Grammar.{IsSign, IsWord, IsNumber, E, Whole, TypeOf, OtherTypes, Case, OtherCases, Dist}
 use Rattle.kf_parse.specs.Outcomes.{got, Parser, and_then, behind, where_true, pure, ◌>>=◌, repeat}
-use Rattle.kf_parse.specs.Plain.{plain}
+use Rattle.kf_parse.specs.Plain.{whole_trees}
 use Rattle.kf_parse.specs.Reading as r
 use Rattle.kf_parse.proofs.TakesTurns.{apart, before_close, repeat_takes, Reads, Runs, runs_nowhere, runs_on}
 use Rattle.kf_parse.proofs.Takes.{Stops, stops_at, Claim, Exprs, expr_reads}
@@ -117,99 +117,99 @@ module _ (src : List ℕ) where
 
   -- the step of a list of cases
   abbrev case_step : Parser ExprTree → Token → List CaseTree → Option (Parser (List CaseTree))
-  case_step e c cs = where_true (is (t.Sign s.Comma) c.kind) (r.weighted plain src e cs)
+  case_step e c cs = where_true (is (t.Sign s.Comma) c.kind) (r.weighted whole_trees src e cs)
 
   module _ (e : Parser ExprTree) where
-    weighted_goes : (cs : List CaseTree) (c : Token) (x y : ExprTree) (us vs rest : List Token) → e us ≡ got x (c ∷ vs) → IsSign s.Colon c → e vs ≡ got y rest → r.weighted plain src e cs us ≡ got (cs ++ case_of x y ∷ []) rest
+    weighted_goes : (cs : List CaseTree) (c : Token) (x y : ExprTree) (us vs rest : List Token) → e us ≡ got x (c ∷ vs) → IsSign s.Colon c → e vs ≡ got y rest → r.weighted whole_trees src e cs us ≡ got (cs ++ case_of x y ∷ []) rest
     unfolding r.weighted
     weighted_goes cs c x y us vs rest h i j = rw (h, i, j) refl
 
-    choose_goes : (c p q : Token) (x : CaseTree) (cs : List CaseTree) (us vs rest : List Token) → IsSign s.BraceOpen p → r.weighted plain src e [] us ≡ got (x ∷ []) vs → repeat (case_step e) (x ∷ []) vs ≡ got cs (q ∷ rest) → IsSign s.BraceClose q
-        → r.choose plain src e c (p ∷ us) ≡ got (dist_at c.start (Choose cs)) rest
+    choose_goes : (c p q : Token) (x : CaseTree) (cs : List CaseTree) (us vs rest : List Token) → IsSign s.BraceOpen p → r.weighted whole_trees src e [] us ≡ got (x ∷ []) vs → repeat (case_step e) (x ∷ []) vs ≡ got cs (q ∷ rest) → IsSign s.BraceClose q
+        → r.choose whole_trees src e c (p ∷ us) ≡ got (dist_at c.start (Choose cs)) rest
     unfolding r.choose r.cases
     choose_goes c p q x cs us vs rest i h l k = rw (i, h, l, k) refl
 
-    uniform_range_goes : (u o : Token) (x y : ExprTree) (us vs rest : List Token) → e us ≡ got x (o ∷ vs) → IsSign s.Range o → e vs ≡ got y rest → r.uniform plain src e u us ≡ got (dist_at u.start (UniformRange x y)) rest
+    uniform_range_goes : (u o : Token) (x y : ExprTree) (us vs rest : List Token) → e us ≡ got x (o ∷ vs) → IsSign s.Range o → e vs ≡ got y rest → r.uniform whole_trees src e u us ≡ got (dist_at u.start (UniformRange x y)) rest
     unfolding r.uniform
     uniform_range_goes u o x y us vs rest h i j = rw (h, i, j) refl
 
-    uniform_set_goes : (u : Token) (x : ExprTree) (us rest : List Token) → e us ≡ got x rest → Closes rest → r.uniform plain src e u us ≡ got (dist_at u.start (UniformSet x)) rest
+    uniform_set_goes : (u : Token) (x : ExprTree) (us rest : List Token) → e us ≡ got x rest → Closes rest → r.uniform whole_trees src e u us ≡ got (dist_at u.start (UniformSet x)) rest
     unfolding r.uniform
     uniform_set_goes u x us [] h c = rw h refl
     uniform_set_goes u x us (o ∷ rest) h c = rw (h, c.1) refl
 
-  flip_goes : (f n d m : Token) (j k : ℕ) (rest : List Token) → IsNumber j n → IsSign s.Slash d → IsNumber k m → r.flip plain src f (n ∷ d ∷ m ∷ rest) ≡ got (dist_at f.start (Flip j k)) rest
+  flip_goes : (f n d m : Token) (j k : ℕ) (rest : List Token) → IsNumber j n → IsSign s.Slash d → IsNumber k m → r.flip whole_trees src f (n ∷ d ∷ m ∷ rest) ≡ got (dist_at f.start (Flip j k)) rest
   unfolding r.flip r.number
   flip_goes f n d m j k rest h i l = rw (h, i, l) refl
 
   module _ (d : ℕ) where
-    dist_uniform : (u : Token) (us : List Token) → IsWord w.UniformWord u → r.dist plain src (suc d) (u ∷ us) ≡ r.uniform plain src (r.expr plain src (suc d)) u us
+    dist_uniform : (u : Token) (us : List Token) → IsWord w.UniformWord u → r.dist whole_trees src (suc d) (u ∷ us) ≡ r.uniform whole_trees src (r.expr whole_trees src (suc d)) u us
     unfolding r.dist
     dist_uniform u us i = rw i refl
 
-    dist_choose : (c : Token) (us : List Token) → IsWord w.ChooseWord c → r.dist plain src (suc d) (c ∷ us) ≡ r.choose plain src (r.expr plain src d) c us
+    dist_choose : (c : Token) (us : List Token) → IsWord w.ChooseWord c → r.dist whole_trees src (suc d) (c ∷ us) ≡ r.choose whole_trees src (r.expr whole_trees src d) c us
     unfolding r.dist
     dist_choose c us i = rw i refl
 
-    dist_flip : (f : Token) (us : List Token) → IsWord w.FlipWord f → r.dist plain src (suc d) (f ∷ us) ≡ r.flip plain src f us
+    dist_flip : (f : Token) (us : List Token) → IsWord w.FlipWord f → r.dist whole_trees src (suc d) (f ∷ us) ≡ r.flip whole_trees src f us
     unfolding r.dist
     dist_flip f us i = rw i refl
 
-    dist_sure : (o : Token) (x : ExprTree) (us rest : List Token) → r.dist_by plain src d o o.kind ≡ None → r.expr plain src (suc d) (o ∷ us) ≡ got x rest → r.dist plain src (suc d) (o ∷ us) ≡ got (dist_at (place x) (Sure x)) rest
+    dist_sure : (o : Token) (x : ExprTree) (us rest : List Token) → r.dist_by whole_trees src d o o.kind ≡ None → r.expr whole_trees src (suc d) (o ∷ us) ≡ got x rest → r.dist whole_trees src (suc d) (o ∷ us) ≡ got (dist_at (place x) (Sure x)) rest
     unfolding r.dist
-    dist_sure o x us rest none e = ap (λ v. behind v (r.expr plain src (suc d) >>= (λ x'. pure (plain.sure x'))) o us) none ∙ ap (λ v. and_then v (λ x'. pure (plain.sure x'))) e
+    dist_sure o x us rest none e = ap (λ v. behind v (r.expr whole_trees src (suc d) >>= (λ x'. pure (whole_trees.sure x'))) o us) none ∙ ap (λ v. and_then v (λ x'. pure (whole_trees.sure x'))) e
 
   abbrev pub Dists : List Token → DistTree → Type 0
-  Dists ts x = Reads (r.dist plain src) Closes ts x
+  Dists ts x = Reads (r.dist whole_trees src) Closes ts x
 
   -- with brackets open
-  below : (ts : List Token) (x : DistTree) (dep : ℕ) → ((d : ℕ) → dep ≤ d → (rest : List Token) → Closes rest → r.dist plain src (suc d) (ts ++ rest) ≡ got x rest) → Dists ts x
+  below : (ts : List Token) (x : DistTree) (dep : ℕ) → ((d : ℕ) → dep ≤ d → (rest : List Token) → Closes rest → r.dist whole_trees src (suc d) (ts ++ rest) ≡ got x rest) → Dists ts x
   below ts x dep goes = record { depth = suc dep; takes = takes }
     where
-      takes : (d : ℕ) → suc dep ≤ d → (rest : List Token) → Closes rest → r.dist plain src d (ts ++ rest) ≡ got x rest
+      takes : (d : ℕ) → suc dep ≤ d → (rest : List Token) → Closes rest → r.dist whole_trees src d (ts ++ rest) ≡ got x rest
       takes zero de rest c = absurd (omega arith)
       takes (suc d) de rest c = goes d (omega arith) rest c
 
   sure_reads : (ts : List Token) (x : ExprTree) → Claim src 1 ts x → Dists ts (dist_at (place x) (Sure x))
   sure_reads ts x c = let e = expr_reads src ts x c in let h = c.heads in below ts (dist_at (place x) (Sure x)) e.depth (λ d de rest cl.
-      let P : List Token → Type 0 = λ v. r.expr plain src (suc d) (v ++ rest) ≡ got x rest in
-      ap (λ v. r.dist plain src (suc d) (v ++ rest)) h.whole ∙ dist_sure d h.head x (h.tail ++ rest) rest (h.sure d h.head) (subst P h.whole (e.takes (suc d) (omega arith) rest (closes_stops rest cl))))
+      let P : List Token → Type 0 = λ v. r.expr whole_trees src (suc d) (v ++ rest) ≡ got x rest in
+      ap (λ v. r.dist whole_trees src (suc d) (v ++ rest)) h.whole ∙ dist_sure d h.head x (h.tail ++ rest) rest (h.sure d h.head) (subst P h.whole (e.takes (suc d) (omega arith) rest (closes_stops rest cl))))
 
   set_reads : (ts : List Token) (u : Token) (x : ExprTree) → IsWord w.UniformWord u → Exprs src ts x → Dists (u ∷ ts) (dist_at u.start (UniformSet x))
   set_reads ts u x i e = below (u ∷ ts) (dist_at u.start (UniformSet x)) e.depth (λ d de rest c.
-      dist_uniform d u (ts ++ rest) i ∙ uniform_set_goes (r.expr plain src (suc d)) u x (ts ++ rest) rest (e.takes (suc d) (omega arith) rest (closes_stops rest c)) c)
+      dist_uniform d u (ts ++ rest) i ∙ uniform_set_goes (r.expr whole_trees src (suc d)) u x (ts ++ rest) rest (e.takes (suc d) (omega arith) rest (closes_stops rest c)) c)
 
   range_reads : (a b ts : List Token) (u o : Token) (x y : ExprTree) → IsWord w.UniformWord u → Exprs src a x → IsSign s.Range o → Exprs src b y → ts ≡ a ++ o ∷ b → Dists (u ∷ ts) (dist_at u.start (UniformRange x y))
   range_reads a b ts u o x y i e j f w = below (u ∷ ts) (dist_at u.start (UniformRange x y)) (e.depth + f.depth) (λ d de rest c.
-      ap (λ v. r.dist plain src (suc d) (u ∷ v)) (apart a (o ∷ b) rest w) ∙ dist_uniform d u (a ++ o ∷ (b ++ rest)) i
-      ∙ uniform_range_goes (r.expr plain src (suc d)) u o x y (a ++ o ∷ (b ++ rest)) (b ++ rest) rest
+      ap (λ v. r.dist whole_trees src (suc d) (u ∷ v)) (apart a (o ∷ b) rest w) ∙ dist_uniform d u (a ++ o ∷ (b ++ rest)) i
+      ∙ uniform_range_goes (r.expr whole_trees src (suc d)) u o x y (a ++ o ∷ (b ++ rest)) (b ++ rest) rest
       (e.takes (suc d) (omega arith) (o ∷ (b ++ rest)) (stops_at 1 o (t.Sign s.Range) (b ++ rest) (omega arith) j refl refl)) j
       (f.takes (suc d) (omega arith) rest (closes_stops rest c)))
 
   -- cases
   abbrev Cases : List CaseTree → List Token → List CaseTree → Type 0
-  Cases cs ts ds = Runs (λ d. case_step (r.expr plain src d)) (Stops 1) cs ts ds
+  Cases cs ts ds = Runs (λ d. case_step (r.expr whole_trees src d)) (Stops 1) cs ts ds
 
-  case_reads : {ts : List Token} {x : CaseTree} → Case src ts x → (cs : List CaseTree) → Reads (λ d. r.weighted plain src (r.expr plain src d) cs) (Stops 1) ts (cs ++ x ∷ [])
+  case_reads : {ts : List Token} {x : CaseTree} → Case src ts x → (cs : List CaseTree) → Reads (λ d. r.weighted whole_trees src (r.expr whole_trees src d) cs) (Stops 1) ts (cs ++ x ∷ [])
   case_reads (g.weighted {a = a} {b = b} {ts = ts} c {x = x} {y = y} e i f w) cs = let h = expr_whole a x e in let k = expr_whole b y f in record {
     depth = h.depth + k.depth;
-    takes = λ d de rest st. ap (r.weighted plain src (r.expr plain src d) cs) (apart a (c ∷ b) rest w)
-        ∙ weighted_goes (r.expr plain src d) cs c x y (a ++ c ∷ (b ++ rest)) (b ++ rest) rest
+    takes = λ d de rest st. ap (r.weighted whole_trees src (r.expr whole_trees src d) cs) (apart a (c ∷ b) rest w)
+        ∙ weighted_goes (r.expr whole_trees src d) cs c x y (a ++ c ∷ (b ++ rest)) (b ++ rest) rest
         (h.takes d (omega arith) (c ∷ (b ++ rest)) (stops_at 1 c (t.Sign s.Colon) (b ++ rest) (omega arith) i refl refl)) i (k.takes d (omega arith) rest st);
   }
 
   cases_run : {cs ds : List CaseTree} {ts : List Token} → OtherCases src cs ts ds → Cases cs ts ds
-  cases_run (g.no_other_case {xs = cs}) = runs_nowhere (λ d. case_step (r.expr plain src d)) (Stops 1) cs
-  cases_run (g.other_case {a = a} {b = b} {ts = ts} c {xs = cs} {ys = ds} {y = y} l i e w) = runs_on (λ d. case_step (r.expr plain src d)) (Stops 1) cs ds (ds ++ y ∷ []) a b ts c (λ d. r.weighted plain src (r.expr plain src d) ds) (cases_run l)
+  cases_run (g.no_other_case {xs = cs}) = runs_nowhere (λ d. case_step (r.expr whole_trees src d)) (Stops 1) cs
+  cases_run (g.other_case {a = a} {b = b} {ts = ts} c {xs = cs} {ys = ds} {y = y} l i e w) = runs_on (λ d. case_step (r.expr whole_trees src d)) (Stops 1) cs ds (ds ++ y ∷ []) a b ts c (λ d. r.weighted whole_trees src (r.expr whole_trees src d) ds) (cases_run l)
       (λ us. stops_at 1 c (t.Sign s.Comma) us (omega arith) i refl refl) (λ d. rw i refl) (case_reads e ds) w
 
-  choose_reads : (a b ts : List Token) (c p q : Token) (x : CaseTree) (cs : List CaseTree) → IsWord w.ChooseWord c → IsSign s.BraceOpen p → Reads (λ d. r.weighted plain src (r.expr plain src d) []) (Stops 1) a (x ∷ []) → Cases (x ∷ []) b cs → IsSign s.BraceClose q
+  choose_reads : (a b ts : List Token) (c p q : Token) (x : CaseTree) (cs : List CaseTree) → IsWord w.ChooseWord c → IsSign s.BraceOpen p → Reads (λ d. r.weighted whole_trees src (r.expr whole_trees src d) []) (Stops 1) a (x ∷ []) → Cases (x ∷ []) b cs → IsSign s.BraceClose q
       → ts ≡ a ++ (b ++ q ∷ []) → Dists (c ∷ p ∷ ts) (dist_at c.start (Choose cs))
   choose_reads a b ts c p q x cs i j e l k w = below (c ∷ p ∷ ts) (dist_at c.start (Choose cs)) (e.depth + l.depth) (λ d de rest cl.
       let close = stops_at 1 q (t.Sign s.BraceClose) rest (omega arith) k refl refl in
-      ap (λ v. r.dist plain src (suc d) (c ∷ p ∷ v)) (before_close a b q rest w) ∙ dist_choose d c (p ∷ (a ++ (b ++ q ∷ rest))) i
-      ∙ choose_goes (r.expr plain src d) c p q x cs (a ++ (b ++ q ∷ rest)) (b ++ q ∷ rest) rest j (e.takes d (omega arith) (b ++ q ∷ rest) (l.starts (q ∷ rest) close))
-      (repeat_takes (case_step (r.expr plain src d)) (x ∷ []) cs (b ++ q ∷ rest) (q ∷ rest) (l.leads d (omega arith) (q ∷ rest) close) (rw k refl)) k)
+      ap (λ v. r.dist whole_trees src (suc d) (c ∷ p ∷ v)) (before_close a b q rest w) ∙ dist_choose d c (p ∷ (a ++ (b ++ q ∷ rest))) i
+      ∙ choose_goes (r.expr whole_trees src d) c p q x cs (a ++ (b ++ q ∷ rest)) (b ++ q ∷ rest) rest j (e.takes d (omega arith) (b ++ q ∷ rest) (l.starts (q ∷ rest) close))
+      (repeat_takes (case_step (r.expr whole_trees src d)) (x ∷ []) cs (b ++ q ∷ rest) (q ∷ rest) (l.leads d (omega arith) (q ∷ rest) close) (rw k refl)) k)
 
   pub dist_whole : (ts : List Token) (x : DistTree) → Dist src ts x → Dists ts x
   dist_whole ts x (g.sure {x = e} h) = sure_reads ts e (claim_e src (omega arith) h)

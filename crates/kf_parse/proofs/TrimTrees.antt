@@ -6,7 +6,7 @@ use Rattle.kf_ast.specs.Dists.{CaseTree, case_of, DistTree, DistShape, dist_at, 
 use Rattle.kf_ast.specs.Stmts.{StmtTree, StmtShape, StmtTrees, stmt_at, Skip, Assign, Observe, If, While, no_stmts, more_stmts, stmts}
 use Rattle.kf_ast.specs.Sources.{DeclTree, declared, SourceTree, source}
 use Rattle.kf_parse.specs.Trimmed.{Trimmed, trimmed, trim, within, together, untouched, earlier}
-use Rattle.kf_parse.specs.Plain.{plain}
+use Rattle.kf_parse.specs.Plain.{whole_trees}
 use Rattle.kf_parse.specs.Reading as r
 use Rattle.kf_parse.proofs.TrimSteps.{mapped}
 use Rattle.kf_parse.proofs.TrimMaps.{Maps, program_maps}
@@ -72,7 +72,7 @@ stmts_each [] = refl
 stmts_each (x ∷ xs) = ap (together ◌∷◌ (trim_stmt x)) (stmts_each xs)
 
 -- the trimming builder makes of trimmed parts the trimmed whole
-pub trimming : Maps plain trimmed
+pub trimming : Maps whole_trees trimmed
 trimming = record {
   ex = cut;
   exs = cuts;
@@ -113,6 +113,6 @@ trimming = record {
 }
 
 -- reading with the trimming builder is reading whole trees, trimmed
-pub program_trimmed : (src : List ℕ) (d : ℕ) (ts : List Token) → r.program trimmed src d ts ≡ mapped trim_source (r.program plain src d ts)
+pub program_trimmed : (src : List ℕ) (d : ℕ) (ts : List Token) → r.program trimmed src d ts ≡ mapped trim_source (r.program whole_trees src d ts)
 unfolding trimming
-program_trimmed src d ts = sym ((program_maps plain trimmed trimming src d).carried ts)
+program_trimmed src d ts = sym ((program_maps whole_trees trimmed trimming src d).carried ts)

@@ -7,8 +7,8 @@ use Rattle.kf_ast.specs.Stmts.{StmtTree, stmt_at, Skip, Assign, Observe, If, Whi
 use Rattle.kf_ast.specs.Sources.{DeclTree, declared, SourceTree, source}
 use Rattle.kf_parse.specs.Builders.{Builder}
 
-abbrev pub plain : Builder
-plain = record {
+abbrev pub whole_trees : Builder
+whole_trees = record {
   Ex = ExprTree;
   Exs = List ExprTree;
   Cs = List CaseTree;

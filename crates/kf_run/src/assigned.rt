@@ -73,8 +73,8 @@ fn move_entry(
     ensures added { OnOk result (Adds (assigned silent (shape_types shape.now) slot (dx_tree dist.now)) (entry ∷ []) (map (along []) behind.old.items) (map (along []) behind.new.items)) }
     ensures below { OnOk result (IsBelow (shape_size shape.now) behind.old.items → IsBelow (shape_size shape.now) behind.new.items) }
 {
-    let place = chosen_in(alloc, shape, dist, memo, entry.value)?;
-    let choice = memo.at(place);
+    let choice_at = chosen_in(alloc, shape, dist, memo, entry.value)?;
+    let choice = memo.at(choice_at);
     let share = share_of(entry.weight, choice.total);
     add_moves(shape, slot, entry.value, share, choice, behind)?;
     Ok(())

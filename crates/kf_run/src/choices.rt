@@ -28,11 +28,11 @@ pub fn chosen_in(
     requires clear { IsOk (tried (shape_types shape.now) (dx_tree dist.now) store) }
     requires memo { IsMemoOf shape.now (dx_tree dist.now) memo.old }
     ensures memo { OnOk result (IsMemoOf shape.now (dx_tree dist.now) memo.new) }
-    ensures found { IfOk result (λ place. IsKeptAt shape.now (dx_tree dist.now) store memo.new place) }
-    ensures within { IfOk result (λ place. place < length (kept memo.new)) }
+    ensures found { IfOk result (λ choice_at. IsKeptAt shape.now (dx_tree dist.now) store memo.new choice_at) }
+    ensures within { IfOk result (λ choice_at. choice_at < length (kept memo.new)) }
 {
     match memo.find(alloc, shape, dist, store) {
-        Ok(place) => Ok(place),
+        Ok(choice_at) => Ok(choice_at),
         Err(error) => match error {
             ChoiceError::Mem => Err(Mem),
             _ => unreachable!(),

@@ -75,9 +75,9 @@ fn add_sorted(alloc: Global, mut leaks: Vec<Leak>, list: &mut Vec<Column>) -> Re
     let sorted = leaks.as_slice();
     let mut at = 0;
     while at < sorted.len() {
-        let left = &sorted[at..];
-        let count = front_of(left);
-        let entries = entries_of(alloc, &left[..count])?;
+        let rest = &sorted[at..];
+        let count = front_of(rest);
+        let entries = entries_of(alloc, &rest[..count])?;
         let column = gathered(entries);
         column.is_column();
         list.push(column)?;

@@ -73,8 +73,8 @@ fn side_entry(
     ensures below_taken { OnOk result (IsBelow (shape_size shape.now) taken.old.items → IsBelow (shape_size shape.now) taken.new.items) }
     ensures below_left { OnOk result (IsBelow (shape_size shape.now) left.old.items → IsBelow (shape_size shape.now) left.new.items) }
 {
-    let place = chosen_in(alloc, shape, dist, memo, entry.value)?;
-    let choice = memo.at(place);
+    let choice_at = chosen_in(alloc, shape, dist, memo, entry.value)?;
+    let choice = memo.at(choice_at);
     let share = share_of(entry.weight, choice.total);
     add_sides(entry.value, share, choice, taken, left)?;
     Ok(())

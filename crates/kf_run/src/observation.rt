@@ -75,8 +75,8 @@ fn show_entry(
     ensures added { OnOk result (Adds (shown_to (shape_types shape.now) into (dx_tree dist.now)) (entry ∷ []) (map leaked leaks.old.items) (map leaked leaks.new.items)) }
     ensures below { OnOk result (All (λ l. l.to < shape_size shape.now) leaks.old.items → All (λ l. l.to < shape_size shape.now) leaks.new.items) }
 {
-    let place = chosen_in(alloc, shape, dist, memo, entry.value)?;
-    let choice = memo.at(place);
+    let choice_at = chosen_in(alloc, shape, dist, memo, entry.value)?;
+    let choice = memo.at(choice_at);
     let share = share_of(entry.weight, choice.total);
     add_leaks(alloc, shape, into, entry.value, share, choice, leaks)?;
     Ok(())

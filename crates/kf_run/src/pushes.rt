@@ -152,16 +152,16 @@ fn push_seen(
             no,
         } => {
             let sides = guard(alloc, shape, test, columns)?;
-            let taken = within(silent, 0);
-            let one = push_all(alloc, shape, turns, yes.as_slice(), taken, sides.taken)?;
-            let left = within(silent, 1);
-            let other = push_all(alloc, shape, turns, no.as_slice(), left, sides.left)?;
+            let in_yes = within(silent, 0);
+            let one = push_all(alloc, shape, turns, yes.as_slice(), in_yes, sides.taken)?;
+            let in_no = within(silent, 1);
+            let other = push_all(alloc, shape, turns, no.as_slice(), in_no, sides.left)?;
             let after = merge_both(alloc, one, other)?;
             Ok(after)
         }
         St::While { guard: test, body } => {
-            let turned = within(silent, 0);
-            push_loop(alloc, shape, turns, test, body.as_slice(), turned, columns)
+            let in_body = within(silent, 0);
+            push_loop(alloc, shape, turns, test, body.as_slice(), in_body, columns)
         }
     }
 }
@@ -184,18 +184,18 @@ fn push_loop(
     requires can { CanGo (looped turns (tried (shape_types shape.now) (dx_tree test.now)) (place (dx_tree test.now)) (all_silent_runs (silent_at silent) (shape_types shape.now) turns 0 (sts (map st_tree body.now)))) (shape_size shape.now) columns.now }
     ensures { IfOk result (λ after. HasGone (looped turns (tried (shape_types shape.now) (dx_tree test.now)) (place (dx_tree test.now)) (all_silent_runs (silent_at silent.entry) (shape_types shape.now) turns 0 (sts (map st_tree body.now)))) (shape_size shape.now) columns.now after) }
 {
-    let mut left = none_of(alloc, columns);
+    let mut gone = none_of(alloc, columns);
     let mut asking = columns.copy(alloc)?;
     for _turn in 0..turns {
         if asking.columns().as_slice().is_empty() {
-            return Ok(left);
+            return Ok(gone);
         }
         let sides = guard(alloc, shape, test, &asking)?;
-        left = merge_both(alloc, left, sides.left)?;
+        gone = merge_both(alloc, gone, sides.left)?;
         asking = push_all(alloc, shape, turns, body, silent, sides.taken)?;
     }
     let sides = guard(alloc, shape, test, &asking)?;
-    let after = merge_both(alloc, left, sides.left)?;
+    let after = merge_both(alloc, gone, sides.left)?;
     Ok(after)
 }
 

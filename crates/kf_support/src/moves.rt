@@ -63,11 +63,11 @@ pub fn copied_store(program: &Program, store: u64) -> u64
     ensures copied { result ≡ copied (program_tree program.now) store }
     ensures below { result < shape_size program.now.shape }
 {
-    let mut place = program.decls.as_slice().len();
+    let mut to = program.decls.as_slice().len();
     let mut after = store;
     for slot in program.copies.as_slice() {
-        after = copied_to(&program.shape, after, usize::from(*slot), place);
-        place += 1;
+        after = copied_to(&program.shape, after, usize::from(*slot), to);
+        to += 1;
     }
     after
 }

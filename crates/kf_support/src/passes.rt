@@ -79,18 +79,18 @@ fn pass_while(
 {
     carry_laws();
     let mut states = from;
-    let mut left = Vec::new(alloc);
+    let mut gone = Vec::new(alloc);
     let mut room = FEW;
     for _turn in 0..turns {
-        let branches = guard(alloc, shape, test, states.as_slice(), left)?;
-        left = shortened(alloc, branches.left, &mut room)?;
+        let branches = guard(alloc, shape, test, states.as_slice(), gone)?;
+        gone = shortened(alloc, branches.left, &mut room)?;
         if branches.taken.is_empty() {
-            let reached = settled(alloc, left)?;
+            let reached = settled(alloc, gone)?;
             return Ok(reached);
         }
         states = pass_all(alloc, shape, turns, body, branches.taken)?;
     }
-    last_guard(alloc, shape, test, states.as_slice(), left)
+    last_guard(alloc, shape, test, states.as_slice(), gone)
 }
 
 /// Where statements lead, one after the other.

@@ -25,8 +25,8 @@ use Rattle.clap.specs.Words.{Row, first_of, Rule}
 use Rattle.clap.specs.declared.builder.action.ArgAction.TheVariants.{SetTrue}
 use Rattle.clap.specs.Kinds.{Kinds}
 
-abbrev pub arguments_shown : Arguments → spec.Arguments
-arguments_shown a = record {
+abbrev pub arguments_meant : Arguments → spec.Arguments
+arguments_meant a = record {
   values = map (λ v. v.now) a.values.now;
   gain = option_map (λ v. v.now) a.gain;
   turns = option_map (λ v. v.now) a.turns;
@@ -74,24 +74,24 @@ pair_task pair.Quiet words =
     option_map (λ p. task.on_files (task.Quiet p.0 p.1) (task.but_last words)) (option_and_then block_of (of_words.last_of words))
 
 -- which task a command's word asks for, by the values after it and the options
-abbrev pub task_shown : CommandWord → List (List ℕ) → spec.Arguments → Option (ℕ → task.Task)
-task_shown (word.OneFile command) names arguments = Some (task.on_files (on_one command) names)
-task_shown (word.TwoFiles command) names arguments = Some (task.on_files (on_two command) names)
-task_shown (word.UnderGain command) names arguments =
+abbrev pub task_meant : CommandWord → List (List ℕ) → spec.Arguments → Option (ℕ → task.Task)
+task_meant (word.OneFile command) names arguments = Some (task.on_files (on_one command) names)
+task_meant (word.TwoFiles command) names arguments = Some (task.on_files (on_two command) names)
+task_meant (word.UnderGain command) names arguments =
     option_map (λ g. task.on_files (on_gain command g) names) (option_and_then gain_named arguments.gain)
-task_shown (word.WithPair command) words arguments = pair_task command words
-task_shown word.Make words arguments =
+task_meant (word.WithPair command) words arguments = pair_task command words
+task_meant word.Make words arguments =
     option_map (λ n. task.on_files (task.Make n) []) (option_and_then task.observations_of (of_words.first_of words))
-task_shown word.Refine names arguments = Some (task.on_files (task.Refine arguments.json) names)
-task_shown word.Check names arguments =
+task_meant word.Refine names arguments = Some (task.on_files (task.Refine arguments.json) names)
+task_meant word.Check names arguments =
     option_map (λ cert. task.on_files (task.Check cert) (of_words.others_of names)) (of_words.first_of names)
 
-abbrev pub row_shown : CommandRow → task.CommandRow
-row_shown row = record {
+abbrev pub row_meant : CommandRow → task.CommandRow
+row_meant row = record {
   values = row.values;
   needs_gain = row.needs_gain;
   takes_json = row.takes_json;
-  task = task_shown row.command;
+  task = task_meant row.command;
 }
 
 -- a flag that was used reads as `true`

@@ -2,7 +2,7 @@
 ghost use Rattle.std.specs.Prelude.{◌≡◌, IfOk, IsErrOf, None, Some, codes, map, string_bytes, unwrap_or, []};
 ghost use Rattle.clap.specs.Words.{all_of, app_of, found_of, rows_of};
 ghost use Rattle.kf_words.specs.Arguments.{command_line as line_of_commands, arguments_of as arguments_of_words, arguments_in};
-ghost use Rattle.kf_words.specs.CommandViews.{arguments_shown, is_set as is_set_in};
+ghost use Rattle.kf_words.specs.CommandViews.{arguments_meant, is_set as is_set_in};
 
 use crate::error::WordsError;
 use clap::error::ErrorKind;
@@ -75,7 +75,7 @@ fn values_of<'b, 'a>(matches: &'b ArgMatches<'a>) -> &'b [&'a str]
 
 /// The arguments, from what `clap` found.
 pub(crate) fn arguments_of<'b, 'a>(matches: &'b ArgMatches<'a>) -> Arguments<'b, 'a>
-    ensures { arguments_shown result ≡ arguments_in (rows_of (found_of matches.now)) }
+    ensures { arguments_meant result ≡ arguments_in (rows_of (found_of matches.now)) }
 {
     Arguments {
         values: values_of(matches),

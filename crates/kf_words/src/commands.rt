@@ -1,7 +1,7 @@
 //! The table of commands, by their words.
 ghost use Rattle.std.specs.Prelude.{◌≡◌, false, option_map, IfSome};
 ghost use Rattle.kf_words.specs.Task.{options_fit as fit, row_of as row_of_word};
-ghost use Rattle.kf_words.specs.CommandViews.{row_shown, arguments_shown, values_of};
+ghost use Rattle.kf_words.specs.CommandViews.{row_meant, arguments_meant, values_of};
 
 use crate::arguments::Arguments;
 
@@ -77,7 +77,7 @@ fn without_options(command: CommandWord, values: usize) -> CommandRow
 
 /// The row of a command's word.
 pub(crate) fn row_of(word: &str) -> Option<CommandRow>
-    ensures row { option_map row_shown result ≡ row_of_word word.now }
+    ensures row { option_map row_meant result ≡ row_of_word word.now }
     ensures values { IfSome result (λ row. row.values ≡ values_of row.command) }
 {
     match word {
@@ -113,7 +113,7 @@ pub(crate) fn row_of(word: &str) -> Option<CommandRow>
 
 /// Whether `--gain` stands exactly where it is needed, and `--json` only where it is taken.
 pub(crate) fn options_fit(row: CommandRow, arguments: &Arguments<'_, '_>) -> bool
-    ensures { result ≡ fit (row_shown row) (arguments_shown arguments.now) }
+    ensures { result ≡ fit (row_meant row) (arguments_meant arguments.now) }
 {
     row.needs_gain == arguments.gain.is_some() && (row.takes_json || !arguments.json)
 }

@@ -1,6 +1,6 @@
 //! The job of a command and the values after its word.
 ghost use Rattle.std.specs.Prelude.{◌≡◌, [], ◌∷◌, IfOk, IfSome, None, length, map, option_map, option_and_then};
-ghost use Rattle.kf_words.specs.CommandViews.{arguments_shown, on_gain, on_one, on_two, pair_task, task_shown, values_of};
+ghost use Rattle.kf_words.specs.CommandViews.{arguments_meant, on_gain, on_one, on_two, pair_task, task_meant, values_of};
 ghost use Rattle.kf_words.specs.GainWords.{gain_named};
 ghost use Rattle.kf_words.specs.Jobs.{gain_of, task_of_job, IsInRange};
 ghost use Rattle.kf_words.specs.Task.{Check, Refine, on_files};
@@ -150,8 +150,8 @@ pub(crate) fn job_on(
 ) -> Result<Option<Job>, Mem>
     requires { length values.now ≡ values_of command }
     ensures job { IfOk result (λ job. option_map task_of_job job
-        ≡ option_map (λ task. task turns) (task_shown command (map (λ v. v.now) values.now) (arguments_shown arguments.now))) }
-    ensures none { IfOk result (λ job. job ≡ None → task_shown command (map (λ v. v.now) values.now) (arguments_shown arguments.now) ≡ None) }
+        ≡ option_map (λ task. task turns) (task_meant command (map (λ v. v.now) values.now) (arguments_meant arguments.now))) }
+    ensures none { IfOk result (λ job. job ≡ None → task_meant command (map (λ v. v.now) values.now) (arguments_meant arguments.now) ≡ None) }
     ensures turns { IfOk result (λ job. IfSome job (λ job. (task_of_job job).turns ≡ turns)) }
     ensures range { IfOk result (λ job. IfSome job (λ job. IsInRange (task_of_job job).command)) }
 {

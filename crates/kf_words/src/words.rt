@@ -1,5 +1,5 @@
 ghost use Rattle.std.specs.Prelude.{◌≡◌, ◌≤◌, IfOk, IfSome, IsErrOf, None, Some, map, option_map, string_bytes};
-ghost use Rattle.kf_words.specs.CommandViews.{arguments_shown};
+ghost use Rattle.kf_words.specs.CommandViews.{arguments_meant};
 ghost use Rattle.kf_words.specs.Jobs.{task_of_job, HasTurns, IsInRange};
 ghost use Rattle.kf_words.specs.Task.{task_of, turns_of};
 ghost use Rattle.kf_words.specs.OfWords.{task_of_arguments};
@@ -28,8 +28,8 @@ fn turns_or_default(word: Option<&str>) -> Option<u32>
 
 // The job that parsed arguments ask for.
 fn job_of(alloc: Global, arguments: Arguments<'_, '_>) -> Result<Job, WordsError>
-    ensures job { IfOk result (λ job. task_of_arguments (arguments_shown arguments.entry) ≡ Some (task_of_job job)) }
-    ensures usage { IsErrOf result WordsError.Usage → task_of_arguments (arguments_shown arguments.entry) ≡ None }
+    ensures job { IfOk result (λ job. task_of_arguments (arguments_meant arguments.entry) ≡ Some (task_of_job job)) }
+    ensures usage { IsErrOf result WordsError.Usage → task_of_arguments (arguments_meant arguments.entry) ≡ None }
     ensures turns { IfOk result (λ job. HasTurns (task_of_job job)) }
     ensures range { IfOk result (λ job. IsInRange (task_of_job job).command) }
 {

@@ -8,8 +8,8 @@ use Rattle.kf_check.proofs.TargetFacts.{all_suit}
 use Rattle.kf_check.proofs.TargetTurns.{all_many, all_answer}
 use Rattle.kf_check.proofs.targets.all_variables.Goals as goal
 
-pub places-requires : goal.places-requires
-places-requires c =
+pub first_slots-requires : goal.first_slots-requires
+first_slots-requires c =
     let few = (facts_of (map variable_of c.args.variables.now) c.requires.declared).few in
     let types = length-map (map variable_of c.args.variables.now) (λ v. v.type) in
     let all = length-map c.args.variables.now variable_of in
@@ -27,4 +27,4 @@ invariant_of-result c =
 pub returns : goal.returns
 returns c =
     all_answer (map variable_of c.args.variables.now) (map item_of c.new.result) c.new-3.result c.new-4.result (length c.args.variables.now) (ap (map item_of) c.new.ensures ∙ c.in_ok-items.ensures.items)
-    (c.new-3.ensures ∙ c.new-2.ensures.items) (c.new-4.ensures ∙ c.in_ok-slots.ensures.places) (sym (length-map c.args.variables.now variable_of))
+    (c.new-3.ensures ∙ c.new-2.ensures.items) (c.new-4.ensures ∙ c.in_ok-slots.ensures.slots) (sym (length-map c.args.variables.now variable_of))

@@ -22,7 +22,7 @@ pub add_moves-requires-clause-fits : goal.add_moves-requires-clause-fits
 add_moves-requires-clause-fits c =
     let d = dx_tree c.args.dist.now in
     let e = c.args.entry in
-    let is = (chosen_at c.in_ok-place.ensures.found c.at-choice.ensures) in
+    let is = (chosen_at c.in_ok-choice_at.ensures.found c.at-choice.ensures) in
     let divides = moves_divide c.args.shape.now d e c.at-choice.result.now is c.requires.some c.args.slot c.requires.takes in
     let most = share_fits c.args.shape.now d e c.at-choice.result.now is c.requires.some divides in
     let same = ap (λ n. n * total (weighted_trees c.at-choice.result.now)) c.share_of-share.ensures in
@@ -38,5 +38,5 @@ returns-clause-added c =
       more = flat_map (moves ts c.args.slot e.value c.share_of-share.result) cs;
       is = c.in_ok-add_moves.ensures.added;
       shared = subst (λ n. IsShared (assigned silent ts c.args.slot d) (e ∷ []) (flat_map (moves ts c.args.slot e.value n) cs)) (sym c.share_of-share.ensures)
-          (moves_shared c.args.shape.now d e c.at-choice.result.now (chosen_at c.in_ok-place.ensures.found c.at-choice.ensures) c.requires.some c.args.slot c.requires.takes);
+          (moves_shared c.args.shape.now d e c.at-choice.result.now (chosen_at c.in_ok-choice_at.ensures.found c.at-choice.ensures) c.requires.some c.args.slot c.requires.takes);
     }

@@ -21,7 +21,7 @@ pub add_sides-requires : goal.add_sides-requires
 add_sides-requires c =
     let d = dx_tree c.args.dist.now in
     let e = c.args.entry in
-    let is = (chosen_at c.in_ok-place.ensures.found c.at-choice.ensures) in
+    let is = (chosen_at c.in_ok-choice_at.ensures.found c.at-choice.ensures) in
     let divides = sides_divide c.args.shape.now d e c.at-choice.result.now is c.requires.some c.requires.takes in
     let most = share_fits c.args.shape.now d e c.at-choice.result.now is c.requires.some divides in
     let same = ap (λ n. n * total (weighted_trees c.at-choice.result.now)) c.share_of-share.ensures in
@@ -37,7 +37,7 @@ returns-clause-taken c =
       more = flat_map (sides true e.value c.share_of-share.result) cs;
       is = c.in_ok-add_sides.ensures.taken;
       shared = subst (λ n. IsShared (side true (tried ts d)) (e ∷ []) (flat_map (sides true e.value n) cs)) (sym c.share_of-share.ensures)
-          (sides_shared c.args.shape.now d e c.at-choice.result.now (chosen_at c.in_ok-place.ensures.found c.at-choice.ensures) c.requires.some c.requires.takes true ((chosen_at c.in_ok-place.ensures.found c.at-choice.ensures).kinded TruthKind c.requires.kinded));
+          (sides_shared c.args.shape.now d e c.at-choice.result.now (chosen_at c.in_ok-choice_at.ensures.found c.at-choice.ensures) c.requires.some c.requires.takes true ((chosen_at c.in_ok-choice_at.ensures.found c.at-choice.ensures).kinded TruthKind c.requires.kinded));
     }
 
 pub returns-clause-left : goal.returns-clause-left
@@ -50,5 +50,5 @@ returns-clause-left c =
       more = flat_map (sides false e.value c.share_of-share.result) cs;
       is = c.in_ok-add_sides.ensures.left;
       shared = subst (λ n. IsShared (side false (tried ts d)) (e ∷ []) (flat_map (sides false e.value n) cs)) (sym c.share_of-share.ensures)
-          (sides_shared c.args.shape.now d e c.at-choice.result.now (chosen_at c.in_ok-place.ensures.found c.at-choice.ensures) c.requires.some c.requires.takes false ((chosen_at c.in_ok-place.ensures.found c.at-choice.ensures).kinded TruthKind c.requires.kinded));
+          (sides_shared c.args.shape.now d e c.at-choice.result.now (chosen_at c.in_ok-choice_at.ensures.found c.at-choice.ensures) c.requires.some c.requires.takes false ((chosen_at c.in_ok-choice_at.ensures.found c.at-choice.ensures).kinded TruthKind c.requires.kinded));
     }

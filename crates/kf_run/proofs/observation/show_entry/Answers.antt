@@ -24,7 +24,7 @@ pub add_leaks-requires-clause-fits : goal.add_leaks-requires-clause-fits
 add_leaks-requires-clause-fits c =
     let d = dx_tree c.args.dist.now in
     let e = c.args.entry in
-    let is = (chosen_at c.in_ok-place.ensures.found c.at-choice.ensures) in
+    let is = (chosen_at c.in_ok-choice_at.ensures.found c.at-choice.ensures) in
     let divides = shows_divide c.args.shape.now d e c.at-choice.result.now is c.requires.some c.args.into c.requires.takes in
     let most = share_fits c.args.shape.now d e c.at-choice.result.now is c.requires.some divides in
     let same = ap (λ n. n * total (weighted_trees c.at-choice.result.now)) c.share_of-share.ensures in
@@ -40,5 +40,5 @@ returns-clause-added c =
       more = flat_map (shows ts c.args.into e.value c.share_of-share.result) cs;
       is = c.in_ok-add_leaks.ensures.added;
       shared = subst (λ n. IsShared (shown_to ts c.args.into d) (e ∷ []) (flat_map (shows ts c.args.into e.value n) cs)) (sym c.share_of-share.ensures)
-          (shows_shared c.args.shape.now d e c.at-choice.result.now (chosen_at c.in_ok-place.ensures.found c.at-choice.ensures) c.requires.some c.args.into c.requires.takes);
+          (shows_shared c.args.shape.now d e c.at-choice.result.now (chosen_at c.in_ok-choice_at.ensures.found c.at-choice.ensures) c.requires.some c.args.into c.requires.takes);
     }

@@ -71,7 +71,7 @@ push_loop-loop-turn-init t c =
     (silencing.all c.args.shape.now c.args.turns (silent_at c.args.silent) 0 (map st_tree c.args.body.now)) c.args.columns.now
     (dist_filled (shape_types c.args.shape.now) (dx_tree c.args.test.now) c.requires.kinded)
     (silencing.all_carries c.args.shape.now c.args.turns (silent_at c.args.silent) 0 (map st_tree c.args.body.now) c.requires.sound) c.requires.can
-    (c.args.turns - 0) c.in_ok-asking.asking c.none_of-left.result (omega arith) c.in_ok-asking.ensures c.none_of-left.ensures
+    (c.args.turns - 0) c.in_ok-asking.asking c.none_of-gone.result (omega arith) c.in_ok-asking.ensures c.none_of-gone.ensures
 
 pub push_loop-returns-then-is_empty : goal.push_loop-returns-then-is_empty
 push_loop-returns-then-is_empty t c = loop.none_asks _ _ _ _ _ _ _ _ _ c.loop-turn.invariant (search rules)
@@ -132,7 +132,7 @@ push_loop-loop-turn-preserved t c =
       whole = c.in_ok-sides.ensures.mass;
     } in
     loop.turns_on _ _ _ _ _ _ _ _ _ c.loop-turn.invariant c.in_ok-sides.sides.taken c.in_ok-sides.sides.left sides _ later
-    c.in_ok-left.left c.in_ok-asking-2.asking c.in_ok-left.ensures.merged c.in_ok-left.ensures.scale c.in_ok-asking-2.ensures
+    c.in_ok-gone.gone c.in_ok-asking-2.asking c.in_ok-gone.ensures.merged c.in_ok-gone.ensures.scale c.in_ok-asking-2.ensures
 
 pub push_loop-guard-requires-2-clause-below : goal.push_loop-guard-requires-2-clause-below
 push_loop-guard-requires-2-clause-below t c = c.loop-turn.invariant.on.can.below
@@ -367,8 +367,8 @@ pub push_seen-push_loop-requires : goal.push_seen-push_loop-requires
 push_seen-push_loop-requires t c =
     let ks = shape_kinds c.args.shape.now in
     let same = form.while_runs c.args.shape.now c.args.turns c.args.statement.now (silent_at c.args.silent) c.requires.seen
-    c.in-While.test c.in-While.body c.in-While.is c.as_slice-in-While.result.now c.as_slice-in-While.ensures (silent_at c.within-turned.result)
-    c.within-turned.ensures in (
+    c.in-While.test c.in-While.body c.in-While.is c.as_slice-in-While.result.now c.as_slice-in-While.ensures (silent_at c.within-in_body.result)
+    c.within-in_body.ensures in (
       search (rules, the_lemmas),
       (
         sound.while_guard ks c.args.statement.now c.requires.sound c.in-While.test c.in-While.body c.in-While.is,
@@ -384,8 +384,8 @@ pub push_seen-returns-in-While : goal.push_seen-returns-in-While
 push_seen-returns-in-While t c =
     subst (λ (from : Runner). IfOk c.push_loop.result (HasGone from (shape_size c.args.shape.now) c.args.columns.now))
     (form.while_runs c.args.shape.now c.args.turns c.args.statement.now (silent_at c.args.silent) c.requires.seen
-    c.in-While.test c.in-While.body c.in-While.is c.as_slice-in-While.result.now c.as_slice-in-While.ensures (silent_at c.within-turned.result)
-    c.within-turned.ensures) c.push_loop.ensures
+    c.in-While.test c.in-While.body c.in-While.is c.as_slice-in-While.result.now c.as_slice-in-While.ensures (silent_at c.within-in_body.result)
+    c.within-in_body.ensures) c.push_loop.ensures
 
 pub push_seen-guard-requires-clause-kinded : goal.push_seen-guard-requires-clause-kinded
 push_seen-guard-requires-clause-kinded t c = sound.if_guard (shape_kinds c.args.shape.now) c.args.statement.now c.requires.sound c.in-If.test c.in-If.yes
@@ -418,7 +418,7 @@ push_seen-push_all-requires t c =
           pushed_again (side true (tried (shape_types c.args.shape.now) (dx_tree c.in-If.test))) c.args.columns.now.columns
               c.in_ok-sides-in-If.sides.taken.columns sides.to_taken,
           form.takes_yes c.args.shape.now c.args.turns c.args.statement.now (silent_at c.args.silent) c.requires.seen
-              c.requires.sound c.in-If.test c.in-If.yes c.in-If.no c.in-If.is c.as_slice.result.now (st_items c.in-If.no) c.as_slice.ensures refl (silent_at c.within-taken.result) (within (silent_at c.args.silent) 1) c.within-taken.ensures (λ path. refl)
+              c.requires.sound c.in-If.test c.in-If.yes c.in-If.no c.in-If.is c.as_slice.result.now (st_items c.in-If.no) c.as_slice.ensures refl (silent_at c.within-in_yes.result) (within (silent_at c.args.silent) 1) c.within-in_yes.ensures (λ path. refl)
               c.args.columns.now c.requires.can c.in_ok-sides-in-If.sides.taken c.in_ok-sides-in-If.sides.left sides,
         ),
       ),
@@ -445,7 +445,7 @@ push_seen-push_all-requires-in-If t c =
           pushed_again (side false (tried (shape_types c.args.shape.now) (dx_tree c.in-If.test))) c.args.columns.now.columns
               c.in_ok-sides-in-If.sides.left.columns sides.to_left,
           form.takes_no c.args.shape.now c.args.turns c.args.statement.now (silent_at c.args.silent) c.requires.seen
-              c.requires.sound c.in-If.test c.in-If.yes c.in-If.no c.in-If.is c.as_slice.result.now c.as_slice-in-If.result.now c.as_slice.ensures c.as_slice-in-If.ensures (silent_at c.within-taken.result) (silent_at c.within-left.result) c.within-taken.ensures c.within-left.ensures
+              c.requires.sound c.in-If.test c.in-If.yes c.in-If.no c.in-If.is c.as_slice.result.now c.as_slice-in-If.result.now c.as_slice.ensures c.as_slice-in-If.ensures (silent_at c.within-in_yes.result) (silent_at c.within-in_no.result) c.within-in_yes.ensures c.within-in_no.ensures
               c.args.columns.now c.requires.can c.in_ok-sides-in-If.sides.taken c.in_ok-sides-in-If.sides.left sides,
         ),
       ),
@@ -465,7 +465,7 @@ push_seen-merge_both-requires-clause-fits t c =
       whole = c.in_ok-sides-in-If.ensures.mass;
     } in
     form.both_fit c.args.shape.now c.args.turns c.args.statement.now (silent_at c.args.silent) c.requires.seen
-    c.requires.sound c.in-If.test c.in-If.yes c.in-If.no c.in-If.is c.as_slice.result.now c.as_slice-in-If.result.now c.as_slice.ensures c.as_slice-in-If.ensures (silent_at c.within-taken.result) (silent_at c.within-left.result) c.within-taken.ensures c.within-left.ensures
+    c.requires.sound c.in-If.test c.in-If.yes c.in-If.no c.in-If.is c.as_slice.result.now c.as_slice-in-If.result.now c.as_slice.ensures c.as_slice-in-If.ensures (silent_at c.within-in_yes.result) (silent_at c.within-in_no.result) c.within-in_yes.ensures c.within-in_no.ensures
     c.args.columns.now c.requires.can c.in_ok-sides-in-If.sides.taken c.in_ok-sides-in-If.sides.left sides
     c.in_ok-one-in-If.one c.in_ok-other-in-If.other c.in_ok-one-in-If.ensures c.in_ok-other-in-If.ensures
 
@@ -483,7 +483,7 @@ push_seen-returns-in_ok-after-in-If t c =
       whole = c.in_ok-sides-in-If.ensures.mass;
     } in
     form.both_gone c.args.shape.now c.args.turns c.args.statement.now (silent_at c.args.silent) c.requires.seen
-    c.requires.sound c.in-If.test c.in-If.yes c.in-If.no c.in-If.is c.as_slice.result.now c.as_slice-in-If.result.now c.as_slice.ensures c.as_slice-in-If.ensures (silent_at c.within-taken.result) (silent_at c.within-left.result) c.within-taken.ensures c.within-left.ensures
+    c.requires.sound c.in-If.test c.in-If.yes c.in-If.no c.in-If.is c.as_slice.result.now c.as_slice-in-If.result.now c.as_slice.ensures c.as_slice-in-If.ensures (silent_at c.within-in_yes.result) (silent_at c.within-in_no.result) c.within-in_yes.ensures c.within-in_no.ensures
     c.args.columns.now c.requires.can c.in_ok-sides-in-If.sides.taken c.in_ok-sides-in-If.sides.left sides
     c.in_ok-one-in-If.one c.in_ok-other-in-If.other c.in_ok-one-in-If.ensures c.in_ok-other-in-If.ensures c.in_ok-after-in-If.after
     c.in_ok-after-in-If.ensures.merged c.in_ok-after-in-If.ensures.scale

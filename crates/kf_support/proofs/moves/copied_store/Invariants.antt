@@ -7,6 +7,6 @@ use Rattle.kf_support.proofs.moves.copied_store.Given as goal
 
 abbrev pub invariant-loop-slot : goal.invariant-loop-slot
 invariant-loop-slot l = record {
-  place : l.place ≡ length (dx_items l.program.decls) + l.slot-index;
-  copies : Copies (program_tree l.program) (product (shape_sizes l.program.shape)) l.initial.after l.place (drop l.slot-index l.program.copies) l.after;
+  to : l.to ≡ length (dx_items l.program.decls) + l.slot-index;
+  copies : Copies (program_tree l.program) (product (shape_sizes l.program.shape)) l.initial.after l.to (drop l.slot-index l.program.copies) l.after;
 }

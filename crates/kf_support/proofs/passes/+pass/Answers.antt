@@ -41,28 +41,28 @@ pass_all-loop-statement-preserved t c =
 pub pass_while-returns-then-is_empty-clause-answer : goal.pass_while-returns-then-is_empty-clause-answer
 pass_while-returns-then-is_empty-clause-answer t c =
     let taken = rw c.as_slice.ensures.value at c.in_ok-branches.ensures.taken in
-    let left = rw c.as_slice.ensures.value at c.in_ok-branches.ensures.left ∙ (λ i. Ok (sym c.in_ok-left.ensures.same i)) in
-    pass.none_taken c.args.shape.now c.args.turns c.args.test.now (map st_tree c.args.body.now) _ c.loop-turn._turn c.loop-turn.left.items c.loop-turn.states.items c.loop-turn.invariant
-    (omega arith) c.in_ok-branches.branches.taken.items c.in_ok-left.left.items taken left c.carry_laws.ensures.nothing
+    let left = rw c.as_slice.ensures.value at c.in_ok-branches.ensures.left ∙ (λ i. Ok (sym c.in_ok-gone.ensures.same i)) in
+    pass.none_taken c.args.shape.now c.args.turns c.args.test.now (map st_tree c.args.body.now) _ c.loop-turn._turn c.loop-turn.gone.items c.loop-turn.states.items c.loop-turn.invariant
+    (omega arith) c.in_ok-branches.branches.taken.items c.in_ok-gone.gone.items taken left c.carry_laws.ensures.nothing
     (pass.no_stores c.in_ok-branches.branches.taken.items (search rules))
     ∙ (λ i. Ok (sym c.in_ok-reached.ensures.settled i))
 
 pub pass_while-returns-in_err-states-clause-answer : goal.pass_while-returns-in_err-states-clause-answer
 pass_while-returns-in_err-states-clause-answer t c =
     let taken = rw c.as_slice.ensures.value at c.in_ok-branches.ensures.taken in
-    let left = rw c.as_slice.ensures.value at c.in_ok-branches.ensures.left ∙ (λ i. Ok (sym c.in_ok-left.ensures.same i)) in
+    let left = rw c.as_slice.ensures.value at c.in_ok-branches.ensures.left ∙ (λ i. Ok (sym c.in_ok-gone.ensures.same i)) in
     let p = err_from_is_err_and c.from_residual-in_err-states.result c.from_residual-in_err-states.ensures.1 in
     rw (p.1, p.2)
-    (pass.body_fails c.args.shape.now c.args.turns c.args.test.now (map st_tree c.args.body.now) _ c.loop-turn._turn c.loop-turn.left.items c.loop-turn.states.items c.loop-turn.invariant
-    (omega arith) c.in_ok-branches.branches.taken.items c.in_ok-left.left.items taken left c.in_err-states.field-0.0 c.in_err-states.ensures.answer)
+    (pass.body_fails c.args.shape.now c.args.turns c.args.test.now (map st_tree c.args.body.now) _ c.loop-turn._turn c.loop-turn.gone.items c.loop-turn.states.items c.loop-turn.invariant
+    (omega arith) c.in_ok-branches.branches.taken.items c.in_ok-gone.gone.items taken left c.in_err-states.field-0.0 c.in_err-states.ensures.answer)
 
 pub pass_while-loop-turn-preserved : goal.pass_while-loop-turn-preserved
 pass_while-loop-turn-preserved t c =
     let taken = rw c.as_slice.ensures.value at c.in_ok-branches.ensures.taken in
-    let left = rw c.as_slice.ensures.value at c.in_ok-branches.ensures.left ∙ (λ i. Ok (sym c.in_ok-left.ensures.same i)) in
-    pass.body_done c.args.shape.now c.args.turns c.args.test.now (map st_tree c.args.body.now) _ c.loop-turn._turn c.loop-turn.left.items c.loop-turn.states.items c.loop-turn.invariant
-    (omega arith) c.in_ok-branches.branches.taken.items c.in_ok-left.left.items taken left
-    c.in_ok-states.states.items c.in_ok-states.ensures.answer c.in_ok-states.ensures.ways (c.in_ok-left.ensures.ways (product (shape_sizes c.args.shape.now)) c.in_ok-branches.ensures.ways.1)
+    let left = rw c.as_slice.ensures.value at c.in_ok-branches.ensures.left ∙ (λ i. Ok (sym c.in_ok-gone.ensures.same i)) in
+    pass.body_done c.args.shape.now c.args.turns c.args.test.now (map st_tree c.args.body.now) _ c.loop-turn._turn c.loop-turn.gone.items c.loop-turn.states.items c.loop-turn.invariant
+    (omega arith) c.in_ok-branches.branches.taken.items c.in_ok-gone.gone.items taken left
+    c.in_ok-states.states.items c.in_ok-states.ensures.answer c.in_ok-states.ensures.ways (c.in_ok-gone.ensures.ways (product (shape_sizes c.args.shape.now)) c.in_ok-branches.ensures.ways.1)
 
 pub pass-pass_all-requires : goal.pass-pass_all-requires
 pass-pass_all-requires t c =
@@ -84,15 +84,15 @@ pass_while-returns-in_err-branches-clause-answer t c =
     let p = err_from_is_err_and c.from_residual.result c.from_residual.ensures.1 in
     let fault = rw c.as_slice.ensures.value at c.in_err-branches.ensures.fault in
     rw (p.1, p.2)
-    (pass.guard_fails c.args.shape.now c.args.turns c.args.test.now (map st_tree c.args.body.now) _ c.loop-turn._turn c.loop-turn.left.items c.loop-turn.states.items c.loop-turn.invariant
+    (pass.guard_fails c.args.shape.now c.args.turns c.args.test.now (map st_tree c.args.body.now) _ c.loop-turn._turn c.loop-turn.gone.items c.loop-turn.states.items c.loop-turn.invariant
     (omega arith) c.in_err-branches.field-0.0 fault)
 
 pub pass_while-returns-then-is_empty-clause-ways : goal.pass_while-returns-then-is_empty-clause-ways
 pass_while-returns-then-is_empty-clause-ways t c =
     let size = product (shape_sizes c.args.shape.now) in
-    settled_reached size c.in_ok-left.left.items c.in_ok-reached.reached.items (c.in_ok-left.ensures.ways size c.in_ok-branches.ensures.ways.1) c.in_ok-reached.ensures.settled
+    settled_reached size c.in_ok-gone.gone.items c.in_ok-reached.reached.items (c.in_ok-gone.ensures.ways size c.in_ok-branches.ensures.ways.1) c.in_ok-reached.ensures.settled
 
 pub pass_while-settled-requires : goal.pass_while-settled-requires
 pass_while-settled-requires t c =
     let size = product (shape_sizes c.args.shape.now) in
-    record { ways = (size, c.in_ok-left.ensures.ways size c.in_ok-branches.ensures.ways.1) }
+    record { ways = (size, c.in_ok-gone.ensures.ways size c.in_ok-branches.ensures.ways.1) }

@@ -9,4 +9,4 @@ invariant-pass_all-loop-statement l =
 
 abbrev pub invariant-pass_while-loop-turn : goal.invariant-pass_while-loop-turn
 invariant-pass_while-loop-turn l =
-    LoopSoFar l.shape l.turns l.test (map st_tree l.body) (turns_left l.shape l.turns l.test (map st_tree l.body) l.turns [] l.initial.states.items) l._turn l.left.items l.states.items
+    LoopSoFar l.shape l.turns l.test (map st_tree l.body) (turns_left l.shape l.turns l.test (map st_tree l.body) l.turns [] l.initial.states.items) l._turn l.gone.items l.states.items

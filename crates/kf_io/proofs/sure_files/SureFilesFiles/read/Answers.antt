@@ -12,7 +12,7 @@ returns-clause-given c =
     let name = c.args.name.now in
     let held : c.self.inside.files ≡ files = ap (λ (s : SureState). s.files) c.self.view_is in
     let place = ap (position (has_name name)) (c.as_slice.ensures ∙ held) in
-    elim c.match-place_of.branch [
+    elim c.match-index_of.branch [
       | in-Some w ↦
           let file = w.index-as_slice-place.result in
           rw (w.result-is, w.buf-is) (gives_found files name w.in-Some.place file _ _ _

@@ -45,7 +45,9 @@ impl Column {
     /// That it names each of its values once, in ascending order and with a weight, as its type promises. It does nothing when it runs.
     pub fn is_column(&self)
         ensures { IsColumn self.now }
-    {}
+    {
+        let _ = &self.entries;
+    }
 
     pub(crate) fn into_entries(self) -> Vec<Entry>
         ensures kept { result.items ≡ self }

@@ -1,5 +1,5 @@
 // Each public call on its happy path, and what no clause says: what real files and streams do.
-use crate::tests::is_text;
+use crate::tests::{holds, is_same, is_text};
 use kf_io::{
     ByteList, CallList, Failed, FileEntry, FileList, FileName, Files, HostFiles, HostSink,
     MemFiles, MemSink, ReadError, Sink, SureFiles, read_whole, write_all, write_pieces,
@@ -66,10 +66,7 @@ fn files_in_memory_fail_by_number_and_name(rt: HostRuntime) {
     let mut files = files.expect(&rt, "memory");
     let mut buf = [0u8; 8];
     for (name, at, want) in &MEMORY_READS {
-        assert!(rt;
-            gives(&mut files, name, *at, &mut buf, *want),
-            "{name} at {at}"
-        );
+        holds(&rt, gives(&mut files, name, *at, &mut buf, *want), name);
     }
 }
 
@@ -86,7 +83,7 @@ const WHOLE: [(&str, &str); 3] = [("a", "abc"), ("b", ""), ("c", "")];
 fn sure_files_are_read_whole(rt: HostRuntime) {
     let mut files = SureFiles::new(three_files(&rt), 2);
     for (name, want) in &WHOLE {
-        assert!(rt; has_whole(rt.alloc(), &mut files, name, want), "{name}");
+        holds(&rt, has_whole(rt.alloc(), &mut files, name, want), name);
     }
 }
 
@@ -111,7 +108,7 @@ const LENGTHS: [(usize, Result<usize, ReadError>); 2] = [
 #[test]
 fn a_file_of_more_than_the_limit_is_too_long(rt: HostRuntime) {
     for (size, want) in &LENGTHS {
-        assert!(rt; length_read(&rt, *size) == *want, "{size}");
+        is_same(&rt, size, &length_read(&rt, *size), want);
     }
 }
 
@@ -138,10 +135,8 @@ fn a_sink_in_memory_takes_what_its_room_and_calls_allow(rt: HostRuntime) {
     for (room, fail, want) in &TAKEN {
         let mut sink = sink(&rt, *room, fail);
         let all = takes(&mut sink);
-        assert!(rt;
-            all == (want.len() == 9) && sink.bytes() == want.as_bytes(),
-            "{want}"
-        );
+        let is_right = all == (want.len() == 9) && sink.bytes() == want.as_bytes();
+        holds(&rt, is_right, want);
     }
 }
 
@@ -171,10 +166,8 @@ fn files_of_the_system_are_read_by_name_and_place(rt: HostRuntime) {
     let mut buf = [0u8; 4];
     for (name, at, want) in &SYSTEM_READS {
         let path = own_path(&rt, process, name);
-        assert!(rt;
-            gives(&mut files, path.as_str(), *at, &mut buf, *want),
-            "{name} at {at}"
-        );
+        let is_read = gives(&mut files, path.as_str(), *at, &mut buf, *want);
+        holds(&rt, is_read, name);
     }
     assert!(rt; has_whole(rt.alloc(), &mut files, second.as_str(), "second"));
     fs::remove_file(&rt, first.as_str()).expect(&rt, "the first file");

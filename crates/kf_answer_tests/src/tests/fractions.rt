@@ -1,5 +1,5 @@
 // Fractions, divisors and products, worked out by hand.
-use crate::tests::is_text;
+use crate::tests::{is_same, is_text};
 use kf_frac::{Frac, Product, Wide, add, cmp, gcd, lcm, make, mul, quotient, share};
 use std::alloc::AllocError;
 use std::cmp::Ordering;
@@ -51,7 +51,7 @@ const MADE: [(i128, u128, Option<Parts>); 7] = [
 fn makes_lowest_terms(rt: HostRuntime) {
     for (num, den, want) in &MADE {
         let got = narrow_parts(made(&rt, *num, *den));
-        assert_eq!(rt; got, *want, "{num}/{den}");
+        is_same(&rt, &(num, den), &got, want);
     }
 }
 
@@ -88,7 +88,7 @@ const SUMS: [Row; 5] = [
 fn adds_exactly(rt: HostRuntime) {
     for (a, b, want) in &SUMS {
         let got = narrow_parts(add(fraction(&rt, *a), fraction(&rt, *b)));
-        assert_eq!(rt; got, *want, "{a:?} + {b:?}");
+        is_same(&rt, &(a, b), &got, want);
     }
 }
 
@@ -104,7 +104,7 @@ const PRODUCTS: [Row; 5] = [
 fn multiplies_exactly(rt: HostRuntime) {
     for (a, b, want) in &PRODUCTS {
         let got = narrow_parts(mul(fraction(&rt, *a), fraction(&rt, *b)));
-        assert_eq!(rt; got, *want, "{a:?} * {b:?}");
+        is_same(&rt, &(a, b), &got, want);
     }
 }
 
@@ -125,7 +125,7 @@ const ORDERS: [(Parts, Parts, Ordering); 5] = [
 fn compares_exactly(rt: HostRuntime) {
     for (a, b, want) in &ORDERS {
         let got = cmp(fraction(&rt, *a), fraction(&rt, *b));
-        assert_eq!(rt; got, *want, "{a:?} beside {b:?}");
+        is_same(&rt, &(a, b), &got, want);
     }
 }
 
@@ -153,14 +153,14 @@ fn multiple(rt: &impl Abort, a: u128, b: u128) -> Option<u128> {
 #[test]
 fn finds_divisors(rt: HostRuntime) {
     for (a, b, want) in &DIVISORS {
-        assert_eq!(rt; gcd(*a, *b), *want, "of {a} and {b}");
+        is_same(&rt, &(a, b), &gcd(*a, *b), want);
     }
 }
 
 #[test]
 fn finds_multiples(rt: HostRuntime) {
     for (a, b, want) in &MULTIPLES {
-        assert_eq!(rt; multiple(&rt, *a, *b), *want, "of {a} and {b}");
+        is_same(&rt, &(a, b), &multiple(&rt, *a, *b), want);
     }
 }
 
@@ -181,7 +181,7 @@ fn divided(rt: &impl Abort, a: u128, b: u128) -> u128 {
 #[test]
 fn divides_in_each_width(rt: HostRuntime) {
     for (a, b, want) in &QUOTIENTS {
-        assert_eq!(rt; divided(&rt, *a, *b), *want, "{a} by {b}");
+        is_same(&rt, &(a, b), &divided(&rt, *a, *b), want);
     }
 }
 
@@ -202,7 +202,7 @@ const BESIDE_SQUARES: [(u128, u128, Ordering); 3] = [
 fn compares_sums_of_products(rt: HostRuntime) {
     for (a, b, want) in &BESIDE_SQUARES {
         let got = two_squares_beside(*a, *b);
-        assert_eq!(rt; got, Some(*want), "two squares beside {a} * {b}");
+        is_same(&rt, &(a, b), &got, &Some(*want));
     }
 }
 
@@ -231,6 +231,6 @@ const SHARES: [(u128, u128, Parts); 3] = [(6, 8, (3, 4)), (0, 8, (0, 1)), (LIMIT
 #[test]
 fn shares_a_whole(rt: HostRuntime) {
     for (part, whole, want) in &SHARES {
-        assert_eq!(rt; shared(&rt, *part, *whole), *want, "{part} of {whole}");
+        is_same(&rt, &(part, whole), &shared(&rt, *part, *whole), want);
     }
 }

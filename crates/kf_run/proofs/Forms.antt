@@ -22,7 +22,7 @@ use Rattle.kf_silent.specs.Quiet.{hushed}
 use Rattle.kf_push.proofs.Carrying.{Runner}
 use Rattle.kf_silent.specs.Silent.{Path, within}
 use Rattle.kf_run.specs.Following.{shown_to}
-use Rattle.kf_run.specs.Going.{CanGo, HasGone}
+use Rattle.kf_run.specs.Going.{AreSides, CanGo, HasGone}
 use Rattle.kf_run.proofs.Onward as onward
 use Rattle.kf_run.proofs.Silencing.{all, all_carries, one, same_all}
 
@@ -101,7 +101,7 @@ module _ (shape : Shape) (turns : ℕ) (s : St) (silent : Path → Bool) (outsid
     pub asks_guard : Goes (observed (tried (shape_types shape) (dx_tree d))) now.columns
     asks_guard = onward.can_guard size (tried ts (dx_tree d)) filled taken left yes_carries no_carries now can_branch
 
-    module _ (on_yes on_no : Joint) (sides : onward.AreSides (shape_size shape) (tried (shape_types shape) (dx_tree d)) now on_yes on_no) where
+    module _ (on_yes on_no : Joint) (sides : AreSides (shape_size shape) (tried (shape_types shape) (dx_tree d)) now on_yes on_no) where
       pub takes_yes : CanGo (all shape turns yes 0 (map st_tree us)) (shape_size shape) on_yes
       takes_yes = onward.can_take size (tried ts (dx_tree d)) filled taken left yes_carries no_carries now can_branch on_yes on_no sides
 

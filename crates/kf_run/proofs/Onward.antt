@@ -13,7 +13,7 @@ use Rattle.kf_core.proofs.Measures.{Full}
 use Rattle.kf_core.proofs.WeightKept.{Keeps}
 use Rattle.kf_push.specs.Following.{Goes, observed, side}
 use Rattle.kf_push.specs.Merging.{SplitsOnce}
-use Rattle.kf_run.specs.Going.{CanGo, HasGone}
+use Rattle.kf_run.specs.Going.{AreSides, CanGo, HasGone}
 use Rattle.kf_column.proofs.Beliefs.{merged_below}
 use Rattle.kf_push.proofs.Carrying.{Runner, Matrix, goes_behind, pushed_chain, pushed_columns, pushed_stay}
 use Rattle.kf_push.proofs.Readying.{mass_kept}
@@ -32,16 +32,6 @@ pub record Carries (from : Runner) : Type 0 where
 -- no weight is lost
 pub carried_mass : (from : Runner) (columns after : Matrix) → Carries from → Goes from columns → IsPushed from columns after → mass after ≡ mass columns
 carried_mass from columns after carries goes pushed = mass_kept from carries.keeps columns after goes pushed
-
--- columns on each side of a guard
-pub record AreSides (size : ℕ) (guard : ℕ → Tried) (now taken left : Joint) : Type 0 where
-  pub to_taken : IsPushed (side true guard) now.columns taken.columns
-  pub to_left : IsPushed (side false guard) now.columns left.columns
-  pub scale_taken : taken.scale ≡ now.scale
-  pub scale_left : left.scale ≡ now.scale
-  pub below_taken : All (IsBelow size) taken.columns
-  pub below_left : All (IsBelow size) left.columns
-  pub whole : mass taken.columns + mass left.columns ≡ mass now.columns
 
 module _ (size : ℕ) where
   -- behind some runs: what the others come to from here, all come to from the start

@@ -8,9 +8,9 @@ use Rattle.kf_column.specs.Shapes.{IsBelow}
 use Rattle.kf_core.specs.Runs.{LoopBound, Tried, chain, looped, stay, stopped}
 use Rattle.kf_core.proofs.Filled.{Filled, chain_full, looped_full}
 use Rattle.kf_push.specs.Following.{Goes, observed, side}
-use Rattle.kf_run.specs.Going.{CanGo, HasGone}
+use Rattle.kf_run.specs.Going.{AreSides, CanGo, HasGone}
 use Rattle.kf_column.proofs.Beliefs.{merged_again, merged_below, merged_columns, merged_mass, merged_none}
-use Rattle.kf_run.proofs.Onward.{AreSides, Carries, carried_mass, mass_both}
+use Rattle.kf_run.proofs.Onward.{Carries, carried_mass, mass_both}
 use Rattle.kf_push.proofs.Carrying.{Runner, Matrix, pushed_columns}
 use Rattle.kf_push.proofs.Statements.{ComesTo, all_turned, goes_body, goes_guard, goes_next, turned, turned_last, turned_none}
 
@@ -162,6 +162,13 @@ module _ (size : ℕ) (guard : ℕ → Tried) (at turns : ℕ) (body : Runner) (
     -- the guard can be asked
     pub asks_again : Goes (observed guard) asking.columns
     asks_again = asks size guard here.filled at turns body here.carries rest asking.columns here.on.can.goes
+
+    -- those that ask and those that have left are over one scale, and fit into it
+    pub one_scale : asking.scale ≡ left.scale
+    one_scale = here.on.scale ∙ sym here.on.left_scale
+
+    pub both_fit : mass asking.columns + mass left.columns ≤ asking.scale
+    both_fit = omega (arith, here.on.fits, here.on.scale)
 
     -- where no column asks, the loop ends
     pub none_asks : length asking.columns ≡ 0 → HasGone (looped turns guard at body) size before left

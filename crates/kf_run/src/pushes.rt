@@ -4,7 +4,7 @@ ghost use Rattle.std.specs.Prelude.{◌≡◌, ◌≤◌, ◌<◌, ◌+◌, ◌-
 ghost use Rattle.kf_value.specs.Kinds.{TruthKind};
 ghost use Rattle.kf_value.specs.Shapes.{shape_size, shape_types};
 ghost use Rattle.kf_column.specs.Columns.{total};
-ghost use Rattle.kf_column.specs.Joint.{IsJoint, mass};
+ghost use Rattle.kf_column.specs.Joint.{Joint, IsJoint, mass};
 ghost use Rattle.kf_column.specs.Merged.{AreMerged};
 ghost use Rattle.kf_column.specs.Shapes.{IsBelow};
 ghost use Rattle.kf_core.specs.Checked.{AreSound, DistKinded, IsSound};
@@ -17,11 +17,12 @@ ghost use Rattle.kf_eval.specs.Kinds.{shape_kinds};
 ghost use Rattle.kf_support.specs.Cleared.{program_of, turns_of, whole_scale};
 ghost use Rattle.kf_silent.specs.Quiet.{hushed};
 ghost use Rattle.kf_silent.specs.Silent.{all_silent_runs, silent_runs};
-ghost use Rattle.kf_run.specs.Going.{CanGo, HasGone};
+ghost use Rattle.kf_push.specs.Following.{Goes, observed};
+ghost use Rattle.kf_run.specs.Going.{AreSides, CanGo, HasGone};
 ghost use Rattle.kf_run.specs.Silence.{silent_at};
 
 use crate::silence::{is_itself, within};
-use crate::steps::{assignment, guard, show};
+use crate::steps::{Sides, assignment, guard, show};
 use kf_core::{Dx, St, run_laws};
 use kf_hyper::{Column, ColumnList, Columns, join, merge, merge_owned};
 use kf_push::{alone, are_columns, sum_of};
@@ -166,6 +167,24 @@ fn push_seen(
     }
 }
 
+/// The columns that ask a loop's guard parted by its value, with those that leave added to those that left before.
+fn asked(alloc: Global, shape: &Shape, test: &Dx, sides: Sides) -> Result<Sides, Mem>
+    requires kinded { DistKinded (shape_kinds shape.now) (dx_tree test.now) TruthKind }
+    requires below { All (IsBelow (shape_size shape.now)) sides.taken.columns }
+    requires goes { Goes (observed (tried (shape_types shape.now) (dx_tree test.now))) sides.taken.columns }
+    requires scale { sides.taken.scale ≡ sides.left.scale }
+    requires fits { mass sides.taken.columns + mass sides.left.columns ≤ sides.taken.scale }
+    ensures { IfOk result (λ after. (gone : Joint) × AreSides (shape_size shape.now) (tried (shape_types shape.now) (dx_tree test.now)) sides.taken after.taken gone
+        × AreMerged (sides.left.columns ++ gone.columns) after.left.columns × (after.left.scale ≡ sides.left.scale)) }
+{
+    let parted = guard(alloc, shape, test, &sides.taken)?;
+    let left = merge_both(alloc, sides.left, parted.left)?;
+    Ok(Sides {
+        taken: parted.taken,
+        left,
+    })
+}
+
 /// What columns become in a loop with at most so many turns, where this statement of its body is silent in each turn.
 ///
 /// Behind each turn those that leave join those that left before, and the others ask the guard again.
@@ -184,19 +203,25 @@ fn push_loop(
     requires can { CanGo (looped turns (tried (shape_types shape.now) (dx_tree test.now)) (place (dx_tree test.now)) (all_silent_runs (silent_at silent) (shape_types shape.now) turns 0 (sts (map st_tree body.now)))) (shape_size shape.now) columns.now }
     ensures { IfOk result (λ after. HasGone (looped turns (tried (shape_types shape.now) (dx_tree test.now)) (place (dx_tree test.now)) (all_silent_runs (silent_at silent.entry) (shape_types shape.now) turns 0 (sts (map st_tree body.now)))) (shape_size shape.now) columns.now after) }
 {
-    let mut gone = none_of(alloc, columns);
-    let mut asking = columns.copy(alloc)?;
+    let asking = columns.copy(alloc)?;
+    let none = none_of(alloc, columns);
+    let mut now = Sides {
+        taken: asking,
+        left: none,
+    };
     for _turn in 0..turns {
-        if asking.columns().as_slice().is_empty() {
-            return Ok(gone);
+        if now.taken.columns().as_slice().is_empty() {
+            return Ok(now.left);
         }
-        let sides = guard(alloc, shape, test, &asking)?;
-        gone = merge_both(alloc, gone, sides.left)?;
-        asking = push_all(alloc, shape, turns, body, silent, sides.taken)?;
+        let sides = asked(alloc, shape, test, now)?;
+        let taken = push_all(alloc, shape, turns, body, silent, sides.taken)?;
+        now = Sides {
+            taken,
+            left: sides.left,
+        };
     }
-    let sides = guard(alloc, shape, test, &asking)?;
-    let after = merge_both(alloc, gone, sides.left)?;
-    Ok(after)
+    let last = asked(alloc, shape, test, now)?;
+    Ok(last.left)
 }
 
 /// What merged columns become in statements, one after the other, where this one of them is silent. A `skip` leaves them as they are.

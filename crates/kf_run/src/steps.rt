@@ -1,10 +1,10 @@
 //! What simple statements and guards make of columns.
 
-ghost use Rattle.std.specs.Prelude.{◌≡◌, ◌<◌, ◌+◌, ℕ, true, false, length, List, All, IfOk, IfSome};
+ghost use Rattle.std.specs.Prelude.{◌≡◌, ◌<◌, ℕ, true, false, length, List, All, IfOk, IfSome};
 ghost use Rattle.kf_value.specs.Kinds.{KindTree, TruthKind};
 ghost use Rattle.kf_value.specs.Shapes.{shape_size, shape_types};
 ghost use Rattle.kf_column.specs.declared.entry.Entry.{Entry as EntryTree};
-ghost use Rattle.kf_column.specs.Joint.{IsJoint, mass};
+ghost use Rattle.kf_column.specs.Joint.{IsJoint};
 ghost use Rattle.kf_column.specs.Shapes.{IsBelow};
 ghost use Rattle.kf_core.specs.Checked.{DistKinded, IsChecked};
 ghost use Rattle.kf_core.specs.Ready.{IsPushed};
@@ -15,6 +15,7 @@ ghost use Rattle.kf_eval.specs.Kinds.{shape_kinds};
 ghost use Rattle.kf_eval.specs.Memos.{IsMemoOf};
 ghost use Rattle.kf_push.specs.Following.{Goes, observed, side};
 ghost use Rattle.kf_run.specs.Following.{shown_to};
+ghost use Rattle.kf_run.specs.Going.{AreSides};
 ghost use Rattle.kf_run.specs.Spreading.{AreSpread};
 
 use crate::assigned::{copy_column, move_column};
@@ -137,13 +138,7 @@ pub fn guard(alloc: Global, shape: &Shape, dist: &Dx, columns: &Columns) -> Resu
     requires kinded { DistKinded (shape_kinds shape.now) (dx_tree dist.now) TruthKind }
     requires below { All (IsBelow (shape_size shape.now)) columns.now.columns }
     requires goes { Goes (observed (tried (shape_types shape.now) (dx_tree dist.now))) columns.now.columns }
-    ensures taken { IfOk result (λ sides. IsPushed (side true (tried (shape_types shape.now) (dx_tree dist.now))) columns.now.columns sides.taken.columns) }
-    ensures left { IfOk result (λ sides. IsPushed (side false (tried (shape_types shape.now) (dx_tree dist.now))) columns.now.columns sides.left.columns) }
-    ensures scale_taken { IfOk result (λ sides. sides.taken.scale ≡ columns.now.scale) }
-    ensures scale_left { IfOk result (λ sides. sides.left.scale ≡ columns.now.scale) }
-    ensures below_taken { IfOk result (λ sides. All (IsBelow (shape_size shape.now)) sides.taken.columns) }
-    ensures below_left { IfOk result (λ sides. All (IsBelow (shape_size shape.now)) sides.left.columns) }
-    ensures mass { IfOk result (λ sides. mass sides.taken.columns + mass sides.left.columns ≡ mass columns.now.columns) }
+    ensures { IfOk result (λ sides. AreSides (shape_size shape.now) (tried (shape_types shape.now) (dx_tree dist.now)) columns.now sides.taken sides.left) }
 {
     let mut memo = memo_for(alloc, shape, dist, columns)?;
     let mut held = Vec::new(alloc);

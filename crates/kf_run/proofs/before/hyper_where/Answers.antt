@@ -1,3 +1,4 @@
+use Rattle.std.proofs.Common.{◌∙◌}
 use Rattle.kf_hyper.specs.Views.{inners_of}
 use Rattle.kf_push.proofs.Carrying.{pushed_again}
 use Rattle.kf_run.proofs.SilentPrograms as silent
@@ -49,3 +50,15 @@ returns-clause-hyper c =
     c.requires.behind.0 c.requires.behind.1 c.as_slice-statements.result.now c.as_slice-statements.ensures c.index-statements-at.result c.index-statements-at.is
     c.requires.within c.in_ok-silenced.silenced c.in_ok-silenced.ensures
     c.in_ok-after.after c.in_ok-after.ensures (inners_of c.in_ok-hyper.hyper) c.in_ok-hyper.ensures.hyper
+
+pub about_target-requires-clause-checked : goal.about_target-requires-clause-checked
+about_target-requires-clause-checked c = c.requires.meaning.checked
+
+pub about_target-requires-clause-below : goal.about_target-requires-clause-below
+about_target-requires-clause-below c = c.in_ok-after.ensures.below
+
+pub returns-clause-scale : goal.returns-clause-scale
+returns-clause-scale c = c.in_ok-hyper.ensures.scale ∙ c.in_ok-after.ensures.scale ∙ c.in_ok-silenced.ensures.scale
+
+pub returns-clause-target : goal.returns-clause-target
+returns-clause-target c = c.in_ok-hyper.ensures.target

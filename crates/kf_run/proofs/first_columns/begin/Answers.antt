@@ -1,4 +1,4 @@
-use Rattle.std.proofs.Common.{◌<◌, ℕ, sym, subst, arith}
+use Rattle.std.proofs.Common.{◌<◌, ◌∙◌, ℕ, sym, subst, arith}
 use Rattle.kf_core.specs.Views.{program_tree}
 use Rattle.kf_core.proofs.SoundParts.{decl_kinded}
 use Rattle.kf_run.proofs.Declarations.{declared_first, declaration_goes, declaration_done, begun_at_start, begun_ready}
@@ -49,3 +49,21 @@ returns-clause-ready c =
     c.as_slice-decls.result.now c.loop-i.i c.loop-i.now c.as_slice-decls.ensures c.loop-i.invariant (omega arith)
     c.in_ok-start.start.columns c.in_ok-start.ensures.pushed
     c.run_laws.ensures.block
+
+pub first-requires-clause-narrow : goal.first-requires-clause-narrow
+first-requires-clause-narrow c = c.requires.narrow
+
+pub copy-requires-clause-checked : goal.copy-requires-clause-checked
+copy-requires-clause-checked c = c.requires.checked
+
+pub returns-clause-below : goal.returns-clause-below
+returns-clause-below c = c.in_ok-start.ensures.below
+
+pub assign-requires-clause-below : goal.assign-requires-clause-below
+assign-requires-clause-below c = c.loop-i.invariant.below
+
+pub copy-requires-clause-below : goal.copy-requires-clause-below
+copy-requires-clause-below c = c.loop-i.invariant.below
+
+pub returns-clause-scale : goal.returns-clause-scale
+returns-clause-scale c = c.in_ok-start.ensures.scale ∙ c.loop-i.invariant.scale ∙ sym c.requires.scale_is

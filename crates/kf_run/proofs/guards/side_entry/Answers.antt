@@ -52,3 +52,21 @@ returns-clause-left c =
       shared = subst (λ n. IsShared (side false (tried ts d)) (e ∷ []) (flat_map (sides false e.value n) cs)) (sym c.share_of-share.ensures)
           (sides_shared c.args.shape.now d e c.at-choice.result.now (chosen_at c.in_ok-choice_at.ensures.found c.at-choice.ensures) c.requires.some c.requires.takes false ((chosen_at c.in_ok-choice_at.ensures.found c.at-choice.ensures).kinded TruthKind c.requires.kinded));
     }
+
+pub chosen_in-requires-clause-store : goal.chosen_in-requires-clause-store
+chosen_in-requires-clause-store c = c.requires.store
+
+pub chosen_in-requires-clause-kinded : goal.chosen_in-requires-clause-kinded
+chosen_in-requires-clause-kinded c = (TruthKind, c.requires.kinded)
+
+pub chosen_in-requires-clause-memo : goal.chosen_in-requires-clause-memo
+chosen_in-requires-clause-memo c = c.requires.memo
+
+pub at-choice-requires : goal.at-choice-requires
+at-choice-requires c = c.in_ok-choice_at.ensures.within
+
+pub returns-clause-below_taken : goal.returns-clause-below_taken
+returns-clause-below_taken c = c.in_ok-add_sides.ensures.below_taken _ c.requires.store
+
+pub returns-clause-below_left : goal.returns-clause-below_left
+returns-clause-below_left c = c.in_ok-add_sides.ensures.below_left _ c.requires.store

@@ -21,7 +21,6 @@ use Rattle.kf_run.specs.Going.{CanGo, HasGone}
 use Rattle.kf_run.specs.Silence.{silent_at}
 use Rattle.kf_run.proofs.Blocks.{statement_carries}
 use Rattle.kf_run.proofs.Forms as form
-use Rattle.kf_run.proofs.Onward as onward
 use Rattle.kf_run.proofs.Silencing as silencing
 use Rattle.kf_run.proofs.Turns as loop
 use Rattle.kf_run.proofs.pushes.+push.Goals as goal
@@ -71,48 +70,34 @@ push_loop-loop-turn-init t c =
     (silencing.all c.args.shape.now c.args.turns (silent_at c.args.silent) 0 (map st_tree c.args.body.now)) c.args.columns.now
     (dist_filled (shape_types c.args.shape.now) (dx_tree c.args.test.now) c.requires.kinded)
     (silencing.all_carries c.args.shape.now c.args.turns (silent_at c.args.silent) 0 (map st_tree c.args.body.now) c.requires.sound) c.requires.can
-    (c.args.turns - 0) c.in_ok-asking.asking c.none_of-gone.result (omega arith) c.in_ok-asking.ensures c.none_of-gone.ensures
+    (c.args.turns - 0) c.in_ok-asking.asking c.none_of-none.result (omega arith) c.in_ok-asking.ensures c.none_of-none.ensures
 
 pub push_loop-returns-then-is_empty : goal.push_loop-returns-then-is_empty
 push_loop-returns-then-is_empty t c = loop.none_asks _ _ _ _ _ _ _ _ _ c.loop-turn.invariant (search rules)
 
-pub push_loop-guard-requires-clause-below : goal.push_loop-guard-requires-clause-below
-push_loop-guard-requires-clause-below t c = c.loop-turn.invariant.on.can.below
+pub push_loop-asked-requires-clause-below : goal.push_loop-asked-requires-clause-below
+push_loop-asked-requires-clause-below t c = c.loop-turn.invariant.on.can.below
 
-pub push_loop-guard-requires-clause-goes : goal.push_loop-guard-requires-clause-goes
-push_loop-guard-requires-clause-goes t c = loop.asks_again _ _ _ _ _ _ _ _ _ c.loop-turn.invariant
+pub push_loop-asked-requires-clause-goes : goal.push_loop-asked-requires-clause-goes
+push_loop-asked-requires-clause-goes t c = loop.asks_again _ _ _ _ _ _ _ _ _ c.loop-turn.invariant
 
-pub push_loop-merge_both-requires-clause-one_scale : goal.push_loop-merge_both-requires-clause-one_scale
-push_loop-merge_both-requires-clause-one_scale t c =
-    let on = c.loop-turn.invariant.on in
-    on.left_scale ∙ sym (c.in_ok-sides.ensures.scale_left ∙ on.scale)
+pub push_loop-asked-requires-clause-scale : goal.push_loop-asked-requires-clause-scale
+push_loop-asked-requires-clause-scale t c = loop.one_scale _ _ _ _ _ _ _ _ _ c.loop-turn.invariant
 
-pub push_loop-merge_both-requires-clause-fits : goal.push_loop-merge_both-requires-clause-fits
-push_loop-merge_both-requires-clause-fits t c =
-    let on = c.loop-turn.invariant.on in
-    omega (arith, c.in_ok-sides.ensures.mass, on.fits, on.left_scale)
+pub push_loop-asked-requires-clause-fits : goal.push_loop-asked-requires-clause-fits
+push_loop-asked-requires-clause-fits t c = loop.both_fit _ _ _ _ _ _ _ _ _ c.loop-turn.invariant
 
 pub push_loop-push_all-requires : goal.push_loop-push_all-requires
 push_loop-push_all-requires t c =
     let later : c.args.turns - c.loop-turn._turn ≡ suc (c.args.turns - (c.loop-turn._turn + 1)) = omega arith in
-    let sides : onward.AreSides (shape_size c.args.shape.now) (tried (shape_types c.args.shape.now) (dx_tree c.args.test.now)) c.loop-turn.asking c.in_ok-sides.sides.taken
-    c.in_ok-sides.sides.left =
-    record {
-      to_taken = c.in_ok-sides.ensures.taken;
-      to_left = c.in_ok-sides.ensures.left;
-      scale_taken = c.in_ok-sides.ensures.scale_taken;
-      scale_left = c.in_ok-sides.ensures.scale_left;
-      below_taken = c.in_ok-sides.ensures.below_taken;
-      below_left = c.in_ok-sides.ensures.below_left;
-      whole = c.in_ok-sides.ensures.mass;
-    } in (
+    let told = c.in_ok-sides.ensures in (
       search (rules, the_lemmas),
       (
         c.requires.sound,
         (
-          pushed_again (side true (tried (shape_types c.args.shape.now) (dx_tree c.args.test.now))) c.loop-turn.asking.columns c.in_ok-sides.sides.taken.columns
-              sides.to_taken,
-          loop.takes_turn _ _ _ _ _ _ _ _ _ c.loop-turn.invariant c.in_ok-sides.sides.taken c.in_ok-sides.sides.left sides _ later,
+          pushed_again (side true (tried (shape_types c.args.shape.now) (dx_tree c.args.test.now))) c.loop-turn.now.taken.columns
+              c.in_ok-sides.sides.taken.columns told.1.to_taken,
+          loop.takes_turn _ _ _ _ _ _ _ _ _ c.loop-turn.invariant c.in_ok-sides.sides.taken told.0 told.1 _ later,
         ),
       ),
     )
@@ -120,52 +105,27 @@ push_loop-push_all-requires t c =
 pub push_loop-loop-turn-preserved : goal.push_loop-loop-turn-preserved
 push_loop-loop-turn-preserved t c =
     let later : c.args.turns - c.loop-turn._turn ≡ suc (c.args.turns - (c.loop-turn._turn + 1)) = omega arith in
-    let sides : onward.AreSides (shape_size c.args.shape.now) (tried (shape_types c.args.shape.now) (dx_tree c.args.test.now)) c.loop-turn.asking c.in_ok-sides.sides.taken
-    c.in_ok-sides.sides.left =
-    record {
-      to_taken = c.in_ok-sides.ensures.taken;
-      to_left = c.in_ok-sides.ensures.left;
-      scale_taken = c.in_ok-sides.ensures.scale_taken;
-      scale_left = c.in_ok-sides.ensures.scale_left;
-      below_taken = c.in_ok-sides.ensures.below_taken;
-      below_left = c.in_ok-sides.ensures.below_left;
-      whole = c.in_ok-sides.ensures.mass;
-    } in
-    loop.turns_on _ _ _ _ _ _ _ _ _ c.loop-turn.invariant c.in_ok-sides.sides.taken c.in_ok-sides.sides.left sides _ later
-    c.in_ok-gone.gone c.in_ok-asking-2.asking c.in_ok-gone.ensures.merged c.in_ok-gone.ensures.scale c.in_ok-asking-2.ensures
+    let told = c.in_ok-sides.ensures in
+    loop.turns_on _ _ _ _ _ _ _ _ _ c.loop-turn.invariant c.in_ok-sides.sides.taken told.0 told.1 _ later
+    c.in_ok-sides.sides.left c.in_ok-taken.taken told.2 told.3 c.in_ok-taken.ensures
 
-pub push_loop-guard-requires-2-clause-below : goal.push_loop-guard-requires-2-clause-below
-push_loop-guard-requires-2-clause-below t c = c.loop-turn.invariant.on.can.below
+pub push_loop-asked-requires-2-clause-below : goal.push_loop-asked-requires-2-clause-below
+push_loop-asked-requires-2-clause-below t c = c.loop-turn.invariant.on.can.below
 
-pub push_loop-guard-requires-2-clause-goes : goal.push_loop-guard-requires-2-clause-goes
-push_loop-guard-requires-2-clause-goes t c = loop.asks_again _ _ _ _ _ _ _ _ _ c.loop-turn.invariant
+pub push_loop-asked-requires-2-clause-goes : goal.push_loop-asked-requires-2-clause-goes
+push_loop-asked-requires-2-clause-goes t c = loop.asks_again _ _ _ _ _ _ _ _ _ c.loop-turn.invariant
 
-pub push_loop-merge_both-requires-2-clause-one_scale : goal.push_loop-merge_both-requires-2-clause-one_scale
-push_loop-merge_both-requires-2-clause-one_scale t c =
-    let on = c.loop-turn.invariant.on in
-    on.left_scale ∙ sym (c.in_ok-sides-2.ensures.scale_left ∙ on.scale)
+pub push_loop-asked-requires-2-clause-scale : goal.push_loop-asked-requires-2-clause-scale
+push_loop-asked-requires-2-clause-scale t c = loop.one_scale _ _ _ _ _ _ _ _ _ c.loop-turn.invariant
 
-pub push_loop-merge_both-requires-2-clause-fits : goal.push_loop-merge_both-requires-2-clause-fits
-push_loop-merge_both-requires-2-clause-fits t c =
-    let on = c.loop-turn.invariant.on in
-    omega (arith, c.in_ok-sides-2.ensures.mass, on.fits, on.left_scale)
+pub push_loop-asked-requires-2-clause-fits : goal.push_loop-asked-requires-2-clause-fits
+push_loop-asked-requires-2-clause-fits t c = loop.both_fit _ _ _ _ _ _ _ _ _ c.loop-turn.invariant
 
 pub push_loop-returns : goal.push_loop-returns
 push_loop-returns t c =
     let last : c.args.turns - c.loop-turn._turn ≡ 0 = omega arith in
-    let sides : onward.AreSides (shape_size c.args.shape.now) (tried (shape_types c.args.shape.now) (dx_tree c.args.test.now)) c.loop-turn.asking c.in_ok-sides-2.sides.taken
-    c.in_ok-sides-2.sides.left =
-    record {
-      to_taken = c.in_ok-sides-2.ensures.taken;
-      to_left = c.in_ok-sides-2.ensures.left;
-      scale_taken = c.in_ok-sides-2.ensures.scale_taken;
-      scale_left = c.in_ok-sides-2.ensures.scale_left;
-      below_taken = c.in_ok-sides-2.ensures.below_taken;
-      below_left = c.in_ok-sides-2.ensures.below_left;
-      whole = c.in_ok-sides-2.ensures.mass;
-    } in
-    loop.turns_end _ _ _ _ _ _ _ _ _ c.loop-turn.invariant c.in_ok-sides-2.sides.taken c.in_ok-sides-2.sides.left sides last
-    c.in_ok-after.after c.in_ok-after.ensures.merged c.in_ok-after.ensures.scale
+    let told = c.in_ok-last.ensures in
+    loop.turns_end _ _ _ _ _ _ _ _ _ c.loop-turn.invariant c.in_ok-last.last.taken told.0 told.1 last c.in_ok-last.last.left told.2 told.3
 
 -- ---- a statement, silent or seen
 
@@ -399,17 +359,7 @@ push_seen-guard-requires-clause-goes t c =
 
 pub push_seen-push_all-requires : goal.push_seen-push_all-requires
 push_seen-push_all-requires t c =
-    let sides : onward.AreSides (shape_size c.args.shape.now) (tried (shape_types c.args.shape.now) (dx_tree c.in-If.test)) c.args.columns.now
-    c.in_ok-sides-in-If.sides.taken c.in_ok-sides-in-If.sides.left =
-    record {
-      to_taken = c.in_ok-sides-in-If.ensures.taken;
-      to_left = c.in_ok-sides-in-If.ensures.left;
-      scale_taken = c.in_ok-sides-in-If.ensures.scale_taken;
-      scale_left = c.in_ok-sides-in-If.ensures.scale_left;
-      below_taken = c.in_ok-sides-in-If.ensures.below_taken;
-      below_left = c.in_ok-sides-in-If.ensures.below_left;
-      whole = c.in_ok-sides-in-If.ensures.mass;
-    } in (
+    let sides = c.in_ok-sides-in-If.ensures in (
       search (rules, the_lemmas),
       (
         sound.yes_sound (shape_kinds c.args.shape.now) c.args.statement.now c.requires.sound c.in-If.test c.in-If.yes c.in-If.no c.in-If.is
@@ -426,17 +376,7 @@ push_seen-push_all-requires t c =
 
 pub push_seen-push_all-requires-in-If : goal.push_seen-push_all-requires-in-If
 push_seen-push_all-requires-in-If t c =
-    let sides : onward.AreSides (shape_size c.args.shape.now) (tried (shape_types c.args.shape.now) (dx_tree c.in-If.test)) c.args.columns.now
-    c.in_ok-sides-in-If.sides.taken c.in_ok-sides-in-If.sides.left =
-    record {
-      to_taken = c.in_ok-sides-in-If.ensures.taken;
-      to_left = c.in_ok-sides-in-If.ensures.left;
-      scale_taken = c.in_ok-sides-in-If.ensures.scale_taken;
-      scale_left = c.in_ok-sides-in-If.ensures.scale_left;
-      below_taken = c.in_ok-sides-in-If.ensures.below_taken;
-      below_left = c.in_ok-sides-in-If.ensures.below_left;
-      whole = c.in_ok-sides-in-If.ensures.mass;
-    } in (
+    let sides = c.in_ok-sides-in-If.ensures in (
       search (rules, the_lemmas),
       (
         sound.no_sound (shape_kinds c.args.shape.now) c.args.statement.now c.requires.sound c.in-If.test c.in-If.yes c.in-If.no c.in-If.is
@@ -453,17 +393,7 @@ push_seen-push_all-requires-in-If t c =
 
 pub push_seen-merge_both-requires-clause-fits : goal.push_seen-merge_both-requires-clause-fits
 push_seen-merge_both-requires-clause-fits t c =
-    let sides : onward.AreSides (shape_size c.args.shape.now) (tried (shape_types c.args.shape.now) (dx_tree c.in-If.test)) c.args.columns.now
-    c.in_ok-sides-in-If.sides.taken c.in_ok-sides-in-If.sides.left =
-    record {
-      to_taken = c.in_ok-sides-in-If.ensures.taken;
-      to_left = c.in_ok-sides-in-If.ensures.left;
-      scale_taken = c.in_ok-sides-in-If.ensures.scale_taken;
-      scale_left = c.in_ok-sides-in-If.ensures.scale_left;
-      below_taken = c.in_ok-sides-in-If.ensures.below_taken;
-      below_left = c.in_ok-sides-in-If.ensures.below_left;
-      whole = c.in_ok-sides-in-If.ensures.mass;
-    } in
+    let sides = c.in_ok-sides-in-If.ensures in
     form.both_fit c.args.shape.now c.args.turns c.args.statement.now (silent_at c.args.silent) c.requires.seen
     c.requires.sound c.in-If.test c.in-If.yes c.in-If.no c.in-If.is c.as_slice.result.now c.as_slice-in-If.result.now c.as_slice.ensures c.as_slice-in-If.ensures (silent_at c.within-in_yes.result) (silent_at c.within-in_no.result) c.within-in_yes.ensures c.within-in_no.ensures
     c.args.columns.now c.requires.can c.in_ok-sides-in-If.sides.taken c.in_ok-sides-in-If.sides.left sides
@@ -471,17 +401,7 @@ push_seen-merge_both-requires-clause-fits t c =
 
 pub push_seen-returns-in_ok-after-in-If : goal.push_seen-returns-in_ok-after-in-If
 push_seen-returns-in_ok-after-in-If t c =
-    let sides : onward.AreSides (shape_size c.args.shape.now) (tried (shape_types c.args.shape.now) (dx_tree c.in-If.test)) c.args.columns.now
-    c.in_ok-sides-in-If.sides.taken c.in_ok-sides-in-If.sides.left =
-    record {
-      to_taken = c.in_ok-sides-in-If.ensures.taken;
-      to_left = c.in_ok-sides-in-If.ensures.left;
-      scale_taken = c.in_ok-sides-in-If.ensures.scale_taken;
-      scale_left = c.in_ok-sides-in-If.ensures.scale_left;
-      below_taken = c.in_ok-sides-in-If.ensures.below_taken;
-      below_left = c.in_ok-sides-in-If.ensures.below_left;
-      whole = c.in_ok-sides-in-If.ensures.mass;
-    } in
+    let sides = c.in_ok-sides-in-If.ensures in
     form.both_gone c.args.shape.now c.args.turns c.args.statement.now (silent_at c.args.silent) c.requires.seen
     c.requires.sound c.in-If.test c.in-If.yes c.in-If.no c.in-If.is c.as_slice.result.now c.as_slice-in-If.result.now c.as_slice.ensures c.as_slice-in-If.ensures (silent_at c.within-in_yes.result) (silent_at c.within-in_no.result) c.within-in_yes.ensures c.within-in_no.ensures
     c.args.columns.now c.requires.can c.in_ok-sides-in-If.sides.taken c.in_ok-sides-in-If.sides.left sides

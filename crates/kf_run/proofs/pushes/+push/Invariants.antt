@@ -16,4 +16,4 @@ invariant-push_all-loop-at l = SilentOn l.shape l.turns
 
 abbrev pub invariant-push_loop-loop-turn : goal.invariant-push_loop-loop-turn
 invariant-push_loop-loop-turn l = Looping (shape_size l.shape) (tried (shape_types l.shape) (dx_tree l.test)) (place (dx_tree l.test)) l.turns
-    (all l.shape l.turns (silent_at l.silent) 0 (map st_tree l.body)) l.columns (l.turns - l._turn) l.asking l.gone
+    (all l.shape l.turns (silent_at l.silent) 0 (map st_tree l.body)) l.columns (l.turns - l._turn) l.now.taken l.now.left

@@ -1,3 +1,7 @@
+use Rattle.std.proofs.Common.{◌∙◌, All, subst}
+use Rattle.kf_value.specs.Shapes.{shape_size}
+use Rattle.kf_column.specs.Shapes.{IsBelow}
+use Rattle.kf_core.specs.declared.program.Program.{Program}
 use Rattle.kf_core.specs.Views.{program_tree}
 use Rattle.kf_core.proofs.Unsquashed.{checked_again}
 use Rattle.kf_support.specs.Cleared.{program_of, turns_of}
@@ -36,3 +40,10 @@ returns-clause-ready c =
     c.program-program.ensures c.turns.ensures c.as_slice.ensures c.requires.within c.index-as_slice-at.is checked
     c.run_laws.ensures.block c.run_laws.ensures.sequence c.args.columns.now c.are_columns.ensures.are c.are_columns.ensures.fits c.requires.below c.requires.ready
     c.in_ok-after.after c.in_ok-after.ensures
+
+pub returns-clause-scale : goal.returns-clause-scale
+returns-clause-scale c = c.in_ok-after.ensures.scale ∙ c.requires.scale
+
+pub returns-clause-below : goal.returns-clause-below
+returns-clause-below c =
+    subst (λ (p : Program). All (IsBelow (shape_size p.shape)) c.in_ok-after.after.columns) c.program-program.ensures c.in_ok-after.ensures.below

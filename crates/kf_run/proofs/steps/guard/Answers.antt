@@ -72,39 +72,6 @@ merged-requires c =
     let on = spread_all runs size items columns same i c.loop-column-test.false c.loop-column.held.items c.loop-column.invariant.taken in
     record { joint = rw c.scale.ensures.kept (spread_joint runs size c.args.columns.now.scale columns c.loop-column.held.items on c.columns.ensures.joint) }
 
-pub returns-clause-taken : goal.returns-clause-taken
-returns-clause-taken c =
-    let runs : ℕ → List Run = side true (tried (shape_types c.args.shape.now) (dx_tree c.args.dist.now)) in
-    let size = shape_size c.args.shape.now in
-    let columns = c.args.columns.now.columns in
-    let items = c.as_slice-column-items.result.now in
-    let same : items ≡ columns = c.as_slice-column-items.ensures ∙ c.columns.ensures.kept in
-    let i = c.loop-column.column-index in
-    let on = spread_all runs size items columns same i c.loop-column-test.false c.loop-column.held.items c.loop-column.invariant.taken in
-    (c.in_ok-taken.ensures runs size columns on).0
-
-pub returns-clause-scale_taken : goal.returns-clause-scale_taken
-returns-clause-scale_taken c =
-    let runs : ℕ → List Run = side true (tried (shape_types c.args.shape.now) (dx_tree c.args.dist.now)) in
-    let size = shape_size c.args.shape.now in
-    let columns = c.args.columns.now.columns in
-    let items = c.as_slice-column-items.result.now in
-    let same : items ≡ columns = c.as_slice-column-items.ensures ∙ c.columns.ensures.kept in
-    let i = c.loop-column.column-index in
-    let on = spread_all runs size items columns same i c.loop-column-test.false c.loop-column.held.items c.loop-column.invariant.taken in
-    (c.in_ok-taken.ensures runs size columns on).1 ∙ c.scale.ensures.kept
-
-pub returns-clause-below_taken : goal.returns-clause-below_taken
-returns-clause-below_taken c =
-    let runs : ℕ → List Run = side true (tried (shape_types c.args.shape.now) (dx_tree c.args.dist.now)) in
-    let size = shape_size c.args.shape.now in
-    let columns = c.args.columns.now.columns in
-    let items = c.as_slice-column-items.result.now in
-    let same : items ≡ columns = c.as_slice-column-items.ensures ∙ c.columns.ensures.kept in
-    let i = c.loop-column.column-index in
-    let on = spread_all runs size items columns same i c.loop-column-test.false c.loop-column.held.items c.loop-column.invariant.taken in
-    (c.in_ok-taken.ensures runs size columns on).2
-
 pub merged-requires-2 : goal.merged-requires-2
 merged-requires-2 c =
     let runs : ℕ → List Run = side false (tried (shape_types c.args.shape.now) (dx_tree c.args.dist.now)) in
@@ -116,42 +83,25 @@ merged-requires-2 c =
     let on = spread_all runs size items columns same i c.loop-column-test.false c.loop-column.failed.items c.loop-column.invariant.left in
     record { joint = rw c.scale-2.ensures.kept (spread_joint runs size c.args.columns.now.scale columns c.loop-column.failed.items on c.columns.ensures.joint) }
 
-pub returns-clause-left : goal.returns-clause-left
-returns-clause-left c =
-    let runs : ℕ → List Run = side false (tried (shape_types c.args.shape.now) (dx_tree c.args.dist.now)) in
-    let size = shape_size c.args.shape.now in
-    let columns = c.args.columns.now.columns in
-    let items = c.as_slice-column-items.result.now in
-    let same : items ≡ columns = c.as_slice-column-items.ensures ∙ c.columns.ensures.kept in
-    let i = c.loop-column.column-index in
-    let on = spread_all runs size items columns same i c.loop-column-test.false c.loop-column.failed.items c.loop-column.invariant.left in
-    (c.in_ok-left.ensures runs size columns on).0
-
-pub returns-clause-scale_left : goal.returns-clause-scale_left
-returns-clause-scale_left c =
-    let runs : ℕ → List Run = side false (tried (shape_types c.args.shape.now) (dx_tree c.args.dist.now)) in
-    let size = shape_size c.args.shape.now in
-    let columns = c.args.columns.now.columns in
-    let items = c.as_slice-column-items.result.now in
-    let same : items ≡ columns = c.as_slice-column-items.ensures ∙ c.columns.ensures.kept in
-    let i = c.loop-column.column-index in
-    let on = spread_all runs size items columns same i c.loop-column-test.false c.loop-column.failed.items c.loop-column.invariant.left in
-    (c.in_ok-left.ensures runs size columns on).1 ∙ c.scale-2.ensures.kept
-
-pub returns-clause-below_left : goal.returns-clause-below_left
-returns-clause-below_left c =
-    let runs : ℕ → List Run = side false (tried (shape_types c.args.shape.now) (dx_tree c.args.dist.now)) in
-    let size = shape_size c.args.shape.now in
-    let columns = c.args.columns.now.columns in
-    let items = c.as_slice-column-items.result.now in
-    let same : items ≡ columns = c.as_slice-column-items.ensures ∙ c.columns.ensures.kept in
-    let i = c.loop-column.column-index in
-    let on = spread_all runs size items columns same i c.loop-column-test.false c.loop-column.failed.items c.loop-column.invariant.left in
-    (c.in_ok-left.ensures runs size columns on).2
-
-pub returns-clause-mass : goal.returns-clause-mass
-returns-clause-mass c =
+pub returns : goal.returns
+returns c =
     let ts = shape_types c.args.shape.now in
     let d = dx_tree c.args.dist.now in
-    both_mass (tried ts d) (dist_filled ts d c.requires.kinded) c.args.columns.now.columns c.in_ok-taken.taken.columns c.in_ok-left.left.columns c.requires.goes
-    (returns-clause-taken c) (returns-clause-left c)
+    let size = shape_size c.args.shape.now in
+    let columns = c.args.columns.now.columns in
+    let items = c.as_slice-column-items.result.now in
+    let same : items ≡ columns = c.as_slice-column-items.ensures ∙ c.columns.ensures.kept in
+    let i = c.loop-column.column-index in
+    let taken = c.in_ok-taken.ensures (side true (tried ts d)) size columns
+    (spread_all (side true (tried ts d)) size items columns same i c.loop-column-test.false c.loop-column.held.items c.loop-column.invariant.taken) in
+    let left = c.in_ok-left.ensures (side false (tried ts d)) size columns
+    (spread_all (side false (tried ts d)) size items columns same i c.loop-column-test.false c.loop-column.failed.items c.loop-column.invariant.left) in
+    record {
+      to_taken = taken.0;
+      to_left = left.0;
+      scale_taken = taken.1 ∙ c.scale.ensures.kept;
+      scale_left = left.1 ∙ c.scale-2.ensures.kept;
+      below_taken = taken.2;
+      below_left = left.2;
+      whole = both_mass (tried ts d) (dist_filled ts d c.requires.kinded) columns c.in_ok-taken.taken.columns c.in_ok-left.left.columns c.requires.goes taken.0 left.0;
+    }

@@ -1,5 +1,5 @@
 -- Texts that are appended piece by piece.
-use Rattle.std.proofs.Common.{◌≡◌, ℕ, ◌<◌, ℤ, List, [], ◌∷◌, ◌++◌, length, map, drop, get_or, sym, ◌∙◌, ap, append_assoc, append-nil, codes, refl, ◌-◌, take, arith}
+use Rattle.std.proofs.Common.{◌≡◌, ℕ, zero, suc, ◌<◌, ℤ, List, [], ◌∷◌, ◌++◌, length, map, drop, get_or, sym, ◌∙◌, ap, append_assoc, append-nil, codes, refl, ◌-◌, ◌+◌, take, arith}
 use Rattle.std.proofs.lemmas.List.{take_rest}
 use Rattle.std.specs.List.{flat_map}
 use Rattle.std.specs.Fmt.{signed_decimal}
@@ -11,6 +11,7 @@ use Rattle.kf_value.specs.declared.target_item.TargetItem.{TargetItem}
 use Rattle.kf_value.specs.Targets.{target_text}
 use Rattle.kf_value.specs.TypeViews.{item_of}
 use Rattle.kf_value.specs.Views.{item_text}
+use Rattle.kf_cert.proofs.Pieces.{piece_added}
 use Rattle.kf_text.specs.Views.{own_text}
 
 -- a fraction in lowest terms is written as the one that it was made of
@@ -49,3 +50,19 @@ first_printed [] first out now some is grown = absurd (omega arith)
 first_printed (i ∷ others) first out now some is grown =
     rw (take_rest (i ∷ others) 1, grown, append_assoc, is)
     (ap (λ (t : List ℕ). out ++ t) (sym (target_first i others)))
+
+-- the text of one more member stands, and those behind it are left
+module _ {X : Type 0} (text : X → List ℕ) (xs : List X) (i : ℕ) (x : X) (out next whole : List ℕ) (within : i < length xs) (is : x ≡ get_or xs i x)
+    (left : out ++ flat_map text (drop i xs) ≡ whole) where
+  pub one_more : next ≡ out ++ text x → next ++ flat_map text (drop (i + 1) xs) ≡ whole
+  one_more added = piece_added (λ _ es. flat_map text es) (λ _ e. text e) (λ _ e es. refl) xs i x out next whole within is added left
+
+-- the same bytes before it
+pub behind : (before text out begun next : List ℕ) → begun ≡ out ++ before → next ≡ begun ++ text → next ≡ out ++ (before ++ text)
+behind before text out begun next first added = added ∙ ap (λ (o : List ℕ). o ++ text) first ∙ append_assoc out before text
+
+-- what is read at an index is read there whatever stands in for what there isn't
+pub read_itself : {X : Type 0} (xs : List X) (i : ℕ) (d : X) → get_or xs i d ≡ get_or xs i (get_or xs i d)
+read_itself [] i d = refl
+read_itself (x ∷ xs) zero d = refl
+read_itself (x ∷ xs) (suc i) d = read_itself xs i d

@@ -1,7 +1,7 @@
 -- Stores that an assignment, or the carried copies, move one after the other.
-use Rattle.std.proofs.Common.{◌≡◌, ℕ, ◌+◌, ◌*◌, ◌/◌, ◌^◌, ◌≤◌, ◌<◌, List, ◌∷◌, Ok, Err, sym, ap, subst, ◌∙◌, arith}
+use Rattle.std.proofs.Common.{◌≡◌, ℕ, ◌+◌, ◌*◌, ◌/◌, ◌^◌, ◌≤◌, ◌<◌, List, [], ◌∷◌, Ok, Err, refl, sym, ap, subst, ◌∙◌, arith}
 use Rattle.std.proofs.Math.Nat.{div-mul-le_self}
-use Rattle.std.proofs.lemmas.List.Elements.{All-tail}
+use Rattle.std.proofs.lemmas.List.Elements.{All-head, All-nil, All-tail}
 use Rattle.std.proofs.lemmas.List.Sums.{sum_by-cons}
 use Rattle.kf_value.specs.Types.{TypeTree}
 use Rattle.kf_core.specs.Choices.{Weighted, total}
@@ -20,12 +20,25 @@ pub record GoesOn (go : Weights → Weights → Weights) (size : ℕ) (left whol
   pub below : AllBelow size left
   pub within : sum_of now + sum_of left < 2 ^ 127
 
+-- at the start nothing is reached
+pub goes_start : (go : Weights → Weights → Weights) (size : ℕ) (left all now : Weights) → now ≡ [] → left ≡ all → AllBelow size all → sum_of all < 2 ^ 127 → GoesOn go size left (go [] all) now
+goes_start go size left all now none is below within =
+    rw (none, is) (record { same = refl; held = All-nil (λ (e : ℕ × ℕ). e.0 < size); below = below; within = omega (arith, within) })
+
 module _ (go : Weights → Weights → Weights) (size : ℕ) (left es : Weights) (e : ℕ × ℕ) (whole now : Weights) (next : left ≡ e ∷ es) (had : GoesOn go size left whole now) where
   -- the sum, with the first weight apart
   first_within : sum_of now + (e.1 + sum_of es) < 2 ^ 127
   first_within =
       let sum : sum_of left ≡ e.1 + sum_of es = ap sum_of next ∙ sum_by-cons (λ (e : ℕ × ℕ). e.1) e es in
       omega (arith, had.within, sum)
+
+  -- the first store is one of all that there are
+  pub goes_here : e.0 < size
+  goes_here = All-head (λ (e : ℕ × ℕ). e.0 < size) e es (subst (AllBelow size) next had.below)
+
+  -- there is room for the first weight
+  pub goes_room : sum_of now + e.1 < 2 ^ 127
+  goes_room = omega (arith, first_within)
 
   -- the first store is moved
   goes_step : (after : Weights) → go after es ≡ go now (e ∷ es) → AllBelow size after → sum_of after ≤ sum_of now + e.1 → GoesOn go size es whole after
@@ -43,6 +56,10 @@ shares_small : (w k : ℕ) (ws : List Weighted) → k ≡ total ws → w / k * t
 shares_small w k ws sum = subst (λ (m : ℕ). w / k * m ≤ w) sum (div-mul-le_self w k)
 
 module _ (ts : List TypeTree) (i : ℕ) (d : DxTree) (size : ℕ) (left es : Weights) (e : ℕ × ℕ) (whole now : Weights) (next : left ≡ e ∷ es) (had : GoesOn (assign_all ts i d) size left whole now) where
+  -- there is room for the first store's shares
+  pub assign_room : (ws : List Weighted) (k : ℕ) → k ≡ total ws → sum_of now + e.1 / k * total ws < 2 ^ 127
+  assign_room ws k sum = omega (arith, shares_small e.1 k ws sum, first_within (assign_all ts i d) size left es e whole now next had)
+
   -- the first store's shares are moved
   pub assign_more : (ws : List Weighted) (k : ℕ) (after : Weights) → tried ts d e.0 ≡ Ok ws → k ≡ total ws → after ≡ with_moves ts i e.0 now (e.1 / k) ws → AllBelow size after
       → GoesOn (assign_all ts i d) size es whole after

@@ -58,6 +58,10 @@ module _ (ts : List TypeTree) (i n share : ℕ) where
         let sum : share * total left ≡ share * c.weight + share * total rest = ap (λ cs. share * total cs) next ∙ shares_first share c rest in
         omega (arith, had.within, sum)
 
+    -- there is room for the first share
+    pub move_room : sum_of now + share * c.weight < 2 ^ 127
+    move_room = omega (arith, opened)
+
     -- the definition, with the first share moved
     moved_first : with_moves ts i n (with_move now (replaced ts i c.value n) (share * c.weight)) share rest ≡ whole
     moved_first = ap (with_moves ts i n now share) (sym next) ∙ had.same

@@ -2,7 +2,7 @@
 use Rattle.std.proofs.Common.{◌≡◌, ℕ, ◌+◌, ◌*◌, ◌/◌, ◌^◌, ◌≤◌, ◌<◌, List, [], ◌∷◌, Option, Some, None, Ok, Err, refl, sym, ap, subst, ◌∙◌, arith}
 use Rattle.std.specs.List.{All, AllByRecursion as Each}
 use Rattle.std.proofs.Math.Nat.{div-mul-le_self, mul-zero}
-use Rattle.std.proofs.lemmas.List.Elements.{All-tail, All-from_recursion, recursion_from_All}
+use Rattle.std.proofs.lemmas.List.Elements.{All-head, All-tail, All-from_recursion, recursion_from_All}
 use Rattle.std.proofs.lemmas.List.Sums.{sum_by-cons}
 use Rattle.kf_value.specs.Values.{ValueTree}
 use Rattle.kf_value.proofs.ListLemmas.{each_weaker}
@@ -74,6 +74,10 @@ module _ (go : Lead) (n share : ℕ) where
         let sum : share * total left ≡ share * c.weight + share * total rest = ap (λ cs. share * total cs) next ∙ shares_first share c rest in
         omega (arith, had.within, sum)
 
+    -- there is room for the first share
+    pub share_room : parts_sum now + share * c.weight < 2 ^ 127
+    share_room = omega (arith, opened)
+
     -- the definition, with the first share added
     shared_first : with_shares go (with_share now c.value (go n c.value) (share * c.weight)) n share rest ≡ whole
     shared_first = ap (with_shares go now n share) (sym next) ∙ had.same
@@ -116,7 +120,17 @@ pub record SplitsOn (go : Lead) (tries : ℕ → Tried) (size : ℕ) (left : Wei
   pub below : All (λ e. e.0 < size) left
   pub held : PartsBelow size now
 
+-- at the start there is no part
+pub split_start : (go : Lead) (tries : ℕ → Tried) (size : ℕ) (left all : Weights) (now : List Part) → now ≡ [] → left ≡ all → sum_of all < 2 ^ 127 → All (λ e. e.0 < size) all
+    → SplitsOn go tries size left (split go tries [] all) now
+split_start go tries size left all now none is within below =
+    rw (none, is) (record { same = refl; ascending = tt; within = omega (arith, within); below = below; held = All-from_recursion (StoresBelow size) [] tt })
+
 module _ (go : Lead) (tries : ℕ → Tried) (size : ℕ) (left es : Weights) (e : ℕ × ℕ) (whole now : List Part) (next : left ≡ e ∷ es) (had : SplitsOn go tries size left whole now) where
+  -- the first store is one of all that there are
+  pub split_here : e.0 < size
+  split_here = All-head (λ (e : ℕ × ℕ). e.0 < size) e es (subst (All (λ (e : ℕ × ℕ). e.0 < size)) next had.below)
+
   rest_below : All (λ e. e.0 < size) es
   rest_below = All-tail (λ (e : ℕ × ℕ). e.0 < size) e es (subst (All (λ (e : ℕ × ℕ). e.0 < size)) next had.below)
 
@@ -131,6 +145,10 @@ module _ (go : Lead) (tries : ℕ → Tried) (size : ℕ) (left es : Weights) (e
   module _ (ws : List Weighted) (k : ℕ) (is : tries e.0 ≡ Ok ws) (sum : k ≡ total ws) where
     share_small : e.1 / k * total ws ≤ e.1
     share_small = subst (λ (m : ℕ). e.1 / k * m ≤ e.1) sum (div-mul-le_self e.1 k)
+
+    -- there is room for the first store's shares
+    pub split_room : parts_sum now + e.1 / k * total ws < 2 ^ 127
+    split_room = omega (arith, share_small, all_within)
 
     pub split_more : (after : List Part) → after ≡ with_shares go now e.0 (e.1 / k) ws → PartsBelow size after → SplitsOn go tries size es whole after
     split_more after made held = record {

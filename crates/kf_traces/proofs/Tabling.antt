@@ -2,6 +2,7 @@
 use Rattle.std.proofs.Common.{◌≡◌, ℕ, ◌+◌, ◌<◌, ◌≤◌, ◌==◌, cond, List, [], ◌∷◌, ◌++◌, length, map, refl, sym, ap, subst, ◌∙◌, arith}
 use Rattle.std.specs.Prelude.{filter, if◌then◌else◌}
 use Rattle.std.specs.List.{All, AllByRecursion as Each}
+use Rattle.std.proofs.lemmas.List.{length-map}
 use Rattle.std.proofs.lemmas.List.Elements.{All-from_recursion, recursion_from_All, All-cons, All-head, All-nil}
 use Rattle.std.proofs.lemmas.List.Sums.{sum_by-cons}
 use Rattle.kf_frac.specs.Fractions.{limit}
@@ -94,3 +95,15 @@ about_weights es c now cs abouts one is only become number room alike below weig
 -- and the values are the target's
 pub about_below : (size : ℕ) (now : Column) (abouts : List Column) → abouts ≡ now ∷ [] → All (IsBelow size) abouts → IsBelow size now
 about_below size now abouts only below = All-head (IsBelow size) now [] (subst (All (IsBelow size)) only below)
+
+-- there is one column of it
+pub about_alone : (c : Column) (cs abouts : List Column) (f : Column → ℕ → ℕ) → cs ≡ c ∷ [] → map weight_at abouts ≡ map f cs → length abouts ≡ 1
+about_alone c cs abouts f one weights = sym (length-map abouts weight_at) ∙ ap length weights ∙ length-map cs f ∙ ap length one
+
+-- and it has the weight of all stores
+pub about_total : (es : Weights) (c now : Column) (cs abouts : List Column) → cs ≡ c ∷ [] → c ≡ summed es → abouts ≡ now ∷ [] → mass abouts ≡ mass cs → total now ≡ sum_of es
+about_total es c now cs abouts one is only same =
+    let left : mass abouts ≡ total now + 0 = ap mass only ∙ sum_by-cons total now [] in
+    let right : mass cs ≡ total c + 0 = ap mass one ∙ sum_by-cons total c [] in
+    let all : total c ≡ sum_of es = ap total is ∙ total_summed es in
+    omega (arith, left, right, all, same)

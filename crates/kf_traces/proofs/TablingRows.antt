@@ -6,8 +6,8 @@ use Rattle.std.specs.List.Sorted.{IsStrictlySortedBy}
 use Rattle.std.specs.Cmp.Lexicographic.{pointwise}
 use Rattle.std.specs.declared.cmp.Ordering.TheVariants.{Less}
 use Rattle.std.proofs.lemmas.Bool.{false_from_ne_true}
-use Rattle.std.proofs.lemmas.List.{map-append}
-use Rattle.std.proofs.lemmas.List.Elements.{All-from_recursion, recursion_from_All, All-head, All-tail, All-push}
+use Rattle.std.proofs.lemmas.List.{append-nil, map-append}
+use Rattle.std.proofs.lemmas.List.Elements.{All-from_recursion, recursion_from_All, All-head, All-nil, All-tail, All-push}
 use Rattle.std.proofs.lemmas.List.Sums.{sum_by-cons}
 use Rattle.kf_frac.specs.Fractions.{limit}
 use Rattle.kf_value.specs.Values.{ValueTree, is_equal}
@@ -303,6 +303,35 @@ pub record RowsOn (number : ℕ → ℕ) (size room scale : ℕ) (left whole : L
   pub some : All (λ s. 1 ≤ length s.stores) left
   pub positive : All (λ s. All (λ e. 0 < e.1) s.stores) left
   pub within : All (λ s. sum_of s.stores ≤ scale) left
+
+-- at the start there is no row
+pub rows_start : (number : ℕ → ℕ) (size room scale : ℕ) (left whole : List Traced) (now : List Row) → now ≡ [] → left ≡ whole → AllFit room whole → All (λ s. 1 ≤ length s.stores) whole
+    → All (λ s. All (λ e. 0 < e.1) s.stores) whole → All (λ s. sum_of s.stores ≤ scale) whole → RowsOn number size room scale left whole now
+rows_start number size room scale left whole now none is fits some positive within =
+    rw (none, is) (record {
+      traces = refl;
+      weights = refl;
+      totals = refl;
+      below = All-nil (λ (r : Row). IsBelow size r.column);
+      columns = All-nil (λ (r : Row). IsColumn r.column);
+      fits = fits;
+      some = some;
+      positive = positive;
+      within = within;
+    })
+
+-- at the end each state has its row
+module _ (number : ℕ → ℕ) (size room scale : ℕ) (left whole : List Traced) (now : List Row) (none : left ≡ []) (had : RowsOn number size room scale left whole now) where
+  pub end_traces : map (λ r. r.trace) now ≡ map (λ s. s.trace) whole
+  end_traces = sym (append-nil (map (λ (r : Row). r.trace) now)) ∙ (ap (λ ss. map (λ (r : Row). r.trace) now ++ map (λ (s : Traced). s.trace) ss) (sym none) ∙ had.traces)
+
+  pub end_weights : map (λ (r : Row). weight_at r.column) now ≡ map (λ s x. value_in number x s) whole
+  end_weights =
+      sym (append-nil (map (λ (r : Row). weight_at r.column) now)) ∙ (ap (λ ss. map (λ (r : Row). weight_at r.column) now ++ map (λ (s : Traced) x. value_in number x s) ss) (sym none) ∙ had.weights)
+
+  pub end_totals : map (λ (r : Row). total r.column) now ≡ map (λ s. sum_of s.stores) whole
+  end_totals =
+      sym (append-nil (map (λ (r : Row). total r.column) now)) ∙ (ap (λ ss. map (λ (r : Row). total r.column) now ++ map (λ (s : Traced). sum_of s.stores) ss) (sym none) ∙ had.totals)
 
 module _ (number : ℕ → ℕ) (size room scale : ℕ) (left rest whole : List Traced) (now : List Row) (s : Traced) (next : left ≡ s ∷ rest) (had : RowsOn number size room scale left whole now) where
   -- the next state's stores fit

@@ -90,6 +90,22 @@ module _ {X Y : Type 0} (next : X → List Y) (P : X → Type 0) (Q : Y → Type
   pub goes_end : (whole done : List Y) (left : List X) → left ≡ [] → GoesOn whole done left → done ≡ whole
   goes_end whole done left none before = sym (append-nil done) ∙ (ap (λ xs. done ++ flat_map next xs) (sym none) ∙ before.same)
 
+-- ---- a loop over things that each become one
+
+module _ {X Y : Type 0} (f : X → Y) where
+  -- at the start nothing is done
+  pub ones_start : (done : List Y) (left all : List X) → done ≡ [] → left ≡ all → done ++ map f left ≡ map f all
+  ones_start done left all empty is = λ i. empty i ++ map f (is i)
+
+  -- what the next one becomes goes behind what is done
+  pub ones_step : (whole done after : List Y) (left rest : List X) (x : X) → left ≡ x ∷ rest → after ≡ done ++ f x ∷ [] → done ++ map f left ≡ whole → after ++ map f rest ≡ whole
+  ones_step whole done after left rest x is put before =
+      ap (λ ys. ys ++ map f rest) put ∙ (append_assoc done (f x ∷ []) (map f rest) ∙ (ap (λ xs. done ++ map f xs) (sym is) ∙ before))
+
+  -- at the end all is done
+  pub ones_end : (whole done : List Y) (left : List X) → left ≡ [] → done ++ map f left ≡ whole → done ≡ whole
+  ones_end whole done left none before = sym (append-nil done) ∙ (ap (λ xs. done ++ map f xs) (sym none) ∙ before)
+
 -- no thing is left where their number is 0
 pub none_left : {X : Type 0} (xs : List X) → length xs ≡ 0 → xs ≡ []
 none_left [] empty = refl

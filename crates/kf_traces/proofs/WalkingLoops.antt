@@ -1,5 +1,5 @@
 -- What states come to in branches and in loops, and how many visits a loop's guard has.
-use Rattle.std.proofs.Common.{◌≡◌, ℕ, zero, suc, ◌+◌, ◌<◌, Bool, true, false, List, [], ◌∷◌, ◌++◌, All, map, reverse, refl, sym, ap, subst, ◌∙◌, arith}
+use Rattle.std.proofs.Common.{◌≡◌, ℕ, zero, suc, ◌+◌, ◌-◌, ◌<◌, Bool, true, false, List, [], ◌∷◌, ◌++◌, All, map, reverse, refl, sym, ap, subst, ◌∙◌, arith}
 use Rattle.std.specs.Prelude.{flat_map, if◌then◌else◌}
 use Rattle.std.proofs.lemmas.List.{append-nil, append_assoc, reverse-append}
 use Rattle.std.proofs.lemmas.List.Elements.{All-append, All-cons, All-head, All-nil, All-push, All-same, All-tail, All-from_recursion, recursion_from_All}
@@ -47,6 +47,11 @@ next_is body k s b is = ap (λ c. if c then asks_again body k s else (Left s ∷
 -- those of a state whose last value is true ask again
 pub asked_next : (body : Traced → List Traced) (k : ℕ) (s : Traced) (made : List VisitTree) → made ≡ asks_again body k s → true ≡ last_true s.trace → made ≡ visits_next body k s
 asked_next body k s made is truly = is ∙ next_is body k s true truly
+
+-- those of a state that went through the body, where a turn is to come
+pub asks_are : (body : Traced → List Traced) (k : ℕ) (s : Traced) (walked : List Traced) (made : List VisitTree) → 0 < k → walked ≡ body s → made ≡ map (λ u. Asks u (k - 1)) walked → made ≡ asks_again body k s
+asks_are body zero s walked made some went is = absurd (omega (arith, some))
+asks_are body (suc k) s walked made some went is = let less : suc k - 1 ≡ k = omega arith in is ∙ (λ i. map (λ u. Asks u (less i)) (went i))
 
 -- ---- visits of a loop
 

@@ -1,10 +1,54 @@
-use Rattle.std.proofs.Common.{ℕ, [], ap, Ok}
+use Rattle.std.proofs.Common.{ℕ, [], ap, sym, ◌∙◌, arith, Ok}
 use Rattle.kf_value.specs.Shapes.{shape_size, shape_types}
 use Rattle.kf_core.specs.Views.{dx_tree}
 use Rattle.kf_eval.specs.Choices.{weighted_trees}
 use Rattle.kf_traces.specs.Traced.{assign_all}
-use Rattle.kf_traces.proofs.Assigning.{assign_more, assign_past}
+use Rattle.kf_traces.proofs.Assigning.{goes_start, goes_here, assign_room, assign_more, assign_past}
 use Rattle.kf_traces.proofs.assigns.assign.Goals as goal
+
+pub loop-store-init : goal.loop-store-init
+loop-store-init c =
+    goes_start (assign_all (shape_types c.args.shape.now) c.args.slot (dx_tree c.args.dist.now)) (shape_size c.args.shape.now) c.into_iter-store-iterator.result c.args.stores.now.entries c.new-reached.result.entries
+    c.new-reached.ensures.empty c.into_iter-store-iterator.ensures.into_iter_gives.0 c.requires.fits.below c.requires.fits.narrow
+
+pub chosen_in-requires-clause-store : goal.chosen_in-requires-clause-store
+chosen_in-requires-clause-store c =
+    goes_here (assign_all (shape_types c.args.shape.now) c.args.slot (dx_tree c.args.dist.now)) (shape_size c.args.shape.now) c.loop-store.store-iterator c.next.new.self
+    (c.in-Some.store.now, c.in-Some.weight.now) _ c.loop-store.reached.entries c.in-Some.ensures.steps c.loop-store.invariant
+
+pub chosen_in-requires-clause-kinded : goal.chosen_in-requires-clause-kinded
+chosen_in-requires-clause-kinded c = c.requires.kinded
+
+pub nonzero_div-share : goal.nonzero_div-share
+nonzero_div-share c = let some = rw c.in-Some-2.is at c.in_ok-choice.ensures.some in omega (arith, some)
+
+pub add_moves-requires-clause-variable : goal.add_moves-requires-clause-variable
+add_moves-requires-clause-variable c = c.requires.variable
+
+pub add_moves-requires-clause-store : goal.add_moves-requires-clause-store
+add_moves-requires-clause-store c =
+    goes_here (assign_all (shape_types c.args.shape.now) c.args.slot (dx_tree c.args.dist.now)) (shape_size c.args.shape.now) c.loop-store.store-iterator c.next.new.self
+    (c.in-Some.store.now, c.in-Some.weight.now) _ c.loop-store.reached.entries c.in-Some.ensures.steps c.loop-store.invariant
+
+pub add_moves-requires-clause-formed : goal.add_moves-requires-clause-formed
+add_moves-requires-clause-formed c = rw c.as_slice.ensures (rw c.in-Some-2.is at c.in_ok-choice.ensures.formed)
+
+pub add_moves-requires-clause-below : goal.add_moves-requires-clause-below
+add_moves-requires-clause-below c = c.loop-store.invariant.held
+
+pub add_moves-requires-clause-within : goal.add_moves-requires-clause-within
+add_moves-requires-clause-within c =
+    let sum = rw c.in-Some-2.is at c.in_ok-choice.ensures.total in
+    rw c.as_slice.ensures
+    (assign_room (shape_types c.args.shape.now) c.args.slot (dx_tree c.args.dist.now) (shape_size c.args.shape.now) c.loop-store.store-iterator c.next.new.self (c.in-Some.store.now, c.in-Some.weight.now) _
+    c.loop-store.reached.entries c.in-Some.ensures.steps c.loop-store.invariant (weighted_trees c.in-Some-2.choice) c.in-Some-2.choice.total sum)
+
+pub returns-clause-assigned : goal.returns-clause-assigned
+returns-clause-assigned c =
+    ap (assign_all (shape_types c.args.shape.now) c.args.slot (dx_tree c.args.dist.now) c.loop-store.reached.entries) (sym c.in-None.ensures.steps.0) ∙ c.loop-store.invariant.same
+
+pub returns-clause-fits : goal.returns-clause-fits
+returns-clause-fits c = record { below = c.loop-store.invariant.held; narrow = omega (arith, c.loop-store.invariant.within) }
 
 pub loop-store-preserved-in-Some-2 : goal.loop-store-preserved-in-Some-2
 loop-store-preserved-in-Some-2 c =

@@ -3,10 +3,10 @@ use Rattle.kf_value.specs.Shapes.{shape_size, shape_sizes}
 use Rattle.kf_value.specs.Types.{product}
 use Rattle.kf_core.specs.Joint.{target_number}
 use Rattle.kf_core.specs.Views.{program_tree}
-use Rattle.kf_column.specs.Projection.{at_places, projected}
+use Rattle.kf_column.specs.Projection.{at_places, projected, weight_through}
 use Rattle.kf_column.specs.Shapes.{IsBelow}
 use Rattle.kf_core.proofs.Numbering.{slots_within, slots_distinct, target_size_is, target_number_is}
-use Rattle.kf_traces.proofs.Tabling.{stores_positive, stores_some, only_pushed, alone_is_joint, alone_below, about_weights, about_below}
+use Rattle.kf_traces.proofs.Tabling.{stores_positive, stores_some, only_pushed, alone_is_joint, alone_below, about_weights, about_below, about_alone, about_total}
 use Rattle.kf_traces.proofs.columns.column.Goals as goal
 
 pub column_of-requires-clause-positive : goal.column_of-requires-clause-positive
@@ -49,3 +49,18 @@ returns-clause-below c =
     let room = product (at_places c.args.program.now.target_slots (shape_sizes c.args.program.now.shape)) in
     subst (λ n. IsBelow n c.in_ok-column.column) (sym (target_size_is p c.requires.checked))
     (about_below room c.in_ok-column.column c.in_ok-about.about.columns c.in_ok-column.ensures.only c.in_ok-about.ensures.below)
+
+pub only_column-requires : goal.only_column-requires
+only_column-requires c =
+    let column = c.in_ok-column_of.field-0 in
+    let one = ap (λ j. j.columns) c.new-joint.ensures ∙ only_pushed column c.new-columns.result.items c.push.new.self.items c.new.result c.new-columns.ensures.items c.in_ok-push.ensures.items c.new.ensures in
+    about_alone column c.new-joint.result.columns c.in_ok-about.about.columns (weight_through (projected (shape_sizes c.args.program.now.shape) c.args.program.now.target_slots)) one c.in_ok-about.ensures.weights
+
+pub returns-clause-total : goal.returns-clause-total
+returns-clause-total c =
+    let column = c.in_ok-column_of.field-0 in
+    let one = ap (λ j. j.columns) c.new-joint.ensures ∙ only_pushed column c.new-columns.result.items c.push.new.self.items c.new.result c.new-columns.ensures.items c.in_ok-push.ensures.items c.new.ensures in
+    about_total c.args.stores.entries column c.in_ok-column.column c.new-joint.result.columns c.in_ok-about.about.columns one c.in_ok-column_of.ensures c.in_ok-column.ensures.only c.in_ok-about.ensures.mass
+
+pub returns-clause-column : goal.returns-clause-column
+returns-clause-column c = c.in_ok-column.ensures.column

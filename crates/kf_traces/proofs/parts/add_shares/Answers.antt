@@ -1,13 +1,14 @@
-use Rattle.std.proofs.Common.{◌+◌, map, drop}
+use Rattle.std.proofs.Common.{◌+◌, ◌∙◌, ap, sym, map, drop, refl, arith}
 use Rattle.std.proofs.lemmas.List.Elements.{recursion_from_All}
 use Rattle.kf_value.specs.Forms.{IsWellFormed}
 use Rattle.kf_value.specs.Shapes.{shape_size, shape_types}
-use Rattle.kf_value.proofs.ListLemmas.{each_at, left_step, mapped_read}
+use Rattle.kf_value.proofs.ListLemmas.{each_at, left_end, left_step, mapped_read}
 use Rattle.kf_core.specs.Choices.{Weighted}
 use Rattle.kf_eval.specs.Choices.{weighted_tree}
 use Rattle.kf_support.specs.Moves.{store_behind}
+use Rattle.kf_traces.specs.Traced.{with_shares}
 use Rattle.kf_traces.specs.Views.{part_of}
-use Rattle.kf_traces.proofs.Splits.{shares_step, shares_past}
+use Rattle.kf_traces.proofs.Splits.{share_room, shares_step, shares_past}
 use Rattle.kf_traces.proofs.parts.add_shares.Goals as goal
 use Rattle.kf_traces.proofs.parts.add_shares.Goals.{in-Some+in_ok-add_part, in_default}
 
@@ -17,6 +18,34 @@ store_behind-requires-clause-formed c =
     each_at (λ (w : Weighted). IsWellFormed w.value) ws c.loop-choice.choice-index (weighted_tree c.choice-item.result)
     (recursion_from_All (λ (w : Weighted). IsWellFormed w.value) ws c.requires.formed)
     (mapped_read weighted_tree c.args.choices.now c.loop-choice.choice-index c.choice-item.result c.loop-choice-test.true c.choice-item.is)
+
+pub loop-choice-init : goal.loop-choice-init
+loop-choice-init c = record { same = refl; ascending = c.requires.ascending; below = c.requires.below; within = c.requires.within }
+
+pub store_behind-requires-clause-variable : goal.store_behind-requires-clause-variable
+store_behind-requires-clause-variable c = c.requires.variable
+
+pub store_behind-requires-clause-store : goal.store_behind-requires-clause-store
+store_behind-requires-clause-store c = c.requires.store
+
+pub add_part-requires-clause-ascending : goal.add_part-requires-clause-ascending
+add_part-requires-clause-ascending c = c.loop-choice.invariant.ascending
+
+pub add_part-requires-clause-within : goal.add_part-requires-clause-within
+add_part-requires-clause-within c =
+    let cs = c.args.choices.now in
+    let i = c.loop-choice.choice-index in
+    share_room (store_behind (shape_types c.args.shape.now) c.args.into) c.args.store c.args.share (shape_size c.args.shape.now) (map weighted_tree (drop i cs)) (map weighted_tree (drop (i + 1) cs))
+    (weighted_tree c.choice-item.result) _ (map part_of c.loop-choice.parts.items) (left_step weighted_tree cs i c.choice-item.result c.loop-choice-test.true c.choice-item.is) c.loop-choice.invariant
+
+pub overflow_mul-share : goal.overflow_mul-share
+overflow_mul-share c =
+    let cs = c.args.choices.now in
+    let i = c.loop-choice.choice-index in
+    let room =
+    share_room (store_behind (shape_types c.args.shape.now) c.args.into) c.args.store c.args.share (shape_size c.args.shape.now) (map weighted_tree (drop i cs)) (map weighted_tree (drop (i + 1) cs))
+    (weighted_tree c.choice-item.result) _ (map part_of c.loop-choice.parts.items) (left_step weighted_tree cs i c.choice-item.result c.loop-choice-test.true c.choice-item.is) c.loop-choice.invariant in
+    omega (arith, room)
 
 pub loop-choice-preserved : goal.loop-choice-preserved
 loop-choice-preserved c =
@@ -36,3 +65,12 @@ loop-choice-preserved c =
           (shares_past go c.args.store c.args.share size (map weighted_tree (drop i cs)) rest (weighted_tree c.choice-item.result) _ (map part_of c.loop-choice.parts.items) next c.loop-choice.invariant
           w.in_default.ensures.behind)
     ]
+
+pub returns-clause-shares : goal.returns-clause-shares
+returns-clause-shares c =
+    let go = store_behind (shape_types c.args.shape.now) c.args.into in
+    ap (with_shares go (map part_of c.loop-choice.parts.items) c.args.store c.args.share) (sym (left_end weighted_tree c.args.choices.now c.loop-choice.choice-index (omega arith)))
+    ∙ c.loop-choice.invariant.same
+
+pub returns-clause-below : goal.returns-clause-below
+returns-clause-below c = c.loop-choice.invariant.below

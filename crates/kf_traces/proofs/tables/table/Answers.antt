@@ -56,3 +56,6 @@ returns-clause-rows c =
     let told = states_tell turns _ p ss c.args.c.now.checked c.args.c.now.clear c.args.c.now.scale_is c.traced_laws.ensures.tell c.in_ok-states.ensures.states in
     let weights = rw c.program.ensures at c.in_ok-rows.ensures.weights in
     rw c.new.ensures (rows_are turns p checked c.args.c.now.clear c.traced_laws.ensures.joint ss rs told.0 told.1 c.in_ok-rows.ensures.traces weights c.in_ok-rows.ensures.totals c.in_ok-rows.ensures.columns)
+
+pub returns-clause-scale : goal.returns-clause-scale
+returns-clause-scale c = c.scale-2.ensures

@@ -1,16 +1,18 @@
-use Rattle.std.proofs.Common.{rules, ◌≡◌, ◌+◌, ◌-◌, [], ◌∷◌, ap, ◌∙◌, sym, map, drop, reverse, arith, false, refl}
+use Rattle.std.proofs.Common.{rules, ◌≡◌, ◌+◌, ◌-◌, List, [], ◌∷◌, ap, subst, ◌∙◌, sym, map, drop, reverse, arith, false, refl}
 use Rattle.std.proofs.lemmas.List.Elements.{All-cons, All-map, All-nil, All-same}
-use Rattle.std.specs.Prelude.{flat_map}
+use Rattle.std.specs.Prelude.{flat_map, IfOk}
 use Rattle.std.specs.Vec.Iter.{into_iter_items}
+use Rattle.kf_value.specs.Kinds.{TruthKind}
 use Rattle.kf_value.specs.Shapes.{shape_size, shape_types}
 use Rattle.kf_value.proofs.ListLemmas.{left_step, left_end, map-reverse}
 use Rattle.kf_core.specs.declared.st.St.{the_lemmas}
+use Rattle.kf_core.specs.Sts.{sts}
 use Rattle.kf_core.specs.Views.{dx_tree, st_tree}
 use Rattle.kf_core.specs.Runs.{tried}
 use Rattle.kf_eval.specs.Kinds.{shape_kinds}
 use Rattle.kf_core.proofs.SoundParts as pass
 use Rattle.kf_traces.specs.declared.walks.Visit.TheVariants as code
-use Rattle.kf_traces.specs.Traced.{Traced, loop_traced, traced}
+use Rattle.kf_traces.specs.Traced.{Traced, all_traced, assignment_traced, loop_traced, traced}
 use Rattle.kf_traces.specs.Views.{traced_of}
 use Rattle.kf_traces.specs.Visits.{VisitTree, Asks, Left, visit_of, visitor, visits_next}
 use Rattle.kf_traces.proofs.Walking as walking
@@ -241,3 +243,142 @@ walk_while-loop-visit-smaller-in-Continue-branch-2 t c =
     let s = traced_of c.in-Left.state in
     let is = walking.mapped_last visit_of c.loop-visit.visits.items c.pop.new.self.items c.in-Some.visit (code.Left c.in-Left.state) c.in-Some.ensures.items c.in-Left.is in
     loops.left_falls guard body size whole ended visits rest (Left s) is c.loop-visit.invariant s refl
+
+pub turn-loop-state-init : goal.turn-loop-state-init
+turn-loop-state-init t c =
+    let size = shape_size c.args.shape.now in
+    let next = visits_next (walking.ends_of c.args.shape.now c.args.turns (map st_tree c.args.body.now)) c.args.rest in
+    walking.goes_start next (walking.InSize size) (λ v. walking.InSize size (visitor v)) (map visit_of c.new-visits.result.items) (map traced_of c.args.states.items) (map traced_of (into_iter_items c.into_iter-state-iterator.result))
+    (ap (map visit_of) c.new-visits.ensures.items) (ap (map traced_of) c.into_iter-state-iterator.ensures.into_iter_gives.0) c.requires.fits
+
+pub turn-returns-clause-visits : goal.turn-returns-clause-visits
+turn-returns-clause-visits t c =
+    let size = shape_size c.args.shape.now in
+    let next = visits_next (walking.ends_of c.args.shape.now c.args.turns (map st_tree c.args.body.now)) c.args.rest in
+    let none : into_iter_items c.loop-state.state-iterator ≡ [] = walking.none_left _ (omega (arith, c.in-None.ensures.steps.0, c.loop-state.state-iterator.rest.ok)) in
+    walking.goes_end next (walking.InSize size) (λ v. walking.InSize size (visitor v)) (flat_map next (map traced_of c.args.states.items)) (map visit_of c.loop-state.visits.items) (map traced_of (into_iter_items c.loop-state.state-iterator))
+    (ap (map traced_of) none) c.loop-state.invariant
+
+pub turn-returns-clause-fits : goal.turn-returns-clause-fits
+turn-returns-clause-fits t c = c.loop-state.invariant.holds
+
+pub walk_each-loop-state-init : goal.walk_each-loop-state-init
+walk_each-loop-state-init t c =
+    let size = shape_size c.args.shape.now in
+    let next = traced (shape_types c.args.shape.now) c.args.turns (st_tree c.args.statement.now) in
+    walking.goes_start next (walking.InSize size) (walking.InSize size) (map traced_of c.new-next.result.items) (map traced_of c.args.states.items) (map traced_of (into_iter_items c.into_iter-state-iterator.result))
+    (ap (map traced_of) c.new-next.ensures.items) (ap (map traced_of) c.into_iter-state-iterator.ensures.into_iter_gives.0) c.requires.fits
+
+pub walk_each-returns-clause-walked : goal.walk_each-returns-clause-walked
+walk_each-returns-clause-walked t c =
+    let size = shape_size c.args.shape.now in
+    let next = traced (shape_types c.args.shape.now) c.args.turns (st_tree c.args.statement.now) in
+    let none : into_iter_items c.loop-state.state-iterator ≡ [] = walking.none_left _ (omega (arith, c.in-None.ensures.steps.0, c.loop-state.state-iterator.rest.ok)) in
+    walking.goes_end next (walking.InSize size) (walking.InSize size) (flat_map next (map traced_of c.args.states.items)) (map traced_of c.loop-state.next.items) (map traced_of (into_iter_items c.loop-state.state-iterator))
+    (ap (map traced_of) none) c.loop-state.invariant
+
+pub walk_each-returns-clause-fits : goal.walk_each-returns-clause-fits
+walk_each-returns-clause-fits t c = c.loop-state.invariant.holds
+
+pub walk-loop-state-init : goal.walk-loop-state-init
+walk-loop-state-init t c =
+    let size = shape_size c.args.shape.now in
+    let next = form.branch_of (shape_types c.args.shape.now) c.args.turns c.in-If.yes c.in-If.no in
+    let states = map traced_of (into_iter_items c.into_iter-state-iterator.result) in
+    walking.goes_start next (walking.InSize size) (walking.InSize size) (map traced_of c.new-next.result.items) states states (ap (map traced_of) c.new-next.ensures.items) refl
+    (All-same (walking.InSize size) states (map traced_of c.in_ok-states-in-If.states.items) (ap (map traced_of) c.into_iter-state-iterator.ensures.into_iter_gives.0) c.in_ok-states-in-If.ensures.fits)
+
+pub walk-returns-in-None-clause-fits : goal.walk-returns-in-None-clause-fits
+walk-returns-in-None-clause-fits t c = c.loop-state.invariant.holds
+
+pub walk-assigned_all-requires-clause-kinded : goal.walk-assigned_all-requires-clause-kinded
+walk-assigned_all-requires-clause-kinded t c =
+    let known = pass.assign_parts (shape_kinds c.args.shape.now) c.args.statement.now c.requires.sound c.in-Assign.slot c.in-Assign.dist c.in-Assign.shown c.in-Assign.is in
+    (known.0, known.1.1)
+
+pub walk-assigned_all-requires-clause-fits : goal.walk-assigned_all-requires-clause-fits
+walk-assigned_all-requires-clause-fits t c = c.requires.fits
+
+pub walk-leak-requires-clause-kinded : goal.walk-leak-requires-clause-kinded
+walk-leak-requires-clause-kinded t c = pass.observe_parts (shape_kinds c.args.shape.now) c.args.statement.now c.requires.sound c.in-Observe.dist c.in-Observe.is
+
+pub walk-leak-requires-clause-fits : goal.walk-leak-requires-clause-fits
+walk-leak-requires-clause-fits t c = c.requires.fits
+
+pub walk-leak-requires-in-If-clause-kinded : goal.walk-leak-requires-in-If-clause-kinded
+walk-leak-requires-in-If-clause-kinded t c =
+    (TruthKind, pass.if_guard (shape_kinds c.args.shape.now) c.args.statement.now c.requires.sound c.in-If.test c.in-If.yes c.in-If.no c.in-If.is)
+
+pub walk-leak-requires-in-If-clause-fits : goal.walk-leak-requires-in-If-clause-fits
+walk-leak-requires-in-If-clause-fits t c = c.requires.fits
+
+pub walk_while-leak-requires-clause-kinded : goal.walk_while-leak-requires-clause-kinded
+walk_while-leak-requires-clause-kinded t c = (TruthKind, c.requires.kinded)
+
+pub walk_while-loop-visit-init : goal.walk_while-loop-visit-init
+walk_while-loop-visit-init t c =
+    let guard = tried (shape_types c.args.shape.now) (dx_tree c.args.test.now) in
+    let body = walking.ends_of c.args.shape.now c.args.turns (map st_tree c.args.body.now) in
+    loops.stack_start guard body (shape_size c.args.shape.now) c.args.turns (traced_of c.args.from) (map traced_of c.new-ended.result.items) (map visit_of c.new-visits.result.items)
+    (map visit_of c.push.new.self.items) (ap (map traced_of) c.new-ended.ensures.items) (ap (map visit_of) c.new-visits.ensures.items)
+    (walking.mapped_joined visit_of c.push.new.self.items c.new-visits.result.items (code.Asks c.args.from c.args.turns ∷ []) c.in_ok-push.ensures.items) c.requires.fits
+
+pub walk_while-returns-clause-fits : goal.walk_while-returns-clause-fits
+walk_while-returns-clause-fits t c = c.loop-visit.invariant.fits
+
+pub walk_all-loop-statement-init : goal.walk_all-loop-statement-init
+walk_all-loop-statement-init t c =
+    walking.block_start c.args.shape.now c.args.turns (map st_tree c.args.statements.now) (traced_of c.args.from) (map traced_of c.in_ok-states.states.items) c.in_ok-states.ensures c.requires.sound c.requires.fits
+
+pub walk_all-returns-clause-fits : goal.walk_all-returns-clause-fits
+walk_all-returns-clause-fits t c = c.loop-statement.invariant.fits
+
+pub walk-returns-in-Skip-clause-walked : goal.walk-returns-in-Skip-clause-walked
+walk-returns-in-Skip-clause-walked t c =
+    subst (λ (xs : List Traced). IfOk c.only.result (λ ss. map traced_of ss.items ≡ xs)) (form.ends_skip (shape_types c.args.shape.now) c.args.turns c.args.statement.now (traced_of c.args.from) c.in-Skip.is)
+    c.only.ensures
+
+pub walk-returns-in-Skip-clause-fits : goal.walk-returns-in-Skip-clause-fits
+walk-returns-in-Skip-clause-fits t c =
+    walking.only_fits c.only.result (λ ss. map traced_of ss.items) (shape_size c.args.shape.now) (traced_of c.args.from) c.requires.fits c.only.ensures
+
+pub walk-returns-in-Assign-clause-walked : goal.walk-returns-in-Assign-clause-walked
+walk-returns-in-Assign-clause-walked t c =
+    let ts = shape_types c.args.shape.now in
+    let s = traced_of c.args.from in
+    subst (λ (xs : List Traced). IfOk c.assigned_all.result (λ ss. map traced_of ss.items ≡ xs))
+    (ap (λ i. assignment_traced c.in-Assign.shown ts i (dx_tree c.in-Assign.dist) s) c.from.ensures
+    ∙ form.ends_assign ts c.args.turns c.args.statement.now s c.in-Assign.slot c.in-Assign.dist c.in-Assign.shown c.in-Assign.is) c.assigned_all.ensures.walked
+
+pub walk-returns-in-Assign-clause-fits : goal.walk-returns-in-Assign-clause-fits
+walk-returns-in-Assign-clause-fits t c = c.assigned_all.ensures.fits
+
+pub walk-returns-in-Observe-clause-walked : goal.walk-returns-in-Observe-clause-walked
+walk-returns-in-Observe-clause-walked t c =
+    subst (λ (xs : List Traced). IfOk c.leak.result (λ ss. map traced_of ss.items ≡ xs))
+    (form.ends_observe (shape_types c.args.shape.now) c.args.turns c.args.statement.now (traced_of c.args.from) c.in-Observe.dist c.in-Observe.is) c.leak.ensures.leaked
+
+pub walk-returns-in-Observe-clause-fits : goal.walk-returns-in-Observe-clause-fits
+walk-returns-in-Observe-clause-fits t c = c.leak.ensures.fits
+
+pub walk-returns-in-While-clause-walked : goal.walk-returns-in-While-clause-walked
+walk-returns-in-While-clause-walked t c =
+    let ts = shape_types c.args.shape.now in
+    let s = traced_of c.args.from in
+    subst (λ (xs : List Traced). IfOk c.walk_while.result (λ ss. map traced_of ss.items ≡ xs))
+    (ap (λ us. loop_traced c.args.turns (tried ts (dx_tree c.in-While.test)) (all_traced ts c.args.turns (sts (map st_tree us))) s) c.as_slice.ensures
+    ∙ form.ends_while ts c.args.turns c.args.statement.now s c.in-While.test c.in-While.body c.in-While.is) c.walk_while.ensures.walked
+
+pub walk-returns-in-While-clause-fits : goal.walk-returns-in-While-clause-fits
+walk-returns-in-While-clause-fits t c = c.walk_while.ensures.fits
+
+pub ask_again-returns-clause-visits : goal.ask_again-returns-clause-visits
+ask_again-returns-clause-visits t c =
+    loops.asks_are (walking.ends_of c.args.shape.now c.args.turns (map st_tree c.args.body.now)) c.args.rest (traced_of c.args.state) (map traced_of c.in_ok-walked.walked.items)
+    (map visit_of c.in_ok-asking.asking.items) (omega arith) c.in_ok-walked.ensures.walked c.in_ok-asking.ensures
+
+pub ask_again-walk_all-requires : goal.ask_again-walk_all-requires
+ask_again-walk_all-requires t c = (search (rules, the_lemmas), (c.requires.sound, c.requires.fits))
+
+pub walk_while-turn-requires : goal.walk_while-turn-requires
+walk_while-turn-requires t c = (search (rules, the_lemmas), (c.requires.sound, c.in_ok-states-in-Asks.ensures.fits))

@@ -1,4 +1,4 @@
-use Rattle.std.proofs.Common.{map}
+use Rattle.std.proofs.Common.{map, ap, ◌∙◌}
 use Rattle.std.proofs.lemmas.List.Elements.{All-same}
 use Rattle.kf_value.specs.Shapes.{shape_size}
 use Rattle.kf_value.specs.Views.{value_tree}
@@ -6,6 +6,12 @@ use Rattle.kf_traces.specs.Traced.{behind}
 use Rattle.kf_traces.specs.Views.{part_of, traced_of}
 use Rattle.kf_traces.proofs.Walking.{InSize, leaked_fit}
 use Rattle.kf_traces.proofs.walks.leak.Goals as goal
+
+pub split-requires-clause-kinded : goal.split-requires-clause-kinded
+split-requires-clause-kinded c = c.requires.kinded
+
+pub returns-clause-leaked : goal.returns-clause-leaked
+returns-clause-leaked c = c.in_ok-states.ensures ∙ ap (map (behind (map value_tree c.args.from.trace.items))) c.in_ok-parts.ensures.parts
 
 pub returns-clause-fits : goal.returns-clause-fits
 returns-clause-fits c =

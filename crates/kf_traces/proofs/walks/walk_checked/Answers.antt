@@ -25,6 +25,9 @@ loop-i-preserved c =
 pub walk_all-requires-clause-sound : goal.walk_all-requires-clause-sound
 walk_all-requires-clause-sound c = whole_sound c.args.program.now c.requires.checked c.as_slice.result.now c.as_slice.ensures
 
+pub walk_all-requires-clause-fits : goal.walk_all-requires-clause-fits
+walk_all-requires-clause-fits c = c.in_ok-stores.ensures.fits
+
 pub returns-clause-states : goal.returns-clause-states
 returns-clause-states c =
     let s = traced_of c.loop-i.state in
@@ -32,3 +35,6 @@ returns-clause-states c =
     let whole = programs.body_is c.args.program.now c.args.turns (program_traced c.args.turns c.args.scale (program_tree c.args.program.now)) c.loop-i.i s c.loop-i.invariant c.as_slice-decls.result.now c.as_slice-decls.ensures (omega arith) c.as_slice.result.now c.as_slice.ensures start
     (ap (λ es. record { trace = s.trace; stores = es }) c.in_ok-stores.ensures.copied) in
     subst (λ (xs : List Traced). IfOk c.walk_all.result (λ ss. map traced_of ss.items ≡ xs)) whole c.walk_all.ensures.walked
+
+pub returns-clause-fits : goal.returns-clause-fits
+returns-clause-fits c = c.walk_all.ensures.fits

@@ -1,8 +1,9 @@
 //! The writing of certificates.
 
-ghost use Rattle.std.specs.Prelude.{◌≡◌, ◌<◌, ◌++◌, ◌==◌, map, unsigned_abs, Ok, IfOk, OnOk, string_bytes};
+ghost use Rattle.std.specs.Prelude.{◌≡◌, ◌<◌, ◌++◌, ◌==◌, ◌∷◌, ℕ, List, [], map, unsigned_abs, Ok, IfOk, OnOk, codes, string_bytes};
 ghost use Rattle.std.specs.List.{All};
-ghost use Rattle.serde_json.specs.View.{view};
+ghost use Rattle.serde_json.specs.Data.{member, no_members, put as with_member, string};
+ghost use Rattle.serde_json.specs.View.{members_view, view};
 ghost use Rattle.kf_value.specs.Numbers.{target_size};
 ghost use Rattle.kf_value.specs.Targets.{target_value_text};
 ghost use Rattle.kf_value.specs.Views.{items_of};
@@ -22,7 +23,7 @@ use kf_refine::{Matrix, Verdict};
 use kf_simplex::FracList;
 use kf_value::{Mem, Target, print_target};
 use serde_json::{Map, Value, put};
-use std::alloc::Global;
+use std::alloc::{AllocError, Global};
 
 /// The certificate of a verdict on hypers of this target, as one line of JSON without spaces.
 pub fn write_cert(alloc: Global, v: &Verdict, t: &Target) -> Result<Vec<u8>, Mem>
@@ -52,18 +53,61 @@ fn yes_value(alloc: Global, matrix: &Matrix) -> Result<Value, Mem>
     ensures small { IfOk result (λ _. IsSmall (matrix_tree matrix.now)) }
 {
     let rows = matrix.rows.as_slice();
-    let columns = widest(rows).to_string(alloc)?;
-    let mut members = Map::new(alloc);
-    put(&mut members, alloc, "columns", Value::String(columns))?;
     let entries = entry_values(alloc, rows)?;
+    let mut members = verdict_members(alloc, "yes")?;
     put(&mut members, alloc, "entries", Value::Array(entries))?;
-    let format = Value::try_from_str(alloc, "kuifje-cert-2")?;
-    put(&mut members, alloc, "format", format)?;
-    let count = rows.len().to_string(alloc)?;
-    put(&mut members, alloc, "rows", Value::String(count))?;
-    let verdict = Value::try_from_str(alloc, "yes")?;
-    put(&mut members, alloc, "verdict", verdict)?;
+    put_text(
+        &mut members,
+        alloc,
+        "columns",
+        widest(rows).to_string(alloc),
+    )?;
+    put_text(&mut members, alloc, "rows", rows.len().to_string(alloc))?;
     Ok(Value::Object(members))
+}
+
+/// The members that say the format and the verdict.
+fn verdict_members(alloc: Global, verdict: &str) -> Result<Map<String, Value>, Mem>
+    ensures { IfOk result (λ members. members_view members.entries
+        ≡ member (codes "format") (string (codes "kuifje-cert-2")) (member (codes "verdict") (string verdict.now) no_members)) }
+{
+    let mut members = Map::new(alloc);
+    put_text(
+        &mut members,
+        alloc,
+        "format",
+        String::from_str(alloc, "kuifje-cert-2"),
+    )?;
+    put_text(
+        &mut members,
+        alloc,
+        "verdict",
+        String::from_str(alloc, verdict),
+    )?;
+    Ok(members)
+}
+
+/// Adds a member with the text that was made.
+fn put_text(
+    members: &mut Map<String, Value>,
+    alloc: Global,
+    key: &str,
+    text: Result<String, AllocError>,
+) -> Result<(), Mem>
+    ensures { OnOk result ((bytes : List ℕ) → IfOk text (λ s. string_bytes s ≡ bytes)
+        → members_view members.new.entries ≡ with_member key.now (string bytes) (members_view members.old.entries)) }
+{
+    put(members, alloc, key, Value::String(text?))?;
+    Ok(())
+}
+
+/// Adds the text that was made to a list.
+fn add_text(texts: &mut Vec<Value>, text: Result<String, AllocError>) -> Result<(), Mem>
+    ensures { OnOk result ((bytes : List ℕ) → IfOk text (λ s. string_bytes s ≡ bytes)
+        → map view texts.new.items ≡ map view texts.old.items ++ string bytes ∷ []) }
+{
+    texts.push(Value::String(text?))?;
+    Ok(())
 }
 
 /// How long the longest row is.
@@ -112,9 +156,9 @@ fn entry_value(alloc: Global, row: usize, column: usize, value: &Frac) -> Result
     ensures { IfOk result (λ made. view made ≡ entry_data (record { row = row; column = column; value = fraction_of value.now })) }
 {
     let mut texts = Vec::new(alloc);
-    texts.push(Value::String(row.to_string(alloc)?))?;
-    texts.push(Value::String(column.to_string(alloc)?))?;
-    texts.push(Value::String(value.to_string(alloc)?))?;
+    add_text(&mut texts, row.to_string(alloc))?;
+    add_text(&mut texts, column.to_string(alloc))?;
+    add_text(&mut texts, value.to_string(alloc))?;
     Ok(Value::Array(texts))
 }
 
@@ -123,16 +167,10 @@ fn no_value(alloc: Global, table: &GainTable, target: &Target) -> Result<Value, 
     ensures { IfOk result (λ value. view value ≡ no_data (items_of target.now) (table_tree table.now)) }
 {
     let actions = action_values(alloc, table.actions.as_slice(), target)?;
-    let mut members = Map::new(alloc);
+    let mut members = verdict_members(alloc, "no")?;
     put(&mut members, alloc, "actions", Value::Array(actions))?;
-    let format = Value::try_from_str(alloc, "kuifje-cert-2")?;
-    put(&mut members, alloc, "format", format)?;
-    let over = table.over.to_string(alloc)?;
-    put(&mut members, alloc, "over", Value::String(over))?;
-    let rest = table.rest.to_string(alloc)?;
-    put(&mut members, alloc, "rest", Value::String(rest))?;
-    let verdict = Value::try_from_str(alloc, "no")?;
-    put(&mut members, alloc, "verdict", verdict)?;
+    put_text(&mut members, alloc, "over", table.over.to_string(alloc))?;
+    put_text(&mut members, alloc, "rest", table.rest.to_string(alloc))?;
     Ok(Value::Object(members))
 }
 
@@ -154,8 +192,8 @@ fn action_value(alloc: Global, action: &Action, target: &Target) -> Result<Value
     let gains = gain_values(alloc, action.gains.as_slice(), target)?;
     let mut members = Map::new(alloc);
     put(&mut members, alloc, "gains", Value::Array(gains))?;
-    let name = Value::try_from_str(alloc, action.name.as_str())?;
-    put(&mut members, alloc, "name", name)?;
+    let name = String::from_str(alloc, action.name.as_str());
+    put_text(&mut members, alloc, "name", name)?;
     Ok(Value::Object(members))
 }
 
@@ -175,9 +213,10 @@ fn gain_value(alloc: Global, entry: &GainEntry, target: &Target) -> Result<Value
     requires { entry.now.value < target_size (items_of target.now) }
     ensures { IfOk result (λ value. view value ≡ gain_data (items_of target.now) entry.now) }
 {
+    let text = value_text(alloc, entry.value, target)?;
     let mut texts = Vec::new(alloc);
-    texts.push(Value::String(value_text(alloc, entry.value, target)?))?;
-    texts.push(Value::String(entry.gain.to_string(alloc)?))?;
+    texts.push(Value::String(text))?;
+    add_text(&mut texts, entry.gain.to_string(alloc))?;
     Ok(Value::Array(texts))
 }
 

@@ -10,6 +10,15 @@ use Rattle.kf_gain.specs.Views.{table_tree}
 use Rattle.kf_gain.proofs.Turning.{width_on, room, posterior_fits}
 use Rattle.kf_cert.proofs.gain_rules.posterior.posterior.Goals as goal
 
+pub seen-requires : goal.seen-requires
+seen-requires c = room (Table (table_tree c.in-Table.table)) (inners_of c.args.h.now) (scale_of c.args.h.now) limit (rw c.in-Table.is at c.in_ok-guarded.ensures.narrow)
+
+pub returns-clause-narrow : goal.returns-clause-narrow
+returns-clause-narrow c = c.in_ok-guarded.ensures.narrow
+
+pub returns-in_default : goal.returns-in_default
+returns-in_default c = c.posterior.ensures
+
 pub fraction-requires-clause-num : goal.fraction-requires-clause-num
 fraction-requires-clause-num c =
     let inners : List Inner = inners_of c.args.h.now in

@@ -1,5 +1,5 @@
 -- A list that is made of the values of a JSON list, one by one, unless one of them can't be read.
-use Rattle.std.proofs.Common.{◌≡◌, ◌<◌, ◌≤◌, ◌+◌, ℕ, length, map, drop, get_or, List, [], ◌∷◌, ◌++◌, Bool, true, false, sym, ap, ◌∙◌, subst}
+use Rattle.std.proofs.Common.{◌≡◌, ◌<◌, ◌≤◌, ◌+◌, ℕ, length, map, drop, get_or, List, [], ◌∷◌, ◌++◌, Bool, true, false, Result, Ok, Err, IfOk, IfErr, sym, ap, ◌∙◌, subst}
 use Rattle.std.specs.Prelude.{◌≢◌}
 use Rattle.std.specs.List.{AllZip, list_all}
 use Rattle.serde_json.specs.Data.{Data}
@@ -24,6 +24,12 @@ module _ {Y Z : Type 0} (f : Data → Z) (g : Y → Z) (p : Data → Bool) (vs :
     pub gathers_more : (v : Value) (y : Y) (more : List Y) → i < length vs → v ≡ get_or vs i v → g y ≡ f (view v) → p (view v) ≡ true → more ≡ made ++ y ∷ [] → Gathers f g p vs (i + 1) more
     gathers_more v y more within is says reads put = carries_more (Said f g) p view vs i made v y more within is says reads put had
 
+    pub gathers_next : (v : Value) (r : Result Y CertError) (more : List Y) → i < length vs → v ≡ get_or vs i v → IfOk r (λ y. g y ≡ f (view v)) → IfOk r (λ _. p (view v) ≡ true)
+        → (y : Y) × (r ≡ Ok y) × (more ≡ made ++ y ∷ []) → Gathers f g p vs (i + 1) more
+    gathers_next v r more within is says reads (y, ok, put) =
+        gathers_more v y more within is (subst (λ (r : Result Y CertError). IfOk r (λ y. g y ≡ f (view v))) ok says)
+        (subst (λ (r : Result Y CertError). IfOk r (λ _. p (view v) ≡ true)) ok reads) put
+
     module _ (ds : List Data) (listed : map view vs ≡ ds) where
       pub gathers_all : length vs ≤ i → (map g made ≡ map f ds) × (list_all p ds ≡ true)
       gathers_all past =
@@ -36,3 +42,15 @@ module _ {Y Z : Type 0} (f : Data → Z) (g : Y → Z) (p : Data → Bool) (vs :
       gathers_fails v e q within is same told other =
           let fault = told (subst (λ e. e ≢ broken.Mem) same other) in
           (same ∙ fault.0, sym (ap (list_all p) listed) ∙ carries_bad (Said f g) p view vs i made v within is fault.1 had)
+
+      pub gathers_stops : (v : Value) (r : Result Y CertError) (e q : CertError) → i < length vs → v ≡ get_or vs i v → q ≡ e
+          → IfErr r (λ e. e ≢ broken.Mem → (e ≡ broken.Wide) × (p (view v) ≡ false)) → (e ≢ broken.Mem → r ≡ Err e)
+          → q ≢ broken.Mem → (q ≡ broken.Wide) × (list_all p ds ≡ false)
+      gathers_stops v r e q within is same told stopped =
+          gathers_fails v e q within is same
+          (λ other. subst (λ (r : Result Y CertError). IfErr r (λ e. e ≢ broken.Mem → (e ≡ broken.Wide) × (p (view v) ≡ false))) (stopped other) told other)
+
+-- an error that is told whatever it is
+pub always : {Y : Type 0} (R : CertError → Type 0) (r : Result Y CertError) → IfErr r R → IfErr r (λ e. e ≢ broken.Mem → R e)
+always R (Ok y) told = told
+always R (Err e) told = λ _. told

@@ -1,6 +1,6 @@
 //! What a certificate says, unless a number is too wide.
 
-ghost use Rattle.std.specs.Prelude.{◌≡◌, ◌≢◌, map, IfOk, IfErr, true, false};
+ghost use Rattle.std.specs.Prelude.{◌≡◌, ◌≢◌, ◌++◌, ◌∷◌, [], map, Ok, Err, IfOk, IfErr, OnOk, true, false};
 ghost use Rattle.std.specs.List.{list_all};
 ghost use Rattle.serde_json.specs.View.{view};
 ghost use Rattle.kf_json.specs.Json.{members as member_list, text_of};
@@ -28,6 +28,15 @@ use kf_value::Name;
 use serde_json::Value;
 use std::alloc::Global;
 
+/// Adds what was read to a list.
+fn add_read<T: Drop>(made: &mut Vec<T>, read: Result<T, CertError>) -> Result<(), CertError>
+    ensures ok { OnOk result ((x : T) × (read ≡ Ok x) × (made.new.items ≡ made.old.items ++ x ∷ [])) }
+    ensures err { IfErr result (λ e. e ≢ broken.Mem → read ≡ Err e) }
+{
+    made.push(read?)?;
+    Ok(())
+}
+
 /// The fraction that was found.
 fn fraction(found: Option<&Value>) -> Result<Frac, CertError>
     ensures ok { IfOk result (λ f. fraction_of f ≡ number.fraction_said (text_of (seen found.entry))) }
@@ -45,7 +54,7 @@ fn row(alloc: Global, value: &Value) -> Result<FracList, CertError>
 {
     let mut made = Vec::new(alloc);
     for value in members(Some(value)) {
-        made.push(fraction(Some(value))?)?;
+        add_read(&mut made, fraction(Some(value)))?;
     }
     Ok(FracList::new(made))
 }
@@ -58,7 +67,7 @@ fn matrix(alloc: Global, cert: &Value) -> Result<Matrix, CertError>
 {
     let mut made = Vec::new(alloc);
     for value in members(cert.get("matrix")) {
-        made.push(row(alloc, value)?)?;
+        add_read(&mut made, row(alloc, value))?;
     }
     Ok(Matrix {
         rows: FracRowList::new(made),
@@ -99,7 +108,7 @@ fn named_entries(alloc: Global, cert: &Value) -> Result<NamedEntryList, CertErro
 {
     let mut made = Vec::new(alloc);
     for value in members(cert.get("entries")) {
-        made.push(named_entry(value)?)?;
+        add_read(&mut made, named_entry(value))?;
     }
     Ok(NamedEntryList::new(made))
 }
@@ -157,7 +166,7 @@ fn entries(alloc: Global, action: &Value) -> Result<CertEntryList, CertError>
 {
     let mut made = Vec::new(alloc);
     for gain in members(action.get("gains")) {
-        made.push(entry(alloc, gain)?)?;
+        add_read(&mut made, entry(alloc, gain))?;
     }
     Ok(CertEntryList::new(made))
 }
@@ -185,7 +194,7 @@ fn actions(alloc: Global, cert: &Value) -> Result<CertActionList, CertError>
 {
     let mut made = Vec::new(alloc);
     for value in members(cert.get("actions")) {
-        made.push(action(alloc, value)?)?;
+        add_read(&mut made, action(alloc, value))?;
     }
     Ok(CertActionList::new(made))
 }

@@ -5,23 +5,23 @@ use Rattle.kf_cert.specs.Reading.{reads_fraction}
 use Rattle.std.proofs.Common.{◌∙◌, ap}
 use Rattle.std.proofs.lemmas.Result.{err_from_is_err_and}
 use Rattle.kf_json.specs.Json.{text_of}
-use Rattle.kf_cert.proofs.Gathered.{gathers_first, gathers_more, gathers_all, gathers_fails}
+use Rattle.kf_cert.proofs.Gathered.{gathers_first, gathers_next, gathers_all, gathers_stops, always}
 use Rattle.kf_cert.proofs.reader.content.row.Goals as goal
 
 pub loop-value-init : goal.loop-value-init
 loop-value-init c = gathers_first (λ d. fraction_said (text_of d)) fraction_of reads_fraction c.members-value-items.result.now _ c.new-made.ensures.items
 
-pub returns-in_err-fraction-clause-err : goal.returns-in_err-fraction-clause-err
-returns-in_err-fraction-clause-err c =
+pub returns-in_err-add_read-clause-err : goal.returns-in_err-add_read-clause-err
+returns-in_err-add_read-clause-err c =
     let p = err_from_is_err_and c.from_residual.result c.from_residual.ensures.1 in
     rw p.1
-    (gathers_fails (λ d. fraction_said (text_of d)) fraction_of reads_fraction c.members-value-items.result.now c.loop-value.value-index c.loop-value.made.items c.loop-value.invariant _ (c.members-value-items.ensures)
-    c.value-item.result _ _ c.loop-value-test.true c.value-item.is p.2 (λ _. c.in_err-fraction.ensures.err))
+    (gathers_stops (λ d. fraction_said (text_of d)) fraction_of reads_fraction c.members-value-items.result.now c.loop-value.value-index c.loop-value.made.items c.loop-value.invariant _ (c.members-value-items.ensures)
+    c.value-item.result _ _ _ c.loop-value-test.true c.value-item.is p.2 (always _ _ c.fraction.ensures.err) c.in_err-add_read.ensures.err)
 
 pub loop-value-preserved : goal.loop-value-preserved
 loop-value-preserved c =
-    gathers_more (λ d. fraction_said (text_of d)) fraction_of reads_fraction c.members-value-items.result.now c.loop-value.value-index c.loop-value.made.items c.loop-value.invariant
-    c.value-item.result _ _ c.loop-value-test.true c.value-item.is c.in_ok-fraction.ensures.ok c.in_ok-fraction.ensures.reads c.in_ok-push.ensures.items
+    gathers_next (λ d. fraction_said (text_of d)) fraction_of reads_fraction c.members-value-items.result.now c.loop-value.value-index c.loop-value.made.items c.loop-value.invariant
+    c.value-item.result _ _ c.loop-value-test.true c.value-item.is c.fraction.ensures.ok c.fraction.ensures.reads c.in_ok-add_read.ensures.ok
 
 pub returns-clause-ok : goal.returns-clause-ok
 returns-clause-ok c =

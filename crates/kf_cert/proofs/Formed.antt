@@ -1,5 +1,5 @@
 -- From the rules that a JSON value keeps to the certificate that it says.
-use Rattle.std.proofs.Common.{◌≡◌, ◌<◌, ◌≤◌, ℕ, ℤ, pos, negsuc, int_le, nat_le, unsigned_abs, List, [], ◌∷◌, ◌++◌, map, take, length, All, Bool, true, false, not, ◌&&◌, ◌||◌, ◌==◌, Option, None, Some, Ok, Err, Result, refl, sym, ap, ◌∙◌, subst, arith}
+use Rattle.std.proofs.Common.{◌≡◌, ◌<◌, ◌≤◌, ℕ, ℤ, pos, negsuc, int_le, nat_le, unsigned_abs, List, [], ◌∷◌, ◌++◌, map, take, length, All, Bool, true, false, not, ◌&&◌, ◌||◌, ◌==◌, Option, None, Some, Ok, Err, Result, IfOk, refl, sym, ap, ◌∙◌, subst, arith}
 use Rattle.std.specs.Prelude.{flat_map, ◌≢◌, if◌then◌else◌}
 use Rattle.std.specs.List.{list_all}
 use Rattle.std.proofs.lemmas.Bool.{leb-true}
@@ -14,8 +14,9 @@ use Rattle.kf_gain.specs.Tables.{over_at, rest_at, actions_at, name_at, gains_at
 use Rattle.kf_cert.specs.Numbers.{whole_said, numerator_said, denominator_said, fraction_said}
 use Rattle.kf_cert.specs.Certificates.{CertTree, Yes, Named, No, says_yes, has_entry_keys, is_fraction, is_row, has_rows, is_whole_number, is_size, is_entry, has_entries, is_gain, is_named_action, has_numbers, has_actions, is_narrow, is_narrow_fraction, is_narrow_whole, is_narrow_action, is_narrow_entry, is_narrow_matrix, are_narrow_entries, is_narrow_table, rules, row_said, entry_said, named_said, action_said, table_said, yes_said, cert_said, names_in_order, cert_in, cert_of}
 use Rattle.kf_cert.specs.Reading.{gain_said, reads_fraction, reads_row, reads_matrix, reads_whole, reads_entry, reads_named, reads_yes, reads_gain, reads_action, reads_table, reads_cert}
-use Rattle.kf_cert.specs.Views.{IsSound, IsSoundNamed, IsSoundTable}
+use Rattle.kf_cert.specs.Views.{cert_tree, IsSound, IsSoundNamed, IsSoundTable}
 use Rattle.kf_cert.specs.Laws.{ReadSound}
+use Rattle.kf_cert.specs.declared.cert.Cert.{Cert}
 use Rattle.kf_cert.specs.declared.cert.CertAction.{CertAction}
 use Rattle.kf_cert.specs.declared.cert.CertError.{CertError}
 use Rattle.kf_cert.specs.declared.cert.CertError.TheVariants as broken
@@ -166,26 +167,29 @@ answer_of found = elim found [ None ↦ Err broken.Json | Some d ↦ cert_in d ]
 abbrev last_two : Data → List (Bool × CertError)
 last_two d = (narrow d, broken.Wide) ∷ (form_7 d, broken.Form 7) ∷ []
 
-module _ (bytes : List ℕ) (d : Data) (is : json_of bytes ≡ Some d) where
-  pub cert_misformed : (e : CertError) → first_broken (take 6 (rules d)) None ≡ Some e → cert_of bytes ≡ Err e
-  cert_misformed e fault = ap answer_of is ∙ ap (answer d) (broken_front (take 6 (rules d)) (last_two d) e fault)
+pub cert_told : (bytes : List ℕ) (d : Data) → json_of bytes ≡ Some d → cert_in d ≡ cert_of bytes
+cert_told bytes d is = sym (ap answer_of is)
+
+module _ (d : Data) where
+  pub cert_misformed : (e : CertError) → first_broken (take 6 (rules d)) None ≡ Some e → cert_in d ≡ Err e
+  cert_misformed e fault = ap (answer d) (broken_front (take 6 (rules d)) (last_two d) e fault)
 
   module _ (f : Formed d) where
-    of_formed : (b : Bool) → reads_cert d ≡ b → cert_of bytes ≡ answer d (first_broken ((b, broken.Wide) ∷ (form_7 d, broken.Form 7) ∷ []) None)
+    of_formed : (b : Bool) → reads_cert d ≡ b → cert_in d ≡ answer d (first_broken ((b, broken.Wide) ∷ (form_7 d, broken.Form 7) ∷ []) None)
     of_formed b reads =
-        ap answer_of is ∙ ap (answer d) (past_six d (last_two d) f)
+        ap (answer d) (past_six d (last_two d) f)
         ∙ ap (λ n. answer d (first_broken ((n, broken.Wide) ∷ (form_7 d, broken.Form 7) ∷ []) None)) (sym (reads_narrow d f) ∙ reads)
 
-    of_narrow : reads_cert d ≡ true → (b : Bool) → form_7 d ≡ b → cert_of bytes ≡ answer d (first_broken ((b, broken.Form 7) ∷ []) None)
+    of_narrow : reads_cert d ≡ true → (b : Bool) → form_7 d ≡ b → cert_in d ≡ answer d (first_broken ((b, broken.Form 7) ∷ []) None)
     of_narrow reads b ordered = of_formed true reads ∙ ap (λ n. answer d (first_broken ((n, broken.Form 7) ∷ []) None)) ordered
 
-    pub cert_read : reads_cert d ≡ true → names_in_order (cert_said d) ≡ true → cert_of bytes ≡ Ok (cert_said d)
+    pub cert_read : reads_cert d ≡ true → names_in_order (cert_said d) ≡ true → cert_in d ≡ Ok (cert_said d)
     cert_read reads ordered = of_narrow reads true ordered
 
-    pub cert_unordered : reads_cert d ≡ true → names_in_order (cert_said d) ≡ false → cert_of bytes ≡ Err (broken.Form 7)
+    pub cert_unordered : reads_cert d ≡ true → names_in_order (cert_said d) ≡ false → cert_in d ≡ Err (broken.Form 7)
     cert_unordered reads other = of_narrow reads false other
 
-    pub cert_wide : reads_cert d ≡ false → cert_of bytes ≡ Err broken.Wide
+    pub cert_wide : reads_cert d ≡ false → cert_in d ≡ Err broken.Wide
     cert_wide wide = of_formed false wide
 
 -- ---- what is read has its bounds
@@ -297,3 +301,7 @@ read_sound bytes c = by_json (json_of bytes)
     by_json : (found : Option Data) → answer_of found ≡ Ok c → IsSound c
     by_json None is = absurd (cc)
     by_json (Some d) is = by_fault d (first_broken (rules d) None) refl is
+
+pub sound_read : (bytes : List ℕ) (r : Result Cert CertError) → IfOk r (λ c. cert_of bytes ≡ Ok (cert_tree c)) → IfOk r (λ c. IsSound (cert_tree c))
+sound_read bytes (Ok c) is = read_sound bytes (cert_tree c) is
+sound_read bytes (Err e) is = tt

@@ -1,12 +1,11 @@
 -- Objects and lists to which texts are added, one after the other.
-use Rattle.std.proofs.Common.{◌≡◌, ℕ, List, [], ◌∷◌, ◌++◌, Result, Ok, String, Vec, IfOk, map, length, refl, ap, subst, rules, ◌∙◌, codes, decimal, string_bytes}
+use Rattle.std.proofs.Common.{◌≡◌, ℕ, List, [], ◌∷◌, ◌++◌, Result, Ok, String, IfOk, map, length, refl, ap, subst, rules, ◌∙◌, codes, decimal, string_bytes}
 use Rattle.std.specs.Fmt.{signed_decimal}
 use Rattle.std.specs.declared.alloc.Global.{Global}
 use Rattle.serde_json.specs.Data.{Data, Items, item, Members, member, no_members, put, array, object, string}
-use Rattle.serde_json.specs.View.{items_of, view}
+use Rattle.serde_json.specs.View.{items_of, items_view, view}
 use Rattle.serde_json.specs.declared.value.Value.{Value, the_lemmas}
 use Rattle.serde_json.specs.declared.value.Value.TheVariants as json
-use Rattle.serde_json.proofs.Views.{view-Array}
 use Rattle.kf_value.specs.Targets.{Item}
 use Rattle.kf_gain.specs.Gains.{TableTree}
 use Rattle.kf_refine.specs.Refinements.{Fraction}
@@ -32,15 +31,15 @@ same_items : (ds : List Data) → items_of ds ≡ items ds
 same_items [] = refl
 same_items (d ∷ ds) = ap (item d) (same_items ds)
 
-pub listed : (vs : Vec Value Global) (ds : List Data) → map view vs.items ≡ ds → view (json.Array vs) ≡ array (items ds)
-listed vs ds same = view-Array vs ∙ ap (λ (is : Items). array is) (ap items_of same ∙ same_items ds)
+pub listed : (vs : List Value) (ds : List Data) → map view vs ≡ ds → array (items_view vs) ≡ array (items ds)
+listed vs ds same = ap (λ (is : Items). array is) (ap items_of same ∙ same_items ds)
 
 -- the members with which each certificate begins
-abbrev pub started : List ℕ → Members
-started verdict = member (codes "format") (string (codes "kuifje-cert-2")) (member (codes "verdict") (string verdict) no_members)
+abbrev pub started : List ℕ → List ℕ → Data → Members
+started verdict key d = put (codes "verdict") (string verdict) (put (codes "format") (string (codes "kuifje-cert-2")) (member key d no_members))
 
 pub named_made : (rows : List (List Fraction)) (m : Members) (d : Data) (w n : ℕ)
-    → m ≡ put (codes "rows") (string (decimal n)) (put (codes "columns") (string (decimal w)) (put (codes "entries") d (started (codes "yes"))))
+    → m ≡ put (codes "rows") (string (decimal n)) (put (codes "columns") (string (decimal w)) (started (codes "yes") (codes "entries") d))
     → d ≡ array (items (map entry_data (rows_entries 0 rows))) → w ≡ widest rows → n ≡ length rows → object m ≡ named_data (named_of rows)
 named_made rows m d w n is each wide many =
     ap object is
@@ -49,7 +48,7 @@ named_made rows m d w n is each wide many =
     (member (codes "verdict") (string (codes "yes")) no_members))))))
 
 pub no_made : (target : List Item) (t : TableTree) (m : Members) (d : Data)
-    → m ≡ put (codes "rest") (string (signed_decimal t.rest)) (put (codes "over") (string (decimal t.over)) (put (codes "actions") d (started (codes "no"))))
+    → m ≡ put (codes "rest") (string (signed_decimal t.rest)) (put (codes "over") (string (decimal t.over)) (started (codes "no") (codes "actions") d))
     → d ≡ array (items (map (action_data target) t.actions)) → object m ≡ no_data target t
 no_made target t m d is each =
     ap object is

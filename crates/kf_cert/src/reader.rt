@@ -2,7 +2,8 @@
 
 ghost use Rattle.std.specs.Prelude.{◌≡◌, ◌≢◌, Ok, Err, IfOk, IfErr};
 ghost use Rattle.kf_cert.specs.declared.cert.CertError.TheVariants as broken;
-ghost use Rattle.kf_cert.specs.Certificates.{cert_of};
+ghost use Rattle.serde_json.specs.View.{view};
+ghost use Rattle.kf_cert.specs.Certificates.{cert_in, cert_of};
 ghost use Rattle.kf_cert.specs.Views.{cert_tree, IsSound};
 
 mod content;
@@ -12,6 +13,7 @@ use crate::places::names_in_order;
 use crate::{Cert, CertError};
 use content::cert;
 use kf_json::parse;
+use serde_json::Value;
 use std::alloc::Global;
 
 /// The certificate that the bytes are.
@@ -24,10 +26,18 @@ pub fn read_cert(alloc: Global, bytes: &[u8]) -> Result<Cert, CertError>
     ensures err { IfErr result (λ e. e ≢ broken.Mem → cert_of bytes.now ≡ Err e) }
 {
     let value = parse(alloc, bytes)?;
-    if let Some(fault) = broken_form(&value) {
+    cert_said(alloc, &value)
+}
+
+/// The certificate that a JSON value says, or the first rule that it breaks.
+fn cert_said(alloc: Global, value: &Value) -> Result<Cert, CertError>
+    ensures is { IfOk result (λ c. cert_in (view value.now) ≡ Ok (cert_tree c)) }
+    ensures err { IfErr result (λ e. e ≢ broken.Mem → cert_in (view value.now) ≡ Err e) }
+{
+    if let Some(fault) = broken_form(value) {
         return Err(fault);
     }
-    let cert = cert(alloc, &value)?;
+    let cert = cert(alloc, value)?;
     if !names_in_order(&cert) {
         return Err(CertError::Form { rule: 7 });
     }

@@ -2,8 +2,8 @@
 
 ghost use Rattle.std.specs.Prelude.{◌≡◌, ◌<◌, ◌++◌, ◌==◌, ◌∷◌, ℕ, List, [], map, unsigned_abs, Ok, IfOk, OnOk, codes, string_bytes};
 ghost use Rattle.std.specs.List.{All};
-ghost use Rattle.serde_json.specs.Data.{member, no_members, put as with_member, string};
-ghost use Rattle.serde_json.specs.View.{members_view, view};
+ghost use Rattle.serde_json.specs.Data.{array, member, no_members, put as with_member, string};
+ghost use Rattle.serde_json.specs.View.{items_view, members_view, view};
 ghost use Rattle.kf_value.specs.Numbers.{target_size};
 ghost use Rattle.kf_value.specs.Targets.{target_value_text};
 ghost use Rattle.kf_value.specs.Views.{items_of};
@@ -54,8 +54,7 @@ fn yes_value(alloc: Global, matrix: &Matrix) -> Result<Value, Mem>
 {
     let rows = matrix.rows.as_slice();
     let entries = entry_values(alloc, rows)?;
-    let mut members = verdict_members(alloc, "yes")?;
-    put(&mut members, alloc, "entries", Value::Array(entries))?;
+    let mut members = verdict_members(alloc, "yes", "entries", entries)?;
     put_text(
         &mut members,
         alloc,
@@ -66,12 +65,19 @@ fn yes_value(alloc: Global, matrix: &Matrix) -> Result<Value, Mem>
     Ok(Value::Object(members))
 }
 
-/// The members that say the format and the verdict.
-fn verdict_members(alloc: Global, verdict: &str) -> Result<Map<String, Value>, Mem>
+/// The members that say the format and the verdict, beside one with this list.
+fn verdict_members(
+    alloc: Global,
+    verdict: &str,
+    key: &str,
+    list: Vec<Value>,
+) -> Result<Map<String, Value>, Mem>
     ensures { IfOk result (λ members. members_view members.entries
-        ≡ member (codes "format") (string (codes "kuifje-cert-2")) (member (codes "verdict") (string verdict.now) no_members)) }
+        ≡ with_member (codes "verdict") (string verdict.now) (with_member (codes "format") (string (codes "kuifje-cert-2"))
+        (member key.now (array (items_view list.items)) no_members))) }
 {
     let mut members = Map::new(alloc);
+    put(&mut members, alloc, key, Value::Array(list))?;
     put_text(
         &mut members,
         alloc,
@@ -167,8 +173,7 @@ fn no_value(alloc: Global, table: &GainTable, target: &Target) -> Result<Value, 
     ensures { IfOk result (λ value. view value ≡ no_data (items_of target.now) (table_tree table.now)) }
 {
     let actions = action_values(alloc, table.actions.as_slice(), target)?;
-    let mut members = verdict_members(alloc, "no")?;
-    put(&mut members, alloc, "actions", Value::Array(actions))?;
+    let mut members = verdict_members(alloc, "no", "actions", actions)?;
     put_text(&mut members, alloc, "over", table.over.to_string(alloc))?;
     put_text(&mut members, alloc, "rest", table.rest.to_string(alloc))?;
     Ok(Value::Object(members))

@@ -2,7 +2,7 @@ use Rattle.std.proofs.Common.{codes, map, ap, ◌∙◌}
 use Rattle.serde_json.specs.Data.{member, no_members, object, put, string}
 use Rattle.serde_json.specs.View.{members_view, view}
 use Rattle.serde_json.specs.declared.value.Value.TheVariants.{Array}
-use Rattle.serde_json.proofs.Views.{view-Object}
+use Rattle.serde_json.proofs.Views.{view-Array, view-Object}
 use Rattle.kf_value.specs.Views.{items_of}
 use Rattle.kf_cert.specs.CertTexts.{gain_data}
 use Rattle.kf_cert.proofs.Putting.{listed, text_put}
@@ -10,7 +10,7 @@ use Rattle.kf_cert.proofs.writer.action_value.Goals as goal
 
 pub returns : goal.returns
 returns c =
-    let gains = listed c.in_ok-gains.gains _ (c.in_ok-gains.ensures ∙ ap (map (gain_data (items_of c.args.target.now))) c.as_slice.ensures) in
+    let gains = view-Array c.in_ok-gains.gains ∙ listed _ _ (c.in_ok-gains.ensures ∙ ap (map (gain_data (items_of c.args.target.now))) c.as_slice.ensures) in
     view-Object _
     ∙ ap object
     (text_put _ _ c.from_str-name.ensures.ok (codes "name") _ _ _ c.in_ok-put_text.ensures

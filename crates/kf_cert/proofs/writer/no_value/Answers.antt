@@ -1,5 +1,4 @@
 use Rattle.std.proofs.Common.{codes, map, ap, ◌∙◌}
-use Rattle.serde_json.specs.Data.{put}
 use Rattle.kf_gain.specs.Views.{table_tree}
 use Rattle.kf_value.specs.Views.{items_of}
 use Rattle.kf_cert.specs.CertTexts.{action_data}
@@ -15,5 +14,5 @@ returns c =
     ∙ no_made target t _ _
     (text_put _ _ c.to_string-2.ensures.ok (codes "rest") _ _ _ c.in_ok-put_text-2.ensures
     (text_put _ _ c.to_string.ensures.ok (codes "over") _ _ _ c.in_ok-put_text.ensures
-    (c.in_ok-put.ensures.ok ∙ ap (put (codes "actions") _) c.in_ok-members.ensures)))
+    c.in_ok-members.ensures))
     (listed _ _ (c.in_ok-actions.ensures ∙ ap (map (action_data target)) c.as_slice.ensures))

@@ -1,6 +1,5 @@
 use Rattle.std.proofs.Common.{codes, length, map, sym, ap, ◌∙◌}
 use Rattle.std.proofs.lemmas.List.{length-map}
-use Rattle.serde_json.specs.Data.{put}
 use Rattle.kf_refine.specs.Views.{matrix_tree}
 use Rattle.kf_cert.specs.CertTexts.{entry_data}
 use Rattle.kf_cert.specs.Order.{rows_entries, widest}
@@ -17,6 +16,6 @@ returns-clause-data c =
     ∙ named_made rows _ _ _ _
     (text_put _ _ c.to_string-2.ensures.ok (codes "rows") _ _ _ c.in_ok-put_text-2.ensures
     (text_put _ _ c.to_string.ensures.ok (codes "columns") _ _ _ c.in_ok-put_text.ensures
-    (c.in_ok-put.ensures.ok ∙ ap (put (codes "entries") _) c.in_ok-members.ensures)))
+    c.in_ok-members.ensures))
     (listed _ _ (c.in_ok-entries.ensures ∙ ap (λ r. map entry_data (rows_entries 0 r)) same))
     (c.widest.ensures ∙ ap widest same) (sym (length-map c.as_slice-rows.result.now row_tree) ∙ ap length same)

@@ -1,5 +1,5 @@
 -- The marks of a certificate, by the first rule that it breaks.
-use Rattle.std.proofs.Common.{◌≡◌, ◌≢◌, ◌*◌, ◌≤◌, ℕ, List, All, Result, Ok, Err, true, inl, inr, refl, sym, ap, ◌∙◌, subst}
+use Rattle.std.proofs.Common.{◌≡◌, ◌≢◌, ◌*◌, ◌≤◌, ℕ, List, All, Result, Ok, Err, IfOk, IfErr, true, inl, inr, refl, sym, ap, ◌∙◌, subst}
 use Rattle.std.specs.List.{AllZip}
 use Rattle.kf_frac.specs.Fractions.{limit}
 use Rattle.kf_gain.specs.declared.gain.GainFault.{GainFault}
@@ -20,6 +20,17 @@ use Rattle.kf_cert.specs.declared.mark.Rule.TheVariants as rule
 use Rattle.kf_cert.proofs.NamedRows.{shaped_order, shaped_names}
 use Rattle.kf_cert.proofs.Standing.{table_of, stands, names_values, same_width, one_table}
 use Rattle.kf_cert.specs.Order.{is_in_order, rows_entries}
+
+-- ---- what a call answers, told of something else
+
+module _ (P Q : Result Mark CheckError → Type 0) (go : (r : Result Mark CheckError) → P r → Q r) where
+  pub mark_told : (r : Result Mark CheckError) → IfOk r (λ mark. P (Ok mark)) → IfOk r (λ mark. Q (Ok mark))
+  mark_told (Ok mark) is = go (Ok mark) is
+  mark_told (Err e) is = tt
+
+  pub error_told : (r : Result Mark CheckError) → IfErr r (λ e. e ≢ error.Mem → P (Err e)) → IfErr r (λ e. e ≢ error.Mem → Q (Err e))
+  error_told (Ok mark) is = tt
+  error_told (Err e) is = λ other. go (Err e) (is other)
 
 -- ---- the marks of a matrix
 

@@ -42,8 +42,7 @@ pub(crate) fn check_matrix(
         return Ok(Mark::Rejected(Rule::Shape));
     }
     let entries = entries_of(alloc, rows)?;
-    let mark = check_entries(alloc, a, b, entries.as_slice())?;
-    Ok(mark)
+    check_entries(alloc, a, b, entries.as_slice())
 }
 
 /// Whether a matrix whose entries are named carries the first hyper's joint weights to the second's.
@@ -60,8 +59,7 @@ pub(crate) fn check_named(
     if !has_sizes(matrix, a.count(), b.count()) {
         return Ok(Mark::Rejected(Rule::Shape));
     }
-    let mark = check_entries(alloc, a, b, matrix.entries.as_slice())?;
-    Ok(mark)
+    check_entries(alloc, a, b, matrix.entries.as_slice())
 }
 
 // Whether there are to be so many rows and columns.

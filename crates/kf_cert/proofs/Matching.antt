@@ -1,5 +1,5 @@
 -- Lists of entries that give every value the same weight, once their weights are multiplied.
-use Rattle.std.proofs.Common.{◌≡◌, ℕ, ◌+◌, ◌*◌, ◌/◌, ◌<◌, ◌≤◌, ◌==◌, List, [], ◌∷◌, map, sym, ◌∙◌, ap, arith, get_or, if◌then◌else◌}
+use Rattle.std.proofs.Common.{◌≡◌, ◌↔◌, ℕ, ◌+◌, ◌*◌, ◌/◌, ◌<◌, ◌≤◌, ◌==◌, List, [], ◌∷◌, Bool, Result, Ok, Err, IfOk, IsTrue, map, sym, ◌∙◌, ap, arith, get_or, if◌then◌else◌}
 use Rattle.std.specs.Prelude.{IsPermutation}
 use Rattle.std.proofs.lemmas.List.Sorted.{sum_by-IsPermutation}
 use Rattle.std.proofs.Math.Nat.{mul_comm}
@@ -76,3 +76,8 @@ moved_carried a b d shares moved j same carried x =
 pub total_moved : (a : HyperTree) (shares moved : List Share) (j most : ℕ) → IsPermutation shares moved → column_total a shares j ≤ most → column_total a moved j ≤ most
 total_moved a shares moved j most same fits =
     omega (arith, fits, sum_by-IsPermutation (λ (s : Share). if s.column == j then total_at a s.row * s.amount else 0) shares moved same)
+
+-- what a call answers of one fact, told of another
+pub truth_told : {P Q : Type 0} {E : Type 0} (r : Result Bool E) → (P → Q) → (Q → P) → IfOk r (λ b. IsTrue b ↔ P) → IfOk r (λ b. IsTrue b ↔ Q)
+truth_told (Ok b) go back is = (λ yes. go (is.0 yes), λ q. is.1 (back q))
+truth_told (Err e) go back is = tt

@@ -145,6 +145,5 @@ pub(super) fn carries(
     ensures { IfOk result (λ r. IsTrue r ↔ ((j : ℕ) → j < length (inners_of b.now) → IsCarried (hyper_tree a.now) (hyper_tree b.now) over shares.items j)) }
 {
     shares.sort_unstable_by_key(|share| share.column);
-    let carried = all_carried(alloc, a, b, shares.as_slice(), over)?;
-    Ok(carried)
+    all_carried(alloc, a, b, shares.as_slice(), over)
 }

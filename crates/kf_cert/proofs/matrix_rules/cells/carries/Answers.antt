@@ -6,7 +6,7 @@ use Rattle.kf_hyper.specs.Views.{inners_of}
 use Rattle.kf_frac.specs.Fractions.{limit}
 use Rattle.kf_refine.specs.Views.{hyper_tree}
 use Rattle.kf_cert.specs.declared.matrix_rules.shares.Share.{Share}
-use Rattle.kf_cert.proofs.Matching.{carried_moved, moved_carried, total_moved}
+use Rattle.kf_cert.proofs.Matching.{carried_moved, moved_carried, total_moved, truth_told}
 use Rattle.kf_cert.proofs.matrix_rules.cells.carries.Goals as goal
 
 pub all_carried-requires-clause-inside : goal.all_carried-requires-clause-inside
@@ -31,7 +31,7 @@ returns c =
     let a = hyper_tree c.args.a.now in
     let b = hyper_tree c.args.b.now in
     let moved = c.sort_unstable_by_key.new.self.items in
-    let told = rw c.as_slice.ensures.value at c.in_ok-carried.ensures in (
-      λ is j below. carried_moved a b c.args.over c.args.shares.items moved j c.sort_unstable_by_key.ensures.permutation (told.0 is j below),
-      λ carried. told.1 (λ j below. moved_carried a b c.args.over c.args.shares.items moved j c.sort_unstable_by_key.ensures.permutation (carried j below)),
-    )
+    truth_told c.all_carried.result
+    (λ is j below. carried_moved a b c.args.over c.args.shares.items moved j c.sort_unstable_by_key.ensures.permutation (is j below))
+    (λ carried j below. moved_carried a b c.args.over c.args.shares.items moved j c.sort_unstable_by_key.ensures.permutation (carried j below))
+    (rw c.as_slice.ensures.value at c.all_carried.ensures)

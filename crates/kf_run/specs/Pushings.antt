@@ -4,4 +4,4 @@ use Rattle.kf_run.specs.declared.pusher.Pushing.{Pushing}
 
 -- the cleared program that it was made of
 abbrev pub cleared_of : Pushing → Cleared
-cleared_of p = p.cleared
+cleared_of p = p.cleared.now

@@ -16,20 +16,20 @@ use std::alloc::Global;
 
 /// A cleared program that columns can be pushed through.
 #[derive(Drop)]
-pub struct Pushing {
-    cleared: Cleared,
+pub struct Pushing<'a> {
+    cleared: &'a Cleared,
 }
 
-impl Pushing {
+impl<'a> Pushing<'a> {
     /// It means what the cleared program means: the program with its turns and its scale.
-    pub fn new(cleared: Cleared) -> Pushing
-        ensures { cleared_of result ≡ cleared }
+    pub fn new(cleared: &'a Cleared) -> Pushing<'a>
+        ensures { cleared_of result ≡ cleared.now }
     {
         Pushing { cleared }
     }
 }
 
-impl Pusher for Pushing {
+impl Pusher for Pushing<'_> {
     ghost meaning = { λ p. record {
       program = program_tree (program_of (cleared_of p));
       turns = turns_of (cleared_of p);
@@ -47,7 +47,7 @@ impl Pusher for Pushing {
     fn start(&self, alloc: Global) -> Result<Columns, Mem> {
         choice_laws();
         run_laws();
-        let columns = start(alloc, &self.cleared)?;
+        let columns = start(alloc, self.cleared)?;
         Ok(columns)
     }
 
@@ -60,7 +60,7 @@ impl Pusher for Pushing {
     ) -> Result<Columns, Mem> {
         run_laws();
         are_columns(columns);
-        let after = push(alloc, &self.cleared, from, to, columns)?;
+        let after = push(alloc, self.cleared, from, to, columns)?;
         Ok(after)
     }
 }

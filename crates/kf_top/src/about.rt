@@ -61,24 +61,24 @@ fn least_of(question: &AboutOne<'_>) -> u32
 fn answer_one<'a, F: Files>(
     alloc: Global,
     files: &mut F,
-    cleared: Cleared,
+    cleared: &Cleared,
     question: AboutOne<'a>,
 ) -> Result<Done, Stop<'a>>
     requires range { IsInRange (command_of question) }
-    requires long { least_number question ≤ length (program_in cleared).body }
+    requires long { least_number question ≤ length (program_in cleared.now).body }
     ensures answer { FilesAnswer (F.contents files.old) (F.faults files.old) (F.faults files.new) (tables_of (command_of question.entry)) shown result
-        (λ tables. CommandOutcome (command_of question.entry) (turns_of cleared) tables (program_in cleared ∷ [])) }
+        (λ tables. CommandOutcome (command_of question.entry) (turns_of cleared.now) tables (program_in cleared.now ∷ [])) }
     ensures counts { Counts (tables_of (command_of question.entry)) (F.faults files.old) (F.faults files.new) result }
 {
     match question {
-        AboutOne::Hyper => hyper(alloc, &cleared),
-        AboutOne::Traces => traces(alloc, &cleared),
-        AboutOne::Channel => channel(alloc, &cleared),
-        AboutOne::Trail => trail(alloc, &cleared),
-        AboutOne::Leak(word) => leak(alloc, files, &cleared, word),
-        AboutOne::Attack(word) => attack(alloc, files, &cleared, word),
-        AboutOne::Reach { num, den } => reach(alloc, &cleared, num, den),
-        AboutOne::Capacity => capacity(alloc, &cleared),
+        AboutOne::Hyper => hyper(alloc, cleared),
+        AboutOne::Traces => traces(alloc, cleared),
+        AboutOne::Channel => channel(alloc, cleared),
+        AboutOne::Trail => trail(alloc, cleared),
+        AboutOne::Leak(word) => leak(alloc, files, cleared, word),
+        AboutOne::Attack(word) => attack(alloc, files, cleared, word),
+        AboutOne::Reach { num, den } => reach(alloc, cleared, num, den),
+        AboutOne::Capacity => capacity(alloc, cleared),
         AboutOne::Quiet { from, to } => quiet(alloc, cleared, from, to),
         AboutOne::Blame => blame(alloc, cleared),
     }
@@ -120,7 +120,7 @@ pub(crate) fn about_one<'a, F: Files>(
 {
     let least = least_of(&question);
     match cleared_program(alloc, files, name.as_str(), least, turns) {
-        Ok(cleared) => answer_one(alloc, files, cleared, question),
+        Ok(cleared) => answer_one(alloc, files, &cleared, question),
         Err(stop) => Err(lift(stop)),
     }
 }

@@ -20,14 +20,14 @@ use std::alloc::Global;
 /// The hyper-distribution of a cleared program whose statements from the one at `from` on, up to but not with the one at `to`, show nothing.
 pub(crate) fn quiet<'a>(
     alloc: Global,
-    cleared: Cleared,
+    cleared: &Cleared,
     from: u32,
     to: u32,
 ) -> Result<Done, Stop<'a>>
     requires some { from < to }
-    requires within { to ≤ length (program_in cleared).body }
+    requires within { to ≤ length (program_in cleared.now).body }
     ensures answer { Answers shown result
-        (HyperOf (program_in cleared).target (scale_of (turns_of cleared) (program_in cleared)) (quiet_joint (turns_of cleared) (program_in cleared) from to)) }
+        (HyperOf (program_in cleared.now).target (scale_of (turns_of cleared.now) (program_in cleared.now)) (quiet_joint (turns_of cleared.now) (program_in cleared.now) from to)) }
     ensures read { IfErr result IsOwn }
 {
     let pushing = Pushing::new(cleared);
@@ -37,8 +37,8 @@ pub(crate) fn quiet<'a>(
 }
 
 /// How much is seen of a cleared program, and how much where each statement in turn shows nothing.
-pub(crate) fn blame<'a>(alloc: Global, cleared: Cleared) -> Result<Done, Stop<'a>>
-    ensures answer { Answers shown result (BlameOf (turns_of cleared) (program_in cleared)) }
+pub(crate) fn blame<'a>(alloc: Global, cleared: &Cleared) -> Result<Done, Stop<'a>>
+    ensures answer { Answers shown result (BlameOf (turns_of cleared.now) (program_in cleared.now)) }
     ensures read { IfErr result IsOwn }
 {
     let pushing = Pushing::new(cleared);

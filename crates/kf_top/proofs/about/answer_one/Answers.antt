@@ -48,11 +48,11 @@ returns-in-Quiet-clause-answer g c = rw c.in-Quiet.is (none_read _ _ _ shown c.q
 pub returns-in-Quiet-clause-counts : goal.returns-in-Quiet-clause-counts
 returns-in-Quiet-clause-counts g c = counts_next (tables_of (command_of c.args.question)) _ _ c.quiet.result refl c.quiet.ensures.read
 
-pub returns-clause-answer : goal.returns-clause-answer
-returns-clause-answer g c = rw c.in-Blame.is (none_read _ _ _ shown c.blame.result _ c.blame.ensures.answer)
+pub returns-in-Blame-clause-answer : goal.returns-in-Blame-clause-answer
+returns-in-Blame-clause-answer g c = rw c.in-Blame.is (none_read _ _ _ shown c.blame.result _ c.blame.ensures.answer)
 
-pub returns-clause-counts : goal.returns-clause-counts
-returns-clause-counts g c = counts_next (tables_of (command_of c.args.question)) _ _ c.blame.result refl c.blame.ensures.read
+pub returns-in-Blame-clause-counts : goal.returns-in-Blame-clause-counts
+returns-in-Blame-clause-counts g c = counts_next (tables_of (command_of c.args.question)) _ _ c.blame.result refl c.blame.ensures.read
 
 pub returns-in-Leak-clause-answer : goal.returns-in-Leak-clause-answer
 returns-in-Leak-clause-answer g c =

@@ -30,7 +30,7 @@ pub mod PlaceOrder
 pub mod PlainTexts
 pub mod Printable
 pub mod Proclaiming
-mod Putting
+pub mod Putting
 pub mod ReadingBack
 pub mod Rejecting
 pub mod RowShares

@@ -69,10 +69,10 @@ no_capacity g r is =
 -- ---- one channel
 
 module _ (turns : ℕ) (p : ProgramTree) where
-  -- what stops the channel stops its capacity
-  pub capacity_unread : (s : Stop) → Stopped s (ChannelIn turns p) → Stopped s (After (Gives (initial p)) (CapacityIn turns))
-  capacity_unread (stop.Refused r) h = inl h
-  capacity_unread stop.Mem h = tt
+  -- what stops the channel stops what comes after it
+  pub unread : (next : ProgramTree → Step Shown) (s : Stop) → Stopped s (ChannelIn turns p) → Stopped s (After (Gives (initial p)) next)
+  unread next (stop.Refused r) h = inl h
+  unread next stop.Mem h = tt
 
   module _ (c : ChannelTree) (its : ChannelIn turns p (Ok c)) where
     -- what stops the capacity

@@ -37,8 +37,8 @@ pub enum Composition {
     Choice { num: u32, den: u32 },
 }
 
-// The channel of a cleared program.
-fn channel_in<'a>(alloc: Global, cleared: &Cleared) -> Result<Channel, Stop<'a>>
+/// The channel of a cleared program.
+pub(crate) fn channel_in<'a>(alloc: Global, cleared: &Cleared) -> Result<Channel, Stop<'a>>
     ensures answer { Answers channel_tree result (ChannelIn (turns_of cleared.now) (program_in cleared.now)) }
     ensures read { IfErr result IsOwn }
 {

@@ -11,8 +11,8 @@ ghost use Rattle.kf_top.specs.Stops.{Answers, IsOwn};
 ghost use Rattle.kf_top.specs.Views.{shown};
 ghost use Rattle.kf_top.specs.Steps.{TracesOf, TrailOf};
 
-use crate::refusal::{Done, Refusal, Stop};
-use kf_channel::{ChannelError, channel_of};
+use crate::capacity::channel_in;
+use crate::refusal::{Done, Stop};
 use kf_make::{made, made_laws};
 use kf_run::{hyper_of, trail as trail_of};
 use kf_support::Cleared;
@@ -48,12 +48,7 @@ pub(crate) fn channel<'a>(alloc: Global, cleared: &Cleared) -> Result<Done, Stop
         (After (Gives (initial (program_in cleared.now))) (λ p. ChannelOf p.target (joint_of (turns_of cleared.now) p))) }
     ensures read { IfErr result IsOwn }
 {
-    let table = table(alloc, cleared)?;
-    let channel = match channel_of(alloc, &table) {
-        Ok(channel) => channel,
-        Err(ChannelError::NotInitial) => return Err(Stop::Refused(Refusal::NotInitial)),
-        Err(ChannelError::Mem) => return Err(Stop::Mem),
-    };
+    let channel = channel_in(alloc, cleared)?;
     let bytes = channel_text(alloc, &channel)?;
     Ok(Done { yes: true, bytes })
 }

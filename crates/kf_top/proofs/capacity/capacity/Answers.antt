@@ -3,14 +3,15 @@ use Rattle.kf_capacity.specs.Grids.{channel_grid}
 use Rattle.kf_capacity.specs.Views.{channel_tree}
 use Rattle.kf_load.specs.Views.{program_in}
 use Rattle.kf_support.specs.Cleared.{turns_of}
-use Rattle.kf_top.proofs.Capacities.{capacity_prints, capacity_stops, capacity_unread}
+use Rattle.kf_top.specs.Answer.{CapacityIn}
+use Rattle.kf_top.proofs.Capacities.{capacity_prints, capacity_stops, unread}
 use Rattle.kf_top.proofs.capacity.capacity.Goals as goal
 
 pub returns-in_err-channel-clause-answer : goal.returns-in_err-channel-clause-answer
 returns-in_err-channel-clause-answer c =
     let p = err_from_is_err_and c.from_residual.result c.from_residual.ensures.1 in
     let cleared = c.args.cleared.now in
-    rw (p.1, p.2) (capacity_unread (turns_of cleared) (program_in cleared) c.in_err-channel.field-0.0 c.in_err-channel.ensures.answer)
+    rw (p.1, p.2) (unread (turns_of cleared) (program_in cleared) (CapacityIn (turns_of cleared)) c.in_err-channel.field-0.0 c.in_err-channel.ensures.answer)
 
 pub returns-in_err-capacity-clause-answer : goal.returns-in_err-capacity-clause-answer
 returns-in_err-capacity-clause-answer c =

@@ -24,3 +24,15 @@ returns-clause-answer c =
     let t = text_of c.args.first.now c.args.texts.now.first in
     let u = text_of c.args.second.now c.args.texts.now.second in
     both_of_two (λ v. Gives (few_stores v)) t u t u c.in_ok-first_source.ensures.answer c.in_ok-second_source.ensures.answer
+
+pub returns-clause-first_full : goal.returns-clause-first_full
+returns-clause-first_full c = c.in_ok-first_source.ensures.full
+
+pub returns-clause-second_full : goal.returns-clause-second_full
+returns-clause-second_full c = c.in_ok-second_source.ensures.full
+
+pub returns-clause-first_built : goal.returns-clause-first_built
+returns-clause-first_built c = c.in_ok-first_source.ensures.built
+
+pub returns-clause-second_built : goal.returns-clause-second_built
+returns-clause-second_built c = c.in_ok-second_source.ensures.built

@@ -1,4 +1,4 @@
-ghost use Rattle.std.specs.Prelude.{◌≡◌, map, IfOk};
+ghost use Rattle.std.specs.Prelude.{◌≡◌, map, IfOk, Ok};
 ghost use Rattle.kf_ast.specs.Views.{stmt_items, stmt_tree};
 
 use crate::{Dist, Ident};
@@ -65,6 +65,14 @@ impl StmtList {
     }
 }
 
+// What was copied before, beside what is copied then; where there is no memory for this, both are dropped.
+fn beside<A: Drop, B>(first: A, second: Result<B, Mem>) -> Result<(A, B), Mem>
+    ensures { IfOk result (λ both. (both.0 ≡ first) × (second ≡ Ok both.1)) }
+{
+    let second = second?;
+    Ok((first, second))
+}
+
 impl Stmt {
     /// An equal statement.
     #[cycle(copy_stmt)]
@@ -73,20 +81,20 @@ impl Stmt {
     {
         let node = match &self.node {
             StmtNode::Skip => StmtNode::Skip,
-            StmtNode::Assign { name, dist } => StmtNode::Assign {
-                name: name.copy(alloc)?,
-                dist: dist.copy(alloc)?,
-            },
+            StmtNode::Assign { name, dist } => {
+                let (name, dist) = beside(name.copy(alloc)?, dist.copy(alloc))?;
+                StmtNode::Assign { name, dist }
+            }
             StmtNode::Observe(dist) => StmtNode::Observe(dist.copy(alloc)?),
-            StmtNode::If { guard, yes, no } => StmtNode::If {
-                guard: guard.copy(alloc)?,
-                yes: yes.copy(alloc)?,
-                no: no.copy(alloc)?,
-            },
-            StmtNode::While { guard, body } => StmtNode::While {
-                guard: guard.copy(alloc)?,
-                body: body.copy(alloc)?,
-            },
+            StmtNode::If { guard, yes, no } => {
+                let kept = beside(guard.copy(alloc)?, yes.copy(alloc))?;
+                let ((guard, yes), no) = beside(kept, no.copy(alloc))?;
+                StmtNode::If { guard, yes, no }
+            }
+            StmtNode::While { guard, body } => {
+                let (guard, body) = beside(guard.copy(alloc)?, body.copy(alloc))?;
+                StmtNode::While { guard, body }
+            }
         };
         Ok(Stmt { at: self.at, node })
     }

@@ -34,6 +34,9 @@ module _ (t : TableTree) (column : List Entry) (is : IsColumn column) (some : 0 
     pub whole_fits : total column * t.over ≤ room
     whole_fits = omega (arith, longer_total (total column) t.over (width (Table t) (length column)) (omega arith), fits)
 
+    pub total_fits : total column ≤ room
+    total_fits = omega (arith, longer_total (total column) 1 t.over some, whole_fits)
+
     pub gains_fit : total column * greatest (gains_of t) ≤ room
     gains_fit = omega (arith, longer_total (total column) (greatest (gains_of t)) (width (Table t) (length column)) (omega arith), fits)
 

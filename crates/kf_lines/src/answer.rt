@@ -45,6 +45,7 @@ fn lines_under<'a>(
         Err(GainFault::Wide) => return Err(Stop::Refused(Refusal::WideGain)),
         Err(GainFault::Mem) => return Err(Stop::Mem),
     };
+    drop(hyper);
     let lines = lines_of(alloc, cleared, source.body.as_slice(), gain)?;
     let bytes = lines_text(alloc, bytes, &all, &lines)?;
     Ok(Done { yes: true, bytes })

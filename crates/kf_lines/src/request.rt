@@ -60,7 +60,10 @@ fn leak_job(job: Job) -> Option<Request>
 {
     match job {
         Job::Leak { file, gain, turns } => Some(Request { file, gain, turns }),
-        _ => None,
+        other => {
+            drop(other);
+            None
+        }
     }
 }
 

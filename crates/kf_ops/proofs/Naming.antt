@@ -67,7 +67,7 @@ names op.Div = both_row _ refl refl
 names op.Mod = zero_row _ refl (λ a b c. zero_alone (int_eq (whole b) (pos 0)) (int_rem_euclid (whole a) (whole b)))
 names op.Negate = wide_row _ refl (λ a b c. wide_alone (is_i64 (neg_ℤ (whole a))) (neg_ℤ (whole a)))
 names op.Abs = wide_row _ refl (λ a b c. wide_alone (is_i64 (pos (unsigned_abs (whole a)))) (pos (unsigned_abs (whole a))))
-names _ = neither _ (λ f a b c h. (cc))
+names _ = neither _ (λ f a b c. value_lacks f _)
 
 pub name_faults : Each NamesFaults operators
 name_faults = each_row NamesFaults names

@@ -1,5 +1,5 @@
 -- What values of each form hold.
-use Rattle.std.proofs.Common.{◌≡◌, List, map, sym, ap, ◌∙◌, subst}
+use Rattle.std.proofs.Common.{◌≡◌, List, map, sym, ap, ◌∙◌, subst, Result, Ok, Err}
 use Rattle.std.specs.List.Sorted.{IsStrictlySortedBy}
 use Rattle.kf_value.specs.Values.{ValueTree, Truth, Whole, Tuple, Set, order, elements}
 use Rattle.kf_value.specs.Forms.{IsWellFormed}
@@ -9,6 +9,8 @@ use Rattle.kf_value.specs.declared.value.Value.{Value}
 use Rattle.kf_value.specs.declared.value.Value.TheVariants as value
 use Rattle.kf_value.specs.declared.value.ValueList.{ValueList}
 use Rattle.kf_value.proofs.Trees.{constructors, parts_list-parts, value_tree-Set}
+use Rattle.kf_ops.specs.declared.fault.OpFault.{OpFault}
+use Rattle.kf_ops.specs.declared.fault.OpFault.TheVariants as fault
 
 pub elements-Set : (vs : ValueList) → elements (value_tree (value.Set vs)) ≡ value_trees vs
 elements-Set vs = ap elements (value_tree-Set vs) ∙ parts_list-parts (value_trees vs)
@@ -23,5 +25,12 @@ elements_ascend (Set vs) h = h.0
 pub elements_sorted : (v : Value) (xs : List Value) → map value_tree xs ≡ elements (value_tree v) → IsWellFormed (value_tree v)
     → IsStrictlySortedBy order (map value_tree xs)
 elements_sorted v xs is h = subst (IsStrictlySortedBy order) (sym is) (elements_ascend (value_tree v) h)
+
+-- neither a value nor a wide result is want of memory
+pub value_stays : {X : Type 0} (v : Value) → ◌≡◌ {A = Result Value OpFault} (Ok v) (Err fault.Mem) → X
+value_stays v h = absurd (cc)
+
+pub wide_stays : {X : Type 0} → ◌≡◌ {A = Result Value OpFault} (Err fault.ArithWide) (Err fault.Mem) → X
+wide_stays h = absurd (cc)
 
 pub ruleset readings = (constructors, elements-Set)

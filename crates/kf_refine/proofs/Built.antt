@@ -1,16 +1,17 @@
 -- The equations are those of the two hypers, and a number past 2^62 in them ends the run at once.
-use Rattle.std.proofs.Common.{◌≡◌, ◌≢◌, ℕ, ◌+◌, ◌-◌, ◌*◌, ◌/◌, ◌%◌, ◌^◌, ◌<◌, ◌≤◌, ◌==◌, ◌⊎◌, inl, inr, ⊎_elim, refl, sym, ap, ◌∙◌, subst, arith, unsigned_abs, List, [], Contains, length, get_or, nat_lt, cond, Result, Err, IsErrAnd}
+use Rattle.std.proofs.Common.{◌≡◌, ◌≢◌, ℕ, ◌+◌, ◌-◌, ◌*◌, ◌/◌, ◌%◌, ◌^◌, ◌<◌, ◌≤◌, ◌==◌, ◌⊎◌, inl, inr, ⊎_elim, refl, sym, ap, ◌∙◌, subst, arith, unsigned_abs, List, [], ◌∷◌, ◌++◌, Contains, zero, suc, length, length-append, map, get_or, nat_lt, cond, Result, Err, IsErrAnd}
 use Rattle.std.proofs.Math.IntN.{ℤ, pos}
 use Rattle.std.proofs.Math.Nat.{mul-le-mul_right}
 use Rattle.std.proofs.lemmas.Int.{ints}
 use Rattle.std.proofs.lemmas.Nat.{div-mul-add, mod-mul-add}
-use Rattle.std.proofs.lemmas.Bool.{cond_both, cases_eq}
+use Rattle.std.proofs.lemmas.Bool.{cond_both, cases_eq, cases_lt}
+use Rattle.std.proofs.lemmas.List.Elements.{All-nil, All-push}
 use Rattle.std.proofs.lemmas.Bool.Decides.{nat_tests}
 use Rattle.std.proofs.lemmas.Result.{err_from_is_err_and}
 use lib.Signed.{◌≤ℤ◌}
 use Rattle.kf_simplex.specs.declared.outcome.SimplexError.TheVariants as simplex
 use Rattle.kf_simplex.specs.declared.system.Equation.{Equation}
-use Rattle.kf_simplex.specs.Base.{total}
+use Rattle.kf_simplex.specs.Base.{at, total}
 use Rattle.kf_simplex.specs.Systems.{LinearSystem, IsSystem, right_column}
 use Rattle.kf_simplex.specs.Tableaus.{Tableau}
 use Rattle.kf_simplex.specs.Answers.{IsAnswer}
@@ -18,7 +19,7 @@ use Rattle.kf_simplex.specs.Views.{coefficients, right_side, number_at}
 use Rattle.kf_simplex.proofs.Equations.{entry-unknown, entry-right, linear_is_system}
 use Rattle.kf_simplex.proofs.FirstTableau.{first_tableau}
 use Rattle.kf_refine.specs.Refinements.{HyperTree, count}
-use Rattle.kf_refine.specs.Equations.{AreKept, AreWhole, AreEquations}
+use Rattle.kf_refine.specs.Equations.{AreKept, AreWhole, AreEquations, cells_of}
 use Rattle.kf_refine.specs.Built.{weight_number, sum_number, coefficient_number, right_number, HasNumbers, HaveNumbers, HasWide, IsWide}
 use Rattle.kf_refine.proofs.Coefficients.{weight_here, weight_elsewhere, sum_here, sum_elsewhere, within}
 use Rattle.kf_refine.proofs.Scaled.{read_at}
@@ -109,6 +110,56 @@ sum_numbers m' m n' n xs u w k e em en past had =
     (λ c. coefficient_high n xs u k c here) (right_high n xs w k here)
     (subst (λ (q : ℕ). HasNumbers (q * n) (sum_number n (k - length xs * n)) (pos 1) e) em
     (subst (λ (p : ℕ). HasNumbers (m' * p) (sum_number p (k - length xs * p)) (pos 1) e) en had))
+
+-- ---- equation after equation
+
+pub few_rows : (kept m n : ℕ) → cells_of kept m n ≤ 4000000 → kept * n + m < 4000000
+few_rows kept m n few = omega (arith, few)
+
+pub few_unknowns : (kept m n : ℕ) → cells_of kept m n ≤ 4000000 → m * n ≤ 4000000
+few_unknowns kept m n few = omega (arith, few)
+
+pub some_factor : (k l n : ℕ) → k < l * n → 0 < n
+some_factor k l zero low = absurd (omega arith)
+some_factor k l (suc n) low = omega arith
+
+module _ {X : Type 0} (part : Equation → X) (d : X) where
+  before : (rows : List Equation) (e : Equation) (k : ℕ) → k < length rows → get_or (map part (rows ++ e ∷ [])) k d ≡ get_or (map part rows) k d
+  before [] e k l = absurd (omega arith)
+  before (r ∷ rows) e zero l = refl
+  before (r ∷ rows) e (suc k) l = before rows e k (omega arith)
+
+  last : (rows : List Equation) (e : Equation) → get_or (map part (rows ++ e ∷ [])) (length rows) d ≡ part e
+  last [] e = refl
+  last (r ∷ rows) e = last rows e
+
+  -- what holds of each index still does with one more
+  each : (P : ℕ → X → Type 0) (rows : List Equation) (e : Equation) → ((k : ℕ) → k < length rows → P k (get_or (map part rows) k d))
+      → P (length rows) (part e) → (k : ℕ) → k < length (rows ++ e ∷ []) → P k (get_or (map part (rows ++ e ∷ [])) k d)
+  each P rows e old new k l = ⊎_elim
+      (λ (b : k < length rows). subst (P k) (sym (before rows e k b)) (old k b))
+      (λ (b : length rows ≤ k). let here : length rows ≡ k = omega (arith, length-append rows (e ∷ [])) in
+      subst (λ (j : ℕ). P j (get_or (map part (rows ++ e ∷ [])) j d)) here (subst (P (length rows)) (sym (last rows e)) new))
+      (cases_lt k (length rows))
+
+module _ (v : ℕ) (co : ℕ → ℕ → ℤ) (ri : ℕ → ℤ) where
+  pub numbers_none : (length {A = Equation} [] ≡ 0) × HaveNumbers v co ri []
+  numbers_none = (
+    refl,
+    record { many = All-nil (λ e. length e.coefs ≡ v); coefs = λ k c l. absurd (omega arith); rights = λ k l. absurd (omega arith) },
+  )
+
+  pub numbers_more : (rows : List Equation) (e : Equation) (k : ℕ) → HasNumbers v (co k) (ri k) e → (length rows ≡ k) × HaveNumbers v co ri rows
+      → (length (rows ++ e ∷ []) ≡ k + 1) × HaveNumbers v co ri (rows ++ e ∷ [])
+  numbers_more rows e k new (many, had) =
+      let mine : HasNumbers v (co (length rows)) (ri (length rows)) e = subst (λ (j : ℕ). HasNumbers v (co j) (ri j) e) (sym many) new in (
+        length-append rows (e ∷ []) ∙ ap (λ (n : ℕ). n + 1) many,
+        record {
+          many = All-push (λ e. length e.coefs ≡ v) rows e had.many new.many;
+          coefs = λ i c l m. each (λ e. e.coefs) [] (λ j xs. at xs c ≡ co j c) rows e (λ j b. had.coefs j c b m) (mine.coefs c m) i l;
+          rights = each (λ e. e.rhs) (pos 0) (λ j z. z ≡ ri j) rows e had.rights mine.rhs;
+        },
+      )
 
 -- what the exit of a `?` returns
 pub passed : {T E : Type 0} (r : Result T E) (e : E) → IsErrAnd r (λ f. f ≡ e) → r ≡ Err e

@@ -1,6 +1,6 @@
 -- Rows while entries are put behind them.
-use Rattle.std.proofs.Common.{◌≡◌, ℕ, zero, suc, ◌+◌, ◌*◌, ◌/◌, ◌<◌, ◌≤◌, ◌^◌, List, [], ◌++◌, length, get_or, drop, sum_by, sym, ap, ◌∙◌, arith, append_assoc}
-use Rattle.std.proofs.Math.Nat.{div-mul_cancel}
+use Rattle.std.proofs.Common.{◌≡◌, ℕ, zero, suc, ◌+◌, ◌*◌, ◌/◌, ◌<◌, ◌≤◌, ◌^◌, ◌==◌, if◌then◌else◌, List, [], ◌∷◌, ◌++◌, length, get_or, drop, sum_by, sym, ap, ◌∙◌, arith, append_assoc}
+use Rattle.std.proofs.Math.Nat.{div-mul_cancel, mul-le-mul_left}
 use Rattle.std.proofs.lemmas.Nat.Gcd.{le_of_dvd}
 use Rattle.std.proofs.lemmas.List.{drop_more}
 use Rattle.std.proofs.lemmas.List.Sums.{get_or-le-sum_by}
@@ -70,3 +70,19 @@ module _ (h : Hyper) (i : ℕ) (inside : i < length (inners_of h)) where
 
   pub share_some : 0 < (inner_at h i).total / total (inner_at h i).entries
   share_some = positive_factor _ (total (inner_at h i).entries) (inner_at h i).total times_whole (h.shape.used i none inside)
+
+-- ---- an entry's turn
+
+module _ (number times : ℕ) (entries : List Entry) (i : ℕ) (d : Entry) (inside : i < length entries) where
+  pub share_fits : (most : ℕ) → times * total entries < most → times * (get_or entries i d).weight < most
+  share_fits most fits = omega (arith, mul-le-mul_left times (get_or-le-sum_by (λ (e : Entry). e.weight) entries i d inside), fits)
+
+  -- what it adds
+  abbrev here : ℕ → List Entry
+  here x = if (get_or entries i d).value == x then record { value = number; weight = times * (get_or entries i d).weight } ∷ [] else []
+
+  pub shares_step : (old mid new : Rows) → GoesOn (shares number times (drop i entries)) (shares number times entries) old mid → Grows here mid new
+      → (AreFilled mid → AreFilled new) → GoesOn (shares number times (drop (i + 1) entries)) (shares number times entries) old new
+  shares_step old mid new had grows filled =
+      goes_step (shares number times (drop i entries)) (shares number times (drop (i + 1) entries)) here (shares number times entries) old mid new
+      (λ x. ap (λ l. shares number times l x) (drop_more entries i d inside)) had grows filled

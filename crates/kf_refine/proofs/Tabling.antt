@@ -1,11 +1,11 @@
 -- A gain table of multipliers, action by action.
-use Rattle.std.proofs.Common.{◌≡◌, ◌≢◌, ℕ, zero, suc, ◌+◌, ◌*◌, ◌/◌, ◌%◌, ◌^◌, ◌<◌, ◌≤◌, max, refl, sym, ap, ◌∙◌, subst, arith, rules, ⊎_elim, unsigned_abs, All, List, [], ◌∷◌, ◌++◌, length, take, get_or, length-append, length-take-le, flat_map, map}
+use Rattle.std.proofs.Common.{◌≡◌, ◌≢◌, ℕ, zero, suc, ◌+◌, ◌*◌, ◌/◌, ◌%◌, ◌^◌, ◌<◌, ◌≤◌, max, refl, sym, ap, ◌∙◌, subst, arith, rules, ⊎_elim, unsigned_abs, All, List, [], ◌∷◌, ◌++◌, length, take, get_or, length-append, length-take-le, flat_map, map, codes, decimal}
 use Rattle.std.proofs.Math.IntN.{ℤ, pos, negsuc, ◌+ℤ◌, ◌*ℤ◌}
 use Rattle.std.proofs.Math.Nat.{mul-le-mul_right, mul-div_cancel', eq-zero_of_zero-dvd, mod-lt, div-lt_iff_lt-mul}
 use Rattle.std.proofs.lemmas.Nat.{div-add-mod'}
 use Rattle.std.proofs.lemmas.Int.{ints}
 use Rattle.std.proofs.lemmas.Bool.{cases_lt, cases_eq}
-use Rattle.std.proofs.lemmas.List.{length-map, map-append, take_more, get_or-take}
+use Rattle.std.proofs.lemmas.List.{length-map, map-append, take_all, take_more, get_or-take}
 use Rattle.std.proofs.lemmas.List.Elements.{All-append, All-cons, All-from_get_or, All-map, All-nil}
 use Rattle.std.proofs.lemmas.Nat.Gcd.{dvd_trans, dvd_refl, le_of_dvd}
 use Rattle.std.specs.Int.{IsGcd, ◌∣◌}
@@ -147,6 +147,16 @@ gains_more kept n multipliers shift factor j q entries e l value gain small h =
           (cases_lt p q);
       narrow = All-append (λ e. unsigned_abs e.gain ≤ 2 ^ 65) entries (e ∷ []) h.narrow (All-cons (λ e. unsigned_abs e.gain ≤ 2 ^ 65) e [] small (λ k d u. absurd (omega arith)));
     }
+
+-- all of them are an action's
+pub action_made : (kept : List ℕ) (n : ℕ) (multipliers : List ℤ) (shift factor j q : ℕ) (entries gains : List GainEntry) (name : List ℕ)
+    → name ≡ codes "b" ++ decimal j → gains ≡ entries → length kept ≤ q → HasGains kept n multipliers shift factor j q entries
+    → IsActionOf kept n multipliers shift factor j (record { name = name; gains = gains })
+action_made kept n multipliers shift factor j q entries gains name named same past h = record {
+  name = named;
+  values = ap (λ (es : List GainEntry). map (λ e. e.value) es) same ∙ h.values ∙ take_all q kept past;
+  gains = λ p l. ap (λ (es : List GainEntry). pos factor *ℤ at (map (λ e. e.gain) es) p) same ∙ h.gains p (omega arith);
+}
 
 -- ---- all actions
 

@@ -1,14 +1,16 @@
 -- One step from all stores, store by store.
-use Rattle.std.proofs.Common.{◌≡◌, ℕ, zero, suc, ◌+◌, ◌*◌, ◌<◌, ◌≤◌, Bool, true, false, List, [], ◌∷◌, Option, Some, Ok, Err, ◌++◌, refl, sym, ap, ◌∙◌, subst, arith, if◌then◌else◌, append_assoc, append-nil, length, get_or, set, take, drop}
+use Rattle.std.proofs.Common.{◌≡◌, ℕ, zero, suc, ◌+◌, ◌*◌, ◌<◌, ◌≤◌, Bool, true, false, List, [], ◌∷◌, Option, Some, Ok, Err, ◌++◌, refl, sym, ap, ◌∙◌, subst, arith, if◌then◌else◌, append_assoc, append-nil, length, get_or, set, take, drop, map}
 use Rattle.std.proofs.lemmas.List.{take_all, take_more_set, drop_all, drop_more, drop-set-lt}
+use Rattle.kf_value.specs.Types.{TypeTree}
 use Rattle.kf_core.specs.Choices.{Weighted, total}
-use Rattle.kf_core.specs.Runs.{LoopBound, Tried}
+use Rattle.kf_core.specs.Runs.{LoopBound, Tried, tried, place, replaced}
 use Rattle.kf_core.specs.Results.{then_ok}
 use Rattle.kf_core.specs.Support.{Passed, each_moved, can_be, bounded}
+use Rattle.kf_core.specs.Dxs.{DxTree}
 use Rattle.kf_support.specs.declared.faults.Halt.{Halt}
 use Rattle.kf_support.specs.declared.faults.Halt.TheVariants as halt
 use Rattle.kf_support.specs.Answers.{AreWays, IsHaltOf, ways_to}
-use Rattle.kf_support.specs.Carried.{Reached, Lead, capped, with_all, with_ways, carry_step, staying, guard_lead, last_lead}
+use Rattle.kf_support.specs.Carried.{Reached, Lead, capped, with_all, with_ways, carry_step, staying, guard_lead, last_lead, assign_lead}
 use Rattle.kf_support.proofs.Adding.{IsWay, IsScale, capped_scale, first_way}
 use Rattle.kf_support.proofs.Settling.{made_more, one_more_way}
 
@@ -79,6 +81,17 @@ module _ (lead : Lead) (size : ℕ) (whole : Passed Reached) (made : Reached) (e
   carries_fault halt.Scale is = is
   carries_fault halt.Mem is = tt
 
+-- a list that is gone along by its places
+module _ (lead : Lead) (size : ℕ) (whole : Passed Reached) (made from : Reached) (i : ℕ) (had : CarriesOn lead size (drop i from) whole made) where
+  pub way_at : i < length from → IsWay size (get_or from i (0, 0))
+  way_at within = here lead size whole made (get_or from i (0, 0)) (drop (i + 1) from) (drop i from) (drop_more from i (0, 0) within) had
+
+  pub fault_at : i < length from → (h : Halt) → IsHaltOf (lead (get_or from i (0, 0)).0) h → IsHaltOf whole h
+  fault_at within = carries_fault lead size whole made (get_or from i (0, 0)) (drop (i + 1) from) (drop i from) (drop_more from i (0, 0) within) had
+
+  pub ways_end : length from ≤ i → whole ≡ Ok (with_all [] made)
+  ways_end past = sym had.all ∙ ap (carry_step lead (with_all [] made)) (drop_all i from past)
+
 -- other ways that lead to the same
 pub carries_same : (lead : Lead) (size : ℕ) (left : Reached) (whole : Passed Reached) (made others : Reached) → with_all [] others ≡ with_all [] made → AreWays size others → CarriesOn lead size left whole made
     → CarriesOn lead size left whole others
@@ -94,6 +107,18 @@ pub then_fault : {A B : Type 0} (r : Passed A) (next : A → Passed B) (h : Halt
 then_fault r next (halt.Fault kind at) is = ap (λ r. then_ok r next) is
 then_fault r next halt.Scale is = is
 then_fault r next halt.Mem is = tt
+
+pub guard_fault : (b : Bool) (guard : ℕ → Tried) (n : ℕ) (h : Halt) → IsHaltOf (guard n) h → IsHaltOf (guard_lead b guard n) h
+guard_fault b guard n h is = then_fault (guard n) (λ ws. Ok (if can_be b (Ok ws) then n ∷ [] else [], total ws)) h is
+
+pub assign_fault : (ts : List TypeTree) (i : ℕ) (d : DxTree) (n : ℕ) (h : Halt) → IsHaltOf (tried ts d n) h → IsHaltOf (assign_lead ts i d n) h
+assign_fault ts i d n h is =
+    then_fault (tried ts d n) (λ ws. then_ok (each_moved (place d) (map (λ w. replaced ts i w.value n) ws)) (λ ms. Ok (ms, total ws))) h is
+
+pub last_fault : (at : ℕ) (guard : ℕ → Tried) (n : ℕ) (h : Halt) → IsHaltOf (guard n) h → IsHaltOf (last_lead at guard n) h
+last_fault at guard n (halt.Fault kind place) is = ap (λ r. then_ok (bounded at n r) (λ _. guard_lead false guard n)) is
+last_fault at guard n halt.Scale is = is
+last_fault at guard n halt.Mem is = tt
 
 pub then_value : {A B : Type 0} (r : Passed A) (next : A → Passed B) (x : A) → r ≡ Ok x → then_ok r next ≡ next x
 then_value r next x is = ap (λ r. then_ok r next) is

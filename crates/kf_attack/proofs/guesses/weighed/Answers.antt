@@ -1,10 +1,16 @@
-use Rattle.std.proofs.Common.{rules, ◌≡◌, ◌+◌, List, ◌++◌, ◌∷◌, [], refl, sym, subst, take, get_or}
+use Rattle.std.proofs.Common.{rules, arith, ◌≡◌, ◌+◌, List, ◌++◌, ◌∷◌, [], refl, sym, subst, take, get_or}
 use Rattle.std.specs.List.{AllZip}
 use Rattle.kf_column.specs.declared.entry.Entry.{Entry}
+use Rattle.kf_hyper.proofs.Reading.{entry_within}
 use Rattle.kf_attack.specs.declared.attack.WeighedValue.{WeighedValue}
 use Rattle.kf_attack.specs.Views.{ShowsValue}
 use Rattle.kf_attack.proofs.Zips.{zip_next}
 use Rattle.kf_attack.proofs.guesses.weighed.Goals as goal
+
+pub share-chance-requires-clause-within : goal.share-chance-requires-clause-within
+share-chance-requires-clause-within c =
+    let none : Entry = record { value = 0; weight = 0 } in
+    omega (arith, entry_within c.args.entries.now c.loop-entry.entry-index none c.loop-entry-test.true, c.requires.part)
 
 pub loop-entry-preserved : goal.loop-entry-preserved
 loop-entry-preserved c =

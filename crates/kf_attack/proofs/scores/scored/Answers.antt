@@ -12,8 +12,29 @@ use Rattle.kf_gain.specs.Worth.{gained}
 use Rattle.kf_gain.specs.Views.{table_tree}
 use Rattle.kf_attack.specs.declared.attack.Score.{Score}
 use Rattle.kf_attack.specs.Views.{ShowsScore, places, scored}
-use Rattle.kf_attack.proofs.Scoring.{whole_positive, gained_fits, places_next, score_next, still_reached, still_best, scores_shown}
+use Rattle.kf_attack.proofs.Scoring.{whole_positive, whole_fits, total_fits, gains_fit, gained_fits, places_next, score_next, still_reached, still_best, scores_shown}
 use Rattle.kf_attack.proofs.scores.scored.Goals as goal
+
+pub whole_of-whole-requires-clause-narrow : goal.whole_of-whole-requires-clause-narrow
+whole_of-whole-requires-clause-narrow c = total_fits (table_tree c.args.table.now) c.args.entries.now c.requires.column c.args.table.now.shape.positive limit c.requires.fits
+
+pub whole_of-whole-requires-clause-fits : goal.whole_of-whole-requires-clause-fits
+whole_of-whole-requires-clause-fits c = whole_fits (table_tree c.args.table.now) c.args.entries.now c.requires.column c.args.table.now.shape.positive limit c.requires.fits
+
+pub action_gain-best-requires-clause-narrow : goal.action_gain-best-requires-clause-narrow
+action_gain-best-requires-clause-narrow c = total_fits (table_tree c.args.table.now) c.args.entries.now c.requires.column c.args.table.now.shape.positive limit c.requires.fits
+
+pub action_gain-best-requires-clause-fits : goal.action_gain-best-requires-clause-fits
+action_gain-best-requires-clause-fits c = gains_fit (table_tree c.args.table.now) c.args.entries.now c.requires.column c.args.table.now.shape.positive limit c.requires.fits
+
+pub action_gain-gain-requires-clause-narrow : goal.action_gain-gain-requires-clause-narrow
+action_gain-gain-requires-clause-narrow c = total_fits (table_tree c.args.table.now) c.args.entries.now c.requires.column c.args.table.now.shape.positive limit c.requires.fits
+
+pub action_gain-gain-requires-clause-fits : goal.action_gain-gain-requires-clause-fits
+action_gain-gain-requires-clause-fits c = gains_fit (table_tree c.args.table.now) c.args.entries.now c.requires.column c.args.table.now.shape.positive limit c.requires.fits
+
+pub fraction-score-requires-clause-den : goal.fraction-score-requires-clause-den
+fraction-score-requires-clause-den c = rw c.whole_of-whole.ensures (whole_fits (table_tree c.args.table.now) c.args.entries.now c.requires.column c.args.table.now.shape.positive limit c.requires.fits)
 
 pub fraction-score-requires-clause-num : goal.fraction-score-requires-clause-num
 fraction-score-requires-clause-num c =

@@ -1,8 +1,16 @@
-use Rattle.std.proofs.Common.{arith}
+use Rattle.std.proofs.Common.{arith, sym, ap, ◌∙◌}
+use Rattle.std.proofs.lemmas.List.{drop_all}
 use Rattle.kf_lex.specs.declared.words.TheConstants.{OPERATOR_WORDS}
-use Rattle.kf_lex.proofs.Paired.{other_word}
+use Rattle.kf_lex.specs.Operators.{op_in}
+use Rattle.kf_lex.proofs.Paired.{other_word, this_word}
 use Rattle.kf_lex.proofs.words.op_of.Goals as goal
 
 pub loop-pair-preserved : goal.loop-pair-preserved
 loop-pair-preserved c =
     other_word OPERATOR_WORDS c.loop-pair.pair-index _ c.args.word _ (omega arith) c.if-eq.ensures c.loop-pair.invariant
+
+pub returns-then-eq : goal.returns-then-eq
+returns-then-eq c = this_word OPERATOR_WORDS c.loop-pair.pair-index _ c.args.word _ (omega arith) c.if-eq.ensures c.loop-pair.invariant
+
+pub returns : goal.returns
+returns c = sym (ap (λ pairs. op_in pairs c.args.word) (drop_all c.loop-pair.pair-index OPERATOR_WORDS (omega arith))) ∙ c.loop-pair.invariant

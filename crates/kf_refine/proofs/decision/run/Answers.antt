@@ -13,6 +13,9 @@ returns-in_ok-matrix-in-Ok-Solution-clause-is c = (
   matrix_of _ _ _ _ _ _ c.count.ensures c.count-in-Ok-Solution.ensures c.in_ok-matrix-in-Ok-Solution.ensures,
 )
 
+pub table-requires-clause-ascending : goal.table-requires-clause-ascending
+table-requires-clause-ascending c = c.requires.kept.ascending
+
 pub table-requires-clause-some : goal.table-requires-clause-some
 table-requires-clause-some c =
     let e = c.requires.equations in

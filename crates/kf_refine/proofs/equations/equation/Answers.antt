@@ -1,9 +1,27 @@
-use Rattle.std.proofs.Common.{◌*◌}
+use Rattle.std.proofs.Common.{◌≡◌, ℕ, ◌*◌, ◌%◌, ◌<◌, subst, arith, length}
+use Rattle.std.proofs.Math.Nat.{mod-lt}
 use Rattle.kf_refine.specs.Refinements.{count}
 use Rattle.kf_refine.specs.Built.{whole}
 use Rattle.kf_refine.specs.Views.{hyper_tree}
-use Rattle.kf_refine.proofs.Built.{passed, value_numbers, value_wide, sum_numbers}
+use Rattle.kf_refine.proofs.Built.{few_rows, few_unknowns, some_factor, passed, value_numbers, value_wide, sum_numbers}
 use Rattle.kf_refine.proofs.equations.equation.Goals as goal
+
+pub overflow_mul-of_values : goal.overflow_mul-of_values
+overflow_mul-of_values c =
+    let same : length c.args.kept.now * c.count-columns.result ≡ length c.args.kept.now * count (hyper_tree c.args.b.now) =
+    λ i. length c.args.kept.now * c.count-columns.ensures i in
+    omega (arith, same, few_rows _ _ _ c.requires.few)
+
+pub value_equation-requires-clause-inner : goal.value_equation-requires-clause-inner
+value_equation-requires-clause-inner c =
+    let some = some_factor c.args.k (length c.args.kept.now) c.count-columns.result c.if-k-of_values.true in
+    subst (λ (n : ℕ). c.args.k % c.count-columns.result < n) c.count-columns.ensures (mod-lt c.args.k some)
+
+pub value_equation-requires-clause-few : goal.value_equation-requires-clause-few
+value_equation-requires-clause-few c = few_unknowns _ _ _ c.requires.few
+
+pub sum_equation-requires-clause-few : goal.sum_equation-requires-clause-few
+sum_equation-requires-clause-few c = rw (c.count.ensures, c.count-columns.ensures) (few_unknowns _ _ _ c.requires.few)
 
 pub returns-in_err-row-clause-err : goal.returns-in_err-row-clause-err
 returns-in_err-row-clause-err c =

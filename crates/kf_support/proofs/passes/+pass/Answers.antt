@@ -1,14 +1,17 @@
-use Rattle.std.proofs.Common.{rules, map, Ok, sym, ◌∙◌, arith}
+use Rattle.std.proofs.Common.{rules, map, Ok, sym, ◌∙◌, arith, subst, ap}
 use Rattle.std.proofs.lemmas.Result.{err_from_is_err_and}
-use Rattle.kf_value.specs.Shapes.{shape_sizes}
+use Rattle.kf_value.specs.Shapes.{shape_sizes, shape_types}
 use Rattle.kf_value.specs.Types.{product}
-use Rattle.kf_value.proofs.ListLemmas.{left_step}
+use Rattle.kf_value.proofs.ListLemmas.{left_step, left_end}
 use Rattle.kf_core.specs.declared.st.St.{the_lemmas}
 use Rattle.kf_core.specs.Views.{st_tree}
 use Rattle.kf_eval.specs.Kinds.{shape_kinds}
 use Rattle.kf_core.proofs.SoundParts as sound
+use Rattle.kf_support.specs.Answers.{AnswersPass}
+use Rattle.kf_support.specs.Carried.{carry}
 use Rattle.kf_support.proofs.Passing as pass
 use Rattle.kf_support.proofs.Settling.{both_reached, settled_reached}
+use Rattle.kf_support.proofs.Adding.{no_ways}
 use Rattle.kf_support.proofs.passes.+pass.Goals as goal
 
 pub pass-assign-requires-clause-variable : goal.pass-assign-requires-clause-variable
@@ -96,3 +99,63 @@ pub pass_while-settled-requires : goal.pass_while-settled-requires
 pass_while-settled-requires t c =
     let size = product (shape_sizes c.args.shape.now) in
     record { ways = (size, c.in_ok-gone.ensures.ways size c.in_ok-branches.ensures.ways.1) }
+
+pub pass-assign-requires-clause-kinded : goal.pass-assign-requires-clause-kinded
+pass-assign-requires-clause-kinded t c =
+    let known = sound.assign_parts (shape_kinds c.args.shape.now) c.args.statement.now c.requires.sound c.in-Assign.slot c.in-Assign.dist c.in-Assign.shown c.in-Assign.is in
+    (known.0, known.1.1)
+
+pub pass-assign-requires-clause-ways : goal.pass-assign-requires-clause-ways
+pass-assign-requires-clause-ways t c = rw c.as_slice.ensures.value c.requires.ways.0
+
+pub pass-observe-requires-clause-kinded : goal.pass-observe-requires-clause-kinded
+pass-observe-requires-clause-kinded t c = sound.observe_parts (shape_kinds c.args.shape.now) c.args.statement.now c.requires.sound c.in-Observe.dist c.in-Observe.is
+
+pub pass-guard-requires-clause-kinded : goal.pass-guard-requires-clause-kinded
+pass-guard-requires-clause-kinded t c = sound.if_guard (shape_kinds c.args.shape.now) c.args.statement.now c.requires.sound c.in-If.test c.in-If.yes c.in-If.no c.in-If.is
+
+pub pass-guard-requires-clause-ways : goal.pass-guard-requires-clause-ways
+pass-guard-requires-clause-ways t c = rw c.as_slice-in-If.ensures.value c.requires.ways.0
+
+pub pass-guard-requires-clause-left_ways : goal.pass-guard-requires-clause-left_ways
+pass-guard-requires-clause-left_ways t c = rw c.new.ensures.items (no_ways (product (shape_sizes c.args.shape.now)))
+
+pub pass-settled-requires : goal.pass-settled-requires
+pass-settled-requires t c = record { ways = ((product (shape_sizes c.args.shape.now)), c.in_ok-branches-in-If.ensures.ways.1) }
+
+pub pass-add_all-requires-clause-one : goal.pass-add_all-requires-clause-one
+pass-add_all-requires-clause-one t c = ((product (shape_sizes c.args.shape.now)), c.in_ok-one-in-If.ensures.ways)
+
+pub pass-add_all-requires-clause-other : goal.pass-add_all-requires-clause-other
+pass-add_all-requires-clause-other t c = ((product (shape_sizes c.args.shape.now)), c.in_ok-other-in-If.ensures.ways)
+
+pub pass_all-returns-clause-answer : goal.pass_all-returns-clause-answer
+pass_all-returns-clause-answer t c =
+    let used = left_end st_tree c.args.statements.now c.loop-statement.statement-index (omega arith) in
+    pass.pass_end c.args.shape.now c.args.turns _ c.loop-statement.states.items (rw used at c.loop-statement.invariant)
+
+pub pass_all-returns-clause-ways : goal.pass_all-returns-clause-ways
+pass_all-returns-clause-ways t c = c.loop-statement.invariant.ways
+
+pub pass_while-guard-requires-clause-ways : goal.pass_while-guard-requires-clause-ways
+pass_while-guard-requires-clause-ways t c = rw c.as_slice.ensures.value c.loop-turn.invariant.ways.0
+
+pub pass_while-guard-requires-clause-left_ways : goal.pass_while-guard-requires-clause-left_ways
+pass_while-guard-requires-clause-left_ways t c = c.loop-turn.invariant.left_ways
+
+pub pass_while-shortened-requires : goal.pass_while-shortened-requires
+pass_while-shortened-requires t c = record { ways = ((product (shape_sizes c.args.shape.now)), c.in_ok-branches.ensures.ways.1) }
+
+pub pass_while-pass_all-requires : goal.pass_while-pass_all-requires
+pass_while-pass_all-requires t c = (search (rules, the_lemmas), (c.requires.sound, c.in_ok-branches.ensures.ways.0))
+
+pub pass-returns-in-Assign-clause-answer : goal.pass-returns-in-Assign-clause-answer
+pass-returns-in-Assign-clause-answer t c =
+    let same = ap st_tree c.in-Assign.is ∙ sound.tree-Assign c.in-Assign.slot c.in-Assign.dist c.in-Assign.shown in
+    let answer = rw (c.as_slice.ensures.value, c.from.ensures) at c.assign.ensures.answer in
+    subst (λ s. AnswersPass c.assign.result (carry (shape_types c.args.shape.now) c.args.turns s c.args.from.items)) (sym same) answer
+
+pub pass-returns-in-Observe-clause-answer : goal.pass-returns-in-Observe-clause-answer
+pass-returns-in-Observe-clause-answer t c =
+    let same = ap st_tree c.in-Observe.is ∙ sound.tree-Observe c.in-Observe.dist in
+    subst (λ s. AnswersPass c.observe.result (carry (shape_types c.args.shape.now) c.args.turns s c.args.from.items)) (sym same) c.observe.ensures.answer

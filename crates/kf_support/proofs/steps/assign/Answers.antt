@@ -1,5 +1,5 @@
 use Rattle.std.proofs.lemmas.Result.{err_from_is_err_and}
-use Rattle.std.proofs.Common.{ℕ, drop, get_or, ◌+◌, List, [], ◌*◌, ◌++◌, map}
+use Rattle.std.proofs.Common.{ℕ, drop, get_or, ◌+◌, List, [], ◌*◌, ◌++◌, map, sym, ◌∙◌, Ok}
 use Rattle.std.proofs.lemmas.List.{drop_more}
 use Rattle.kf_value.specs.Shapes.{shape_types, shape_sizes}
 use Rattle.kf_value.specs.Types.{product}
@@ -13,7 +13,7 @@ use Rattle.kf_support.specs.Carried.{capped, carry_step, assign_lead}
 use Rattle.kf_support.proofs.Adding.{first_way}
 use Rattle.kf_support.proofs.Settling.{settled_reached}
 use Rattle.kf_support.proofs.Weighing.{kept_choice}
-use Rattle.kf_support.proofs.Stepping.{carries_step, carries_same, carries_fault, grown_scale, passed_value, moved_value, moved_fault}
+use Rattle.kf_support.proofs.Stepping.{carries_step, carries_same, carries_fault, grown_scale, passed_value, moved_value, moved_fault, way_at, fault_at, ways_end, assign_fault}
 use Rattle.kf_support.proofs.steps.assign.Goals as goal
 
 pub add_moved-requires-clause-some : goal.add_moved-requires-clause-some
@@ -75,3 +75,36 @@ loop-way-preserved c =
 
 pub returns-clause-ways : goal.returns-clause-ways
 returns-clause-ways c = settled_reached (product (shape_sizes c.args.shape.now)) c.loop-way.next.items c.in_ok-reached.reached.items c.loop-way.invariant.carried.ways c.in_ok-reached.ensures.settled
+
+pub find_in-requires-clause-store : goal.find_in-requires-clause-store
+find_in-requires-clause-store c = (way_at _ _ _ _ c.args.from.now c.loop-way.way-index c.loop-way.invariant.carried c.loop-way-test.true).0
+
+pub find_in-requires-clause-kinded : goal.find_in-requires-clause-kinded
+find_in-requires-clause-kinded c = c.requires.kinded
+
+pub returns-in_err-place-clause-answer : goal.returns-in_err-place-clause-answer
+returns-in_err-place-clause-answer c =
+    let p = err_from_is_err_and c.from_residual-in_err-place.result c.from_residual-in_err-place.ensures.1 in
+    rw (p.1, p.2)
+    (fault_at _ _ _ _ c.args.from.now c.loop-way.way-index c.loop-way.invariant.carried c.loop-way-test.true c.in_err-place.field-0.0
+    (assign_fault (shape_types c.args.shape.now) c.args.slot (dx_tree c.args.dist.now) _ c.in_err-place.field-0.0 c.in_err-place.ensures.fault))
+
+pub add_moved-requires-clause-store : goal.add_moved-requires-clause-store
+add_moved-requires-clause-store c = (way_at _ _ _ _ c.args.from.now c.loop-way.way-index c.loop-way.invariant.carried c.loop-way-test.true).0
+
+pub add_moved-requires-clause-formed : goal.add_moved-requires-clause-formed
+add_moved-requires-clause-formed c =
+    rw c.as_slice.ensures
+    (kept_choice c.args.shape.now (dx_tree c.args.dist.now) _ c.in_ok-place.place c.find_in.new.memo c.at-choice.result.now c.in_ok-place.ensures.found c.at-choice.ensures).formed
+
+pub add_moved-requires-clause-ways : goal.add_moved-requires-clause-ways
+add_moved-requires-clause-ways c = c.loop-way.invariant.carried.ways
+
+pub shortened-requires : goal.shortened-requires
+shortened-requires c = record { ways = ((product (shape_sizes c.args.shape.now)), c.in_ok-add_moved.ensures.ways) }
+
+pub settled-requires : goal.settled-requires
+settled-requires c = record { ways = ((product (shape_sizes c.args.shape.now)), c.loop-way.invariant.carried.ways) }
+
+pub returns-clause-answer : goal.returns-clause-answer
+returns-clause-answer c = ways_end _ _ _ _ c.args.from.now c.loop-way.way-index c.loop-way.invariant.carried c.loop-way-test.false ∙ (λ i. Ok (sym c.in_ok-reached.ensures.settled i))

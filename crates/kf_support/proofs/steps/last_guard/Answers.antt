@@ -1,5 +1,6 @@
-use Rattle.std.proofs.Common.{drop, get_or, ◌+◌, [], ℕ, sym, ◌∙◌}
+use Rattle.std.proofs.Common.{drop, get_or, ◌+◌, [], ℕ, sym, ◌∙◌, Ok}
 use Rattle.std.proofs.lemmas.List.{drop_more}
+use Rattle.std.proofs.lemmas.Result.{err_from_is_err_and}
 use Rattle.kf_value.specs.Shapes.{shape_types, shape_sizes}
 use Rattle.kf_value.specs.Types.{product}
 use Rattle.kf_core.specs.Views.{dx_tree}
@@ -8,7 +9,7 @@ use Rattle.kf_eval.specs.Choices.{weighted_trees}
 use Rattle.kf_support.specs.Carried.{with_all, carry_step, last_lead}
 use Rattle.kf_support.proofs.Settling.{settled_reached}
 use Rattle.kf_support.proofs.Weighing.{kept_choice}
-use Rattle.kf_support.proofs.Stepping.{last_step}
+use Rattle.kf_support.proofs.Stepping.{last_step, way_at, fault_at, ways_end, last_fault}
 use Rattle.kf_support.proofs.steps.last_guard.Goals as goal
 
 pub loop-way-preserved : goal.loop-way-preserved
@@ -33,3 +34,23 @@ loop-way-preserved c =
 
 pub returns-clause-ways : goal.returns-clause-ways
 returns-clause-ways c = settled_reached (product (shape_sizes c.args.shape.now)) c.loop-way.left.items c.in_ok-reached.reached.items c.loop-way.invariant.carried.ways c.in_ok-reached.ensures.settled
+
+pub find_in-requires-clause-store : goal.find_in-requires-clause-store
+find_in-requires-clause-store c = (way_at _ _ _ _ c.args.from.now c.loop-way.way-index c.loop-way.invariant.carried c.loop-way-test.true).0
+
+pub find_in-requires-clause-kinded : goal.find_in-requires-clause-kinded
+find_in-requires-clause-kinded c = (_, c.requires.kinded)
+
+pub returns-in_err-place-clause-answer : goal.returns-in_err-place-clause-answer
+returns-in_err-place-clause-answer c =
+    let p = err_from_is_err_and c.from_residual-in_err-place.result c.from_residual-in_err-place.ensures.1 in
+    let guard = tried (shape_types c.args.shape.now) (dx_tree c.args.dist.now) in
+    rw (p.1, p.2)
+    (fault_at _ _ _ _ c.args.from.now c.loop-way.way-index c.loop-way.invariant.carried c.loop-way-test.true c.in_err-place.field-0.0
+    (last_fault c.args.dist.now.at guard _ c.in_err-place.field-0.0 c.in_err-place.ensures.fault))
+
+pub settled-requires : goal.settled-requires
+settled-requires c = record { ways = ((product (shape_sizes c.args.shape.now)), c.loop-way.invariant.carried.ways) }
+
+pub returns-clause-answer : goal.returns-clause-answer
+returns-clause-answer c = ways_end _ _ _ _ c.args.from.now c.loop-way.way-index c.loop-way.invariant.carried c.loop-way-test.false ∙ (λ i. Ok (sym c.in_ok-reached.ensures.settled i))

@@ -70,3 +70,6 @@ returns-clause-ways c =
     let past : length c.loop-i.next.items ≤ c.loop-i.i = omega (arith, c.len-i-end.ensures, c.loop-i-test.false, c.loop-i.invariant.long) in
     let all = part_end lead size (carry_step lead [] c.args.from.items) c.loop-i.next.items c.loop-i.i past c.loop-i.invariant.carried in
     settled_reached size c.loop-i.next.items c.in_ok-reached.reached.items all.1 c.in_ok-reached.ensures.settled
+
+pub find_in-requires-clause-kinded : goal.find_in-requires-clause-kinded
+find_in-requires-clause-kinded c = c.requires.kinded

@@ -1,5 +1,5 @@
 -- How many lists of values a target's items have.
-use Rattle.std.proofs.Common.{◌≡◌, ℕ, ◌*◌, List, [], ◌∷◌, length, map, refl, sym, ap, ◌∙◌}
+use Rattle.std.proofs.Common.{◌≡◌, ◌*◌, List, [], ◌∷◌, length, map, refl, sym, ap, ◌∙◌}
 use Rattle.kf_value.specs.Values.{ValueTree}
 use Rattle.kf_value.specs.Types.{values, combinations, count, product}
 use Rattle.kf_value.specs.Stores.{stores}

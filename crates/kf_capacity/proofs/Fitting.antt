@@ -9,8 +9,8 @@ use Rattle.std.specs.List.{AllByRecursion as Each, flat_map, range_with_len}
 use Rattle.kf_frac.specs.Divisors.{lcm_of}
 use Rattle.kf_frac.specs.Fractions.{limit}
 use Rattle.kf_capacity.specs.Grids.{GridTree}
-use Rattle.kf_capacity.specs.Compositions.{products, through, times}
-use Rattle.kf_capacity.specs.Composing.{ProductsFit, TimesFit}
+use Rattle.kf_capacity.specs.Compositions.{through, times}
+use Rattle.kf_capacity.specs.Composing.{ProductsFit, TimesFit, products}
 use Rattle.kf_capacity.specs.Laws.{CascadeIsStochastic, ParallelIsStochastic, ChoiceIsStochastic}
 use Rattle.kf_capacity.specs.Shapes.{IsStochastic, IsGrid}
 

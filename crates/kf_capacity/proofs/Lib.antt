@@ -1,3 +1,4 @@
+pub mod Cases
 pub mod Channels
 mod Choices
 pub mod Denominators
@@ -6,6 +7,7 @@ mod Dividing
 mod Fitting
 mod Named
 mod OwnDenominators
+mod Paired
 mod Passing
 pub mod Pieces
 mod Products

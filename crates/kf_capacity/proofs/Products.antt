@@ -5,7 +5,7 @@ use Rattle.std.proofs.lemmas.List.Elements.{All-nil, All-head, All-tail, All-map
 use Rattle.std.proofs.lemmas.List.Sums.{sum_by-le-sum_by}
 use Rattle.kf_frac.proofs.CommonMultiples.{product_positive}
 use Rattle.kf_hyper.proofs.Averaging.{sum-mapped}
-use Rattle.kf_capacity.specs.Compositions.{products}
+use Rattle.kf_capacity.specs.Composing.{products}
 use Rattle.kf_capacity.specs.Laws.{ParallelIsBounded, ParallelIsStochastic}
 use Rattle.kf_capacity.proofs.Sums.{sum_same, sum_times, sum_flat}
 use Rattle.kf_capacity.specs.Vulnerabilities.{greatest}

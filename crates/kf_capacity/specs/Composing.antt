@@ -1,5 +1,7 @@
 -- For bodies: what composed columns are made of, and what the faults of calls are.
-use Rattle.std.specs.Prelude.{◌≡◌, ℕ, ◌*◌, ◌≤◌, List, All}
+use Rattle.std.specs.Prelude.{◌≡◌, ℕ, ◌*◌, ◌≤◌, List, All, map, flat_map, None, Some}
+use Rattle.std.specs.List.{zip}
+use Rattle.std.specs.declared.option.Option.{Option}
 use Rattle.kf_frac.specs.Fractions.{limit}
 use Rattle.kf_capacity.specs.declared.error.GridFault.{GridFault}
 use Rattle.kf_capacity.specs.declared.error.GridFault.TheVariants as fault
@@ -11,6 +13,10 @@ use Rattle.kf_capacity.specs.declared.error.ParallelFault.{ParallelFault}
 use Rattle.kf_capacity.specs.declared.error.ParallelFault.TheVariants as parallel
 use Rattle.kf_capacity.specs.Compositions.{ComposeFault, Fit, Targets, Rows, Cells, Wide}
 
+-- the products of two columns, row by row
+abbrev pub products : List ℕ → List ℕ → List ℕ
+products ms ns = map (λ p. p.0 * p.1) (zip ms ns)
+
 -- each number of the first, times each of the second, is within the limit
 abbrev pub ProductsFit : List ℕ → List ℕ → Type 0
 ProductsFit ms ns = All (λ m. All (λ n. m * n ≤ limit) ns) ms
@@ -18,6 +24,11 @@ ProductsFit ms ns = All (λ m. All (λ n. m * n ≤ limit) ns) ms
 -- each number, times the factor, is within the limit
 abbrev pub TimesFit : ℕ → List ℕ → Type 0
 TimesFit factor ns = All (λ n. n * factor ≤ limit) ns
+
+-- the columns that are listed, or the products of each of them with each of others
+abbrev pub columns_with : List (List ℕ) → Option (List (List ℕ)) → List (List ℕ)
+columns_with columns None = columns
+columns_with columns (Some others) = flat_map (λ column. map (products column) others) columns
 
 -- what a fault of a grid is side by side with another
 abbrev pub BecomesParallel : GridFault → ParallelFault → Type 0

@@ -1,11 +1,12 @@
 -- Believed: channels one behind the other, side by side, and one or the other (Alvim et al. 2020: cascade, parallel composition, visible choice).
-use Rattle.std.specs.Prelude.{◌≡◌, ◌≢◌, ℕ, suc, ◌+◌, ◌*◌, ◌-◌, ◌/◌, ◌<◌, ◌≤◌, min, Bool, true, false, List, [], ◌∷◌, ◌++◌, map, flat_map, length}
+use Rattle.std.specs.Prelude.{◌≡◌, ℕ, suc, ◌+◌, ◌*◌, ◌-◌, ◌/◌, ◌≤◌, min, Bool, true, List, [], ◌∷◌, ◌++◌, map, flat_map, length}
 use Rattle.std.specs.Prelude.{slice_index, slice_index_or, is_some, unwrap_or, option_map, None, Some, if◌then◌else◌, Result, Ok, Err}
 use Rattle.std.specs.List.{list_all, range_with_len, zip}
 use Rattle.std.specs.Ordering.{is_eq}
 use Rattle.std.specs.declared.option.Option.{Option}
 use Rattle.kf_frac.specs.Divisors.{lcm_of}
 use Rattle.kf_frac.specs.Fractions.{limit}
+use Rattle.kf_frac.specs.Rules.{Unless}
 use Rattle.kf_value.specs.Values.{ValueTree}
 use Rattle.kf_value.specs.Targets.{target_values}
 use Rattle.kf_column.specs.Traces.{trace_order}
@@ -56,52 +57,37 @@ cascade_grid g places h = record {
   columns = map (λ column. map (through g.columns places column) (range_with_len 0 g.rows)) h.columns;
 }
 
+-- this grid, where its denominator is at most 2^127 - 1
+abbrev pub Narrow : GridTree → Result GridTree ComposeFault → Type 0
+Narrow g = Unless (g.over ≤ limit) (Err Wide) (λ r. r ≡ Ok g)
+
 -- the grid, or why there is none
 abbrev pub IsCascade : ChannelTree → ChannelTree → Result GridTree ComposeFault → Type 0
-IsCascade c d (Ok g) =
-    (fits c d ≡ true) × (g.over ≤ limit) × (g ≡ cascade_grid (channel_grid c) (places c d) (channel_grid d))
-IsCascade c d (Err Fit) = fits c d ≡ false
-IsCascade c d (Err Wide) = (fits c d ≡ true) × (limit < (channel_grid c).over * (channel_grid d).over)
-IsCascade c d (Err f) = ⊥
+IsCascade c d = Unless (fits c d ≡ true) (Err Fit) (Narrow (cascade_grid (channel_grid c) (places c d) (channel_grid d)))
 
 -- ---- side by side: both are seen
 
--- the products of two columns, row by row
-abbrev pub products : List ℕ → List ℕ → List ℕ
-products ms ns = map (λ p. p.0 * p.1) (zip ms ns)
-
--- each column of the first with each of the second
+-- each column of the first with each of the second, multiplied row by row
 abbrev pub parallel_grid : GridTree → GridTree → GridTree
 parallel_grid g h = record {
   over = g.over * h.over;
   rows = g.rows;
-  columns = flat_map (λ column. map (products column) h.columns) g.columns;
+  columns = flat_map (λ column. map (λ other. map (λ p. p.0 * p.1) (zip column other)) h.columns) g.columns;
 }
 
 -- how many cells that has
 abbrev pub cells_of : ChannelTree → ChannelTree → ℕ
 cells_of c d = length c.secrets * length c.rows * length d.rows
 
--- the two have the same secrets
-pub record HaveSameRows (c d : ChannelTree) : Type 0 where
-  pub targets : c.target ≡ d.target
-  pub secrets : c.secrets ≡ d.secrets
-
--- their secrets are of one target, and not the same
-pub record HaveOtherRows (c d : ChannelTree) : Type 0 where
-  pub targets : c.target ≡ d.target
-  pub secrets : c.secrets ≢ d.secrets
+-- the two must have the same secrets, of one target
+abbrev pub WithSameRows : ChannelTree → ChannelTree → (Result GridTree ComposeFault → Type 0) → Result GridTree ComposeFault → Type 0
+WithSameRows c d next = Unless (c.target ≡ d.target) (Err Targets) (Unless (c.secrets ≡ d.secrets) (Err Rows) next)
 
 -- the grid, or why there is none
 abbrev pub IsParallel : ChannelTree → ChannelTree → Result GridTree ComposeFault → Type 0
-IsParallel c d (Ok g) =
-    HaveSameRows c d × (cells_of c d ≤ 4000000) × (g.over ≤ limit) × (g ≡ parallel_grid (channel_grid c) (channel_grid d))
-IsParallel c d (Err Targets) = c.target ≢ d.target
-IsParallel c d (Err Rows) = HaveOtherRows c d
-IsParallel c d (Err (Cells count)) = HaveSameRows c d × (4000000 < cells_of c d) × (count ≡ min limit (cells_of c d))
-IsParallel c d (Err Wide) =
-    HaveSameRows c d × (cells_of c d ≤ 4000000) × (limit < (channel_grid c).over * (channel_grid d).over)
-IsParallel c d (Err f) = ⊥
+IsParallel c d =
+    WithSameRows c d
+    (Unless (cells_of c d ≤ 4000000) (Err (Cells (min limit (cells_of c d)))) (Narrow (parallel_grid (channel_grid c) (channel_grid d))))
 
 -- ---- one or the other, and it is seen which
 
@@ -121,10 +107,4 @@ choice_grid num den g h =
 
 -- the grid, or why there is none
 abbrev pub IsChoice : ℕ → ℕ → ChannelTree → ChannelTree → Result GridTree ComposeFault → Type 0
-IsChoice num den c d (Ok g) =
-    HaveSameRows c d × (g.over ≤ limit) × (g ≡ choice_grid num den (channel_grid c) (channel_grid d))
-IsChoice num den c d (Err Targets) = c.target ≢ d.target
-IsChoice num den c d (Err Rows) = HaveOtherRows c d
-IsChoice num den c d (Err Wide) =
-    HaveSameRows c d × (limit < (choice_grid num den (channel_grid c) (channel_grid d)).over)
-IsChoice num den c d (Err f) = ⊥
+IsChoice num den c d = WithSameRows c d (Narrow (choice_grid num den (channel_grid c) (channel_grid d)))

@@ -2,6 +2,7 @@
 pub mod Compositions
 pub mod Grids
 -- For bodies
+pub mod Cases
 pub mod Dens
 pub mod Divided
 pub mod Composing

@@ -6,9 +6,10 @@ ghost use Rattle.kf_frac.specs.Fractions.{limit};
 ghost use Rattle.kf_capacity.specs.declared.error.GridFault.TheVariants as fault;
 ghost use Rattle.kf_capacity.specs.Divided.{divided};
 ghost use Rattle.kf_capacity.specs.Grids.{channel_grid, denominator};
-ghost use Rattle.kf_capacity.specs.Views.{channel_tree, grid_tree, IsGridOf};
+ghost use Rattle.kf_capacity.specs.Views.{IsGridOf, channel_tree, grid_tree, listed_tree};
 
 use crate::divided::{DividedSecret, divided_secrets};
+use crate::grid::ListedGrid;
 use crate::multiples::{denominator_of, multiple_of};
 use crate::scales::{scaled_columns, scales};
 use crate::{Grid, GridFault};
@@ -21,6 +22,17 @@ use std::alloc::Global;
 /// `Wide` exactly where that denominator passes 2^127 - 1.
 pub fn grid_of(alloc: Global, c: &Channel) -> Result<Grid, GridFault>
     ensures is { IfOk result (λ g. IsGridOf (channel_tree c.now) (Ok (grid_tree g))) }
+    ensures wide { (result ≡ Err fault.Wide) ↔ (limit < denominator (channel_tree c.now)) }
+{
+    match listed_grid(alloc, c) {
+        Ok(grid) => Ok(grid.into_grid()),
+        Err(found) => Err(found),
+    }
+}
+
+/// The same with its columns one by one.
+pub(crate) fn listed_grid(alloc: Global, c: &Channel) -> Result<ListedGrid, GridFault>
+    ensures is { IfOk result (λ g. IsGridOf (channel_tree c.now) (Ok (listed_tree g))) }
     ensures wide { (result ≡ Err fault.Wide) ↔ (limit < denominator (channel_tree c.now)) }
 {
     match divided_secrets(alloc, c) {
@@ -40,9 +52,13 @@ fn fault_by_cells(c: &Channel) -> GridFault
 }
 
 // The grid of a channel with these secrets.
-fn divided_grid(alloc: Global, c: &Channel, secrets: &[DividedSecret]) -> Result<Grid, GridFault>
+fn divided_grid(
+    alloc: Global,
+    c: &Channel,
+    secrets: &[DividedSecret],
+) -> Result<ListedGrid, GridFault>
     requires { secrets.now ≡ map (divided (rows_of c.now)) (secrets_of c.now) }
-    ensures is { IfOk result (λ g. IsGridOf (channel_tree c.now) (Ok (grid_tree g))) }
+    ensures is { IfOk result (λ g. IsGridOf (channel_tree c.now) (Ok (listed_tree g))) }
     ensures wide { (result ≡ Err fault.Wide) ↔ (limit < denominator (channel_tree c.now)) }
 {
     let Some(over) = multiple_of(secrets) else {
@@ -55,17 +71,22 @@ fn divided_grid(alloc: Global, c: &Channel, secrets: &[DividedSecret]) -> Result
 }
 
 // The grid over this denominator.
-fn grid_over(alloc: Global, c: &Channel, secrets: &[DividedSecret], over: u128) -> Result<Grid, Mem>
+fn grid_over(
+    alloc: Global,
+    c: &Channel,
+    secrets: &[DividedSecret],
+    over: u128,
+) -> Result<ListedGrid, Mem>
     requires secrets { secrets.now ≡ map (divided (rows_of c.now)) (secrets_of c.now) }
     requires over { over ≡ denominator (channel_tree c.now) }
     requires narrow { over ≤ limit }
-    ensures { IfOk result (λ g. grid_tree g ≡ channel_grid (channel_tree c.now)) }
+    ensures { IfOk result (λ g. listed_tree g ≡ channel_grid (channel_tree c.now)) }
 {
     let scales = scales(alloc, secrets, over)?;
     let columns = scaled_columns(alloc, scales.as_slice(), c.traces())?;
     // so the numbers of each secret sum to `over`
     rows_sum_to_one();
-    Ok(Grid {
+    Ok(ListedGrid {
         over,
         rows: c.rows(),
         columns,

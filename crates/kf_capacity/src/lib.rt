@@ -9,6 +9,7 @@ mod error;
 mod grid;
 mod law;
 mod multiples;
+mod pair_sums;
 mod pairs;
 mod places;
 mod product;

@@ -6,12 +6,14 @@ ghost use Rattle.kf_frac.specs.Fractions.{limit};
 ghost use Rattle.kf_capacity.specs.declared.error.CascadeFault.TheVariants as fault;
 ghost use Rattle.kf_capacity.specs.Composing.{cascade_fault};
 ghost use Rattle.kf_capacity.specs.Compositions.{IsCascade, cascade_grid, through};
-ghost use Rattle.kf_capacity.specs.Views.{channel_tree, grid_tree};
+ghost use Rattle.kf_capacity.specs.Views.{channel_tree, grid_tree, listed_tree};
 
+use crate::channel_grid::listed_grid;
 use crate::column::{GridColumn, GridColumnList};
+use crate::grid::ListedGrid;
 use crate::places::trace_places;
-use crate::product::product;
-use crate::{CascadeFault, Grid, GridFault, grid_laws, grid_of};
+use crate::product::{product, short_product};
+use crate::{CascadeFault, Grid, GridFault, grid_laws};
 use kf_channel::Channel;
 use kf_value::Mem;
 use std::alloc::Global;
@@ -40,17 +42,22 @@ pub fn cascade(alloc: Global, c: &Channel, d: &Channel) -> Result<Grid, CascadeF
     let Some(places) = trace_places(alloc, c, d)? else {
         return Err(CascadeFault::Fit);
     };
-    let g = grid_of(alloc, c)?;
-    let h = grid_of(alloc, d)?;
+    let g = listed_grid(alloc, c)?;
+    let h = listed_grid(alloc, d)?;
     let grid = one_behind(alloc, &g, places.as_slice(), &h)?;
-    Ok(grid)
+    Ok(grid.into_grid())
 }
 
 // The grid of the second channel behind the first, whose columns are the secrets at these places.
-fn one_behind(alloc: Global, g: &Grid, places: &[usize], h: &Grid) -> Result<Grid, CascadeFault>
+fn one_behind(
+    alloc: Global,
+    g: &ListedGrid,
+    places: &[usize],
+    h: &ListedGrid,
+) -> Result<ListedGrid, CascadeFault>
     requires many { length places.now ≡ length g.now.columns }
     requires within { All (λ place. place < h.now.rows) places.now }
-    ensures is { IfOk result (λ made. grid_tree made ≡ cascade_grid (grid_tree g.now) places.now (grid_tree h.now)) }
+    ensures is { IfOk result (λ made. listed_tree made ≡ cascade_grid (listed_tree g.now) places.now (listed_tree h.now)) }
     ensures narrow { IfOk result (λ made. made.over ≤ limit) }
     ensures err { IfErr result (λ e. e ≢ fault.Mem → (e ≡ fault.Wide) × (limit < g.now.over * h.now.over)) }
 {
@@ -59,7 +66,7 @@ fn one_behind(alloc: Global, g: &Grid, places: &[usize], h: &Grid) -> Result<Gri
     };
     let columns = columns_behind(alloc, g, places, h)?;
     grid_laws();
-    Ok(Grid {
+    Ok(ListedGrid {
         over,
         rows: g.rows,
         columns,
@@ -69,9 +76,9 @@ fn one_behind(alloc: Global, g: &Grid, places: &[usize], h: &Grid) -> Result<Gri
 // The columns of the second grid behind the first one's columns.
 fn columns_behind(
     alloc: Global,
-    g: &Grid,
+    g: &ListedGrid,
     places: &[usize],
-    h: &Grid,
+    h: &ListedGrid,
 ) -> Result<GridColumnList, Mem>
     requires many { length places.now ≡ length g.now.columns }
     requires within { All (λ place. place < h.now.rows) places.now }
@@ -115,7 +122,7 @@ fn number_behind(columns: &[GridColumn], places: &[usize], column: &[u128], i: u
 {
     let mut sum = 0;
     for (first, place) in columns.iter().zip(places) {
-        sum += first.as_slice()[i] * column[*place];
+        sum += short_product(first.as_slice()[i], column[*place]);
     }
     sum
 }

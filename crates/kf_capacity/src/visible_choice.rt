@@ -6,12 +6,14 @@ ghost use Rattle.kf_capacity.specs.declared.error.ChoiceFault.TheVariants as fau
 ghost use Rattle.kf_capacity.specs.Composing.{TimesFit};
 ghost use Rattle.kf_capacity.specs.Composing.{choice_fault};
 ghost use Rattle.kf_capacity.specs.Compositions.{IsChoice, choice_grid, times};
-ghost use Rattle.kf_capacity.specs.Views.{channel_tree, grid_tree};
+ghost use Rattle.kf_capacity.specs.Views.{channel_tree, grid_tree, listed_tree};
 
+use crate::channel_grid::listed_grid;
 use crate::column::{GridColumn, GridColumnList};
+use crate::grid::ListedGrid;
 use crate::product::product;
 use crate::secrets::same_secrets;
-use crate::{ChoiceFault, Grid, GridFault, grid_laws, grid_of};
+use crate::{ChoiceFault, Grid, GridFault, grid_laws};
 use kf_channel::Channel;
 use kf_frac::lcm;
 use kf_value::{Mem, same_target};
@@ -53,19 +55,25 @@ pub fn choice(
     if !same_secrets(c, d) {
         return Err(ChoiceFault::Rows);
     }
-    let g = grid_of(alloc, c)?;
-    let h = grid_of(alloc, d)?;
+    let g = listed_grid(alloc, c)?;
+    let h = listed_grid(alloc, d)?;
     let grid = one_seen(alloc, &g, &h, num, den)?;
-    Ok(grid)
+    Ok(grid.into_grid())
 }
 
 // The grid of the first channel with probability `num / den`, else of the second one.
-fn one_seen(alloc: Global, g: &Grid, h: &Grid, num: u32, den: u32) -> Result<Grid, ChoiceFault>
+fn one_seen(
+    alloc: Global,
+    g: &ListedGrid,
+    h: &ListedGrid,
+    num: u32,
+    den: u32,
+) -> Result<ListedGrid, ChoiceFault>
     requires rows { g.now.rows ≡ h.now.rows }
     requires part { num < den }
-    ensures is { IfOk result (λ either. grid_tree either ≡ choice_grid num den (grid_tree g.now) (grid_tree h.now)) }
+    ensures is { IfOk result (λ either. listed_tree either ≡ choice_grid num den (listed_tree g.now) (listed_tree h.now)) }
     ensures narrow { IfOk result (λ either. either.over ≤ limit) }
-    ensures err { IfErr result (λ e. e ≢ fault.Mem → (e ≡ fault.Wide) × (limit < (choice_grid num den (grid_tree g.now) (grid_tree h.now)).over)) }
+    ensures err { IfErr result (λ e. e ≢ fault.Mem → (e ≡ fault.Wide) × (limit < (choice_grid num den (listed_tree g.now) (listed_tree h.now)).over)) }
 {
     let Some(common) = lcm(g.over, h.over) else {
         return Err(ChoiceFault::Wide);
@@ -79,7 +87,7 @@ fn one_seen(alloc: Global, g: &Grid, h: &Grid, num: u32, den: u32) -> Result<Gri
     let second = common / h.over * u128::from(den - num);
     push_times(alloc, h.columns.as_slice(), second, &mut columns)?;
     grid_laws();
-    Ok(Grid {
+    Ok(ListedGrid {
         over,
         rows: g.rows,
         columns: GridColumnList::new(columns),

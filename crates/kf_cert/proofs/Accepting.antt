@@ -12,7 +12,8 @@ use Rattle.kf_simplex.proofs.Signs.{product_monotone, product_not_negative, fact
 use Rattle.kf_simplex.proofs.Sums.{total-ext, total-scale, total-scale_right, total_not_negative}
 use Rattle.kf_refine.specs.Refinements.{HyperTree, Fraction, count, entry, joint, IsShaped, CarriesWeights, Carries}
 use Rattle.kf_cert.specs.Certificates.{Yes, Named, No, matrix_of}
-use Rattle.kf_cert.specs.Marks.{IsInRange, SumToOne, MarkedByRules, denominator, over_one}
+use Rattle.kf_cert.specs.Marks.{IsInRange, MarkedByRules, denominator, over_one}
+use Rattle.kf_cert.specs.Rows.{SumToOne}
 use Rattle.kf_cert.specs.declared.mark.Mark.{Mark}
 use Rattle.kf_cert.specs.declared.mark.Mark.TheVariants.{Accepted, Rejected}
 use Rattle.kf_cert.specs.declared.mark.Rule.{Rule}

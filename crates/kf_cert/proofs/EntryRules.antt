@@ -19,8 +19,8 @@ use Rattle.kf_simplex.proofs.Sums.{total-ext}
 use Rattle.kf_refine.specs.Refinements.{HyperTree, Fraction, count, joint, CarriesWeights}
 use Rattle.kf_cert.specs.Cells.{column_weight, column_total, IsCarried}
 use Rattle.kf_cert.specs.Certificates.{EntryTree, NamedTree, value_at, matrix_of, ascends}
-use Rattle.kf_cert.specs.Marks.{IsInRange, SumToOne, denominator, over_one}
-use Rattle.kf_cert.specs.Rows.{matrix_between, IsWithin, AreWithin, dens, amount_of, share_of, row_amount, SumsToOne}
+use Rattle.kf_cert.specs.Marks.{IsInRange, denominator, over_one}
+use Rattle.kf_cert.specs.Rows.{matrix_between, IsWithin, AreWithin, dens, amount_of, share_of, row_amount, SumsToOne, SumToOne}
 use Rattle.kf_cert.specs.declared.matrix_rules.shares.Share.{Share}
 use Rattle.kf_cert.proofs.Denominators.{at_entry, to_dens, denominator_positive, denominator_divided}
 use Rattle.kf_cert.proofs.EntrySums.{AreInside, inside_told, row_sum, column_sum, amount_is, taken_most}

@@ -1,5 +1,5 @@
 -- What is added up of the excesses of a table: an action has one at each value that it names, and one of 0 at all others.
-use Rattle.std.proofs.Common.{◌≡◌, ℕ, ◌+◌, ◌-◌, ◌<◌, ◌≤◌, ◌==◌, List, [], ◌∷◌, ◌++◌, Bool, All, map, sum_by, refl, sym, ◌∙◌, ap, arith, suc, zero, length, ⊎_elim, if◌then◌else◌, eq-eqb, add-one, drop, drop-cons, get_or, append_assoc, append-nil}
+use Rattle.std.proofs.Common.{◌≡◌, ℕ, ◌+◌, ◌<◌, ◌≤◌, ◌==◌, List, [], ◌∷◌, ◌++◌, Bool, All, map, sum_by, refl, sym, ◌∙◌, ap, arith, suc, zero, length, ⊎_elim, if◌then◌else◌, eq-eqb, add-one, drop, drop-cons, get_or, append_assoc, append-nil}
 use Rattle.std.specs.Prelude.{ℤ, pos, ◌-ℤ◌, IsPermutation}
 use Rattle.std.specs.List.Sorted.{IsStrictlyIncreasing, IsNonDecreasingBy}
 use Rattle.std.proofs.lemmas.Bool.{ne_eqb, cases_eq}

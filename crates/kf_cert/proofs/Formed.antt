@@ -12,7 +12,8 @@ use Rattle.kf_json.specs.Rules.{is_name, first_broken}
 use Rattle.kf_gain.proofs.Entries.{split_and}
 use Rattle.kf_gain.specs.Tables.{over_at, rest_at, actions_at, name_at, gains_at}
 use Rattle.kf_cert.specs.Numbers.{whole_said, numerator_said, denominator_said, fraction_said}
-use Rattle.kf_cert.specs.Certificates.{CertTree, Yes, Named, No, says_yes, has_entry_keys, is_fraction, is_row, has_rows, is_whole_number, is_size, is_entry, has_entries, is_gain, is_named_action, has_numbers, has_actions, is_narrow, is_narrow_fraction, is_narrow_whole, is_narrow_action, is_narrow_entry, is_narrow_matrix, are_narrow_entries, is_narrow_table, rules, row_said, entry_said, named_said, action_said, table_said, yes_said, cert_said, names_in_order, cert_in, cert_of}
+use Rattle.kf_cert.specs.Certificates.{CertTree, Yes, Named, No, says_yes, has_entry_keys, is_fraction, has_rows, is_whole_number, is_size, is_entry, has_entries, is_gain, is_named_action, has_numbers, has_actions, is_narrow, is_narrow_fraction, is_narrow_whole, is_narrow_entry, is_narrow_matrix, are_narrow_entries, is_narrow_table, rules, named_said, table_said, cert_said, names_in_order, cert_of}
+use Rattle.kf_cert.specs.Parts.{row_said, entry_said, action_said, yes_said, cert_in}
 use Rattle.kf_cert.specs.Reading.{gain_said, reads_fraction, reads_row, reads_matrix, reads_whole, reads_entry, reads_named, reads_yes, reads_gain, reads_action, reads_table, reads_cert}
 use Rattle.kf_cert.specs.Views.{cert_tree, IsSound, IsSoundNamed, IsSoundTable}
 use Rattle.kf_cert.specs.Laws.{ReadSound}
@@ -21,7 +22,7 @@ use Rattle.kf_cert.specs.declared.cert.CertAction.{CertAction}
 use Rattle.kf_cert.specs.declared.cert.CertError.{CertError}
 use Rattle.kf_cert.specs.declared.cert.CertError.TheVariants as broken
 use Rattle.kf_cert.proofs.Digits.{positive}
-use Rattle.kf_cert.specs.Forms.{matrix_at, rows_at, columns_at, entries_at, form_1, form_2, form_3, has_its_matrix, form_4, form_5, form_6, is_narrow_yes, narrow}
+use Rattle.kf_cert.specs.Forms.{matrix_at, rows_at, columns_at, entries_at, form_1, form_2, form_3, has_its_matrix, form_4, form_5, form_6, is_narrow_yes, narrow, is_row, is_narrow_action}
 use Rattle.kf_cert.specs.Order.{form_7}
 
 -- ---- the first broken rule

@@ -1,5 +1,5 @@
 -- What the actions of a table gain from a column: `rest` times its total, and the excesses.
-use Rattle.std.proofs.Common.{◌≡◌, ℕ, ◌+◌, ◌-◌, ◌*◌, ◌<◌, ◌≤◌, ◌==◌, List, [], ◌∷◌, All, map, max, flat_map, sum_by, refl, sym, ◌∙◌, ap, arith, suc, zero, length, get_or, drop, drop-cons, add-one, if◌then◌else◌}
+use Rattle.std.proofs.Common.{◌≡◌, ℕ, ◌+◌, ◌*◌, ◌<◌, ◌≤◌, ◌==◌, List, [], ◌∷◌, All, map, max, flat_map, sum_by, refl, sym, ◌∙◌, ap, arith, suc, zero, length, get_or, drop, drop-cons, add-one, if◌then◌else◌}
 use Rattle.std.specs.Prelude.{ℤ, pos, ◌+ℤ◌, ◌-ℤ◌, ◌*ℤ◌, ◌≤ℤ◌, unsigned_abs}
 use Rattle.std.proofs.lemmas.Int.{ints, unsigned_abs-mul}
 use Rattle.std.proofs.lemmas.List.{get_or_default}

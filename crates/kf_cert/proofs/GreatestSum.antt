@@ -1,5 +1,5 @@
 -- The greatest of a number and of all sums.
-use Rattle.std.proofs.Common.{◌≡◌, true≢false, is_some, ℕ, List, [], ◌∷◌, ◌⊎◌, ⊎_elim, Bool, true, false, All, refl, sym, ap, subst, arith, Option, None, Some, cond, unwrap_or}
+use Rattle.std.proofs.Common.{◌≡◌, true≢false, is_some, ℕ, List, [], ◌∷◌, ⊎_elim, Bool, true, false, All, refl, sym, ap, subst, arith, Option, None, Some, cond, unwrap_or}
 use Rattle.std.specs.Prelude.{ℤ, pos, ◌≤ℤ◌}
 use Rattle.std.specs.Int.{int_max}
 use Rattle.std.specs.Map.{lookup}

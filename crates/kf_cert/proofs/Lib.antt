@@ -25,6 +25,7 @@ pub mod NamedEntries
 pub mod NamedRows
 pub mod Numbering
 pub mod OneKey
+pub mod Pairs
 pub mod Pieces
 pub mod PlaceOrder
 pub mod PlainTexts

@@ -25,9 +25,11 @@ use Rattle.kf_refine.specs.Refinements.{HyperTree, Fraction, count, joint, IsSha
 use Rattle.kf_refine.specs.Views.{IsProper}
 use Rattle.kf_cert.specs.Certificates.{NamedTable, Yes, Named, No, matrix_of}
 use Rattle.kf_cert.specs.declared.cert.CertAction.{CertAction}
-use Rattle.kf_cert.specs.Marks.{Unless, MarkedByRules, IsInRange, denominator, over_one, SumToOne, value_texts, NamesValues, width, StandsFor, IsSeparating}
+use Rattle.kf_frac.specs.Rules.{Unless}
+use Rattle.kf_cert.specs.Marks.{MarkedByRules, IsInRange, denominator, over_one, value_texts, NamesValues, width, StandsFor}
+use Rattle.kf_cert.specs.Rows.{SumToOne}
 use Rattle.kf_cert.specs.Views.{IsSoundTable}
-use Rattle.kf_cert.specs.Laws.{OneMark, SomeMark}
+use Rattle.kf_cert.specs.Laws.{OneMark, SomeMark, IsSeparating}
 use Rattle.kf_cert.specs.declared.mark.Mark.{Mark}
 use Rattle.kf_cert.specs.declared.mark.CheckError.{CheckError}
 use Rattle.kf_cert.proofs.Numbering.{table_made, one_table, table_acts}

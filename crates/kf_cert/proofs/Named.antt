@@ -1,5 +1,5 @@
 -- A gain table with the texts of its values: it names values, and stands for the gain table itself.
-use Rattle.std.proofs.Common.{◌≡◌, ◌<◌, ◌+◌, ℕ, List, [], ◌∷◌, map, All, Contains, Bool, true, false, not, ◌&&◌, ◌||◌, Some, refl, sym, ap, ◌∙◌, subst, arith, ⊎_elim}
+use Rattle.std.proofs.Common.{◌≡◌, ◌<◌, ◌+◌, ℕ, List, [], ◌∷◌, map, All, Contains, Bool, true, false, not, ◌&&◌, ◌||◌, Some, refl, sym, ap, ◌∙◌, subst, arith}
 use Rattle.std.specs.Prelude.{bytes_eq}
 use Rattle.std.specs.List.{AllZip, list_any, list_all}
 use Rattle.std.specs.List.Sorted.{IsStrictlyIncreasing}
@@ -13,12 +13,13 @@ use Rattle.kf_gain.specs.declared.table.Action.{Action}
 use Rattle.kf_gain.specs.declared.table.GainEntry.{GainEntry}
 use Rattle.kf_gain.specs.Gains.{TableTree}
 use Rattle.kf_gain.specs.Tables.{is_value_text}
-use Rattle.kf_gain.proofs.Entries.{contains_cases, contains_first, contains_later, contains_none}
 use Rattle.kf_gain.proofs.TargetTexts.{target_count, text_known}
 use Rattle.kf_json.specs.Rules.{are_distinct}
 use Rattle.kf_cert.specs.declared.cert.CertAction.{CertAction}
 use Rattle.kf_cert.specs.declared.cert.CertEntry.{CertEntry}
-use Rattle.kf_cert.specs.Marks.{value_texts, NamesValues, Names, IsNumbered, StandsFor}
+use Rattle.kf_cert.specs.Marks.{value_texts, NamesValues, StandsFor}
+use Rattle.kf_cert.specs.Naming.{IsNumbered, NamesGain}
+use Rattle.kf_cert.proofs.Pairs.{from_map, named_by_entry, named_by_pair, to_map}
 use Rattle.kf_cert.specs.Views.{named_by}
 
 -- different values of a target have different texts
@@ -36,23 +37,6 @@ named_action target a = record { name = a.name; gains = map (named_entry target)
 pub record IsNamable (target : List Item) (a : Action) : Type 0 where
   pub values : All (λ e. e.value < target_size target) a.gains
   pub ascending : IsStrictlyIncreasing (map (λ e. e.value) a.gains)
-
--- a member of what a list is made into
-from_map : {X Y : Type 0} (f : X → Y) (xs : List X) (y : Y) → Contains (map f xs) y → (x : X) × Contains xs x × (f x ≡ y)
-from_map f [] y h = absurd (contains_none y h)
-from_map f (x ∷ xs) y h =
-    ⊎_elim
-    (λ (same : f x ≡ y). (x, contains_first x xs x refl, same))
-    (λ (later : Contains (map f xs) y). let r = from_map f xs y later in (r.0, contains_later x xs r.0 r.1, r.2))
-    (contains_cases (f x) (map f xs) y h)
-
-to_map : {X Y : Type 0} (f : X → Y) (xs : List X) (x : X) → Contains xs x → Contains (map f xs) (f x)
-to_map f [] x h = absurd (contains_none x h)
-to_map f (y ∷ xs) x h =
-    ⊎_elim
-    (λ (same : y ≡ x). contains_first (f y) (map f xs) (f x) (ap f same))
-    (λ (later : Contains xs x). contains_later (f y) (map f xs) (f x) (to_map f xs x later))
-    (contains_cases y xs x h)
 
 module _ (target : List Item) (apart : TextsApart target) where
   abbrev text : ℕ → List ℕ
@@ -101,13 +85,13 @@ module _ (target : List Item) (apart : TextsApart target) where
   -- ---- what it stands for
 
   module _ (a : Action) (is : IsNamable target a) where
-    names_there : (e : GainEntry) → Contains a.gains e → Names target (named_action target a) e
+    names_there : (e : GainEntry) → Contains a.gains e → NamesGain target (named_action target a) e
     names_there e here = (
       subst (λ (k : ℕ). e.value < k) (sym (target_count target)) (All-contains Below a.gains e is.values here),
       (named_entry target e, to_map (named_entry target) a.gains e here, refl, refl),
     )
 
-    names_back : (e : GainEntry) → Names target (named_action target a) e → Contains a.gains e
+    names_back : (e : GainEntry) → NamesGain target (named_action target a) e → Contains a.gains e
     names_back e (below, (g, here, shown, gain)) =
         let f = from_map (named_entry target) a.gains g here in
         same f.0 f.1 (ap (λ (g : CertEntry). g.value) f.2 ∙ shown) (ap (λ (g : CertEntry). g.gain) f.2 ∙ gain)
@@ -120,7 +104,14 @@ module _ (target : List Item) (apart : TextsApart target) where
             subst (λ (x : GainEntry). Contains a.gains x) whole there
 
     numbered : IsNumbered target (named_action target a) a
-    numbered = record { name = refl; ascending = is.ascending; gains = λ e. (names_there e, names_back e) }
+    numbered = record {
+      name = refl;
+      ascending = is.ascending;
+      gains = λ e. (
+        λ h. named_by_pair target (named_action target a) e (names_there e h),
+        λ h. names_back e (named_by_entry target (named_action target a) e h),
+      );
+    }
 
   all_numbered : (actions : List Action) → All (IsNamable target) actions → AllZip (IsNumbered target) (map (named_action target) actions) actions
   all_numbered [] all = tt

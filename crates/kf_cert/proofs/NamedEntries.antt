@@ -20,6 +20,7 @@ use Rattle.kf_value.specs.Numbers.{target_size}
 use Rattle.kf_value.specs.Targets.{Item, target_values, target_value_text}
 use Rattle.kf_cert.specs.declared.cert.CertAction.{CertAction}
 use Rattle.kf_cert.specs.declared.cert.CertEntry.{CertEntry}
+use Rattle.kf_cert.proofs.Pairs.{named_by_entry, named_by_pair}
 use Rattle.kf_cert.specs.Naming.{IsEntryOf, IsMade, NamesOnce, texts_of}
 use Rattle.kf_cert.proofs.Greatest.{greatest_moved}
 
@@ -126,8 +127,8 @@ action_made target named es sorted a all moved rises name gains once = record {
         (IsDistinct-IsPermutation eqb eqb-flips (map (λ e. e.value) es) (map (λ e. e.value) sorted) (IsPermutation-map (λ e. e.value) es sorted moved)
         (numbers_differ (target_value_text target) (map (λ e. e.value) es) (ap are_distinct (texts_zip target named.gains es all) ∙ once.1))));
     gains = λ e. (
-      λ h. entry_named target named.gains es all e (Contains-permutation sorted es e (IsPermutation-sym es sorted moved) (subst (λ (l : List GainEntry). Contains l e) gains h)),
-      λ h. subst (λ (l : List GainEntry). Contains l e) (sym gains) (Contains-permutation es sorted e moved (named_entry target named.gains es all e h)),
+      λ h. named_by_pair target named e (entry_named target named.gains es all e (Contains-permutation sorted es e (IsPermutation-sym es sorted moved) (subst (λ (l : List GainEntry). Contains l e) gains h))),
+      λ h. subst (λ (l : List GainEntry). Contains l e) (sym gains) (Contains-permutation es sorted e moved (named_entry target named.gains es all e (named_by_entry target named e h))),
     );
   };
   once = once;

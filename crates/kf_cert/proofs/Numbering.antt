@@ -16,7 +16,9 @@ use Rattle.kf_json.specs.Rules.{are_distinct}
 use Rattle.kf_cert.specs.Certificates.{NamedTable}
 use Rattle.kf_cert.specs.declared.cert.CertAction.{CertAction}
 use Rattle.kf_cert.specs.declared.cert.CertEntry.{CertEntry}
-use Rattle.kf_cert.specs.Marks.{value_texts, NamesValues, Names, IsNumbered, StandsFor}
+use Rattle.kf_cert.specs.Marks.{value_texts, NamesValues, StandsFor}
+use Rattle.kf_cert.specs.Naming.{IsNumbered, NamesGain}
+use Rattle.kf_cert.proofs.Pairs.{named_by_entry, named_by_pair}
 
 -- ---- the gain that an action names for a text
 
@@ -124,16 +126,23 @@ module _ (target : List Item) where
   action_made : (named : CertAction) → are_distinct (value_texts named) ≡ true → (a : Action) × IsNumbered target named a
   action_made named apart = by (found (seek named) 0 (length (target_values target)))
     where
-      there : (e : GainEntry) → Sought (seek named) 0 (length (target_values target)) e → Names target named e
+      there : (e : GainEntry) → Sought (seek named) 0 (length (target_values target)) e → NamesGain target named e
       there e (from, to, is) = (omega (arith, to), sought_named (target_value_text target e.value) e.gain named.gains is)
 
-      back : (e : GainEntry) → Names target named e → Sought (seek named) 0 (length (target_values target)) e
+      back : (e : GainEntry) → NamesGain target named e → Sought (seek named) 0 (length (target_values target)) e
       back e (to, has) = (omega arith, omega (arith, to), named_sought (target_value_text target e.value) e.gain named.gains apart has)
 
       by : Found (seek named) 0 (length (target_values target)) → (a : Action) × IsNumbered target named a
       by f = (
         record { name = named.name; gains = f.entries },
-        record { name = refl; ascending = increasing 0 (map (λ e. e.value) f.entries) f.rising; gains = λ e. (λ h. there e ((f.all e).0 h), λ h. (f.all e).1 (back e h)) },
+        record {
+          name = refl;
+          ascending = increasing 0 (map (λ e. e.value) f.entries) f.rising;
+          gains = λ e. (
+            λ h. named_by_pair target named e (there e ((f.all e).0 h)),
+            λ h. (f.all e).1 (back e (named_by_entry target named e h)),
+          );
+        },
       )
 
   abbrev IsKnown : CertAction → Type 0

@@ -39,8 +39,8 @@ use Rattle.kf_simplex.proofs.Signs.{product_monotone, cancel_le}
 use Rattle.kf_refine.specs.Equations.{cells_of}
 use Rattle.kf_refine.specs.Refinements.{HyperTree, Fraction, count}
 use Rattle.kf_cert.specs.Shapes.{IsWritable, IsWritableAction}
-use Rattle.kf_refine.specs.Verdicts.{VerdictTree, Yes, No, IsVerdict, Runs, IsMatrixOf, IsTableOf, IsActionOf, action_at}
-use Rattle.kf_refine.specs.Views.{IsProper}
+use Rattle.kf_refine.specs.Verdicts.{VerdictTree, Yes, No, IsVerdict, Runs, IsMatrixOf, IsTableOf, IsActionOf}
+use Rattle.kf_refine.specs.Views.{IsProper, action_at}
 use Rattle.kf_refine.proofs.Spreading.{pair_below}
 use Rattle.kf_refine.specs.Built.{multiplier}
 use Rattle.kf_cert.specs.Views.{IsLowest, IsPrintable, IsPrintableMatrix}

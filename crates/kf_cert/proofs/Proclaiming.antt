@@ -16,9 +16,9 @@ use Rattle.kf_cert.specs.declared.mark.Mark.{Mark}
 use Rattle.kf_cert.specs.declared.mark.Mark.TheVariants.{Accepted}
 use Rattle.kf_cert.specs.declared.mark.CheckError.{CheckError}
 use Rattle.kf_cert.specs.declared.mark.CheckError.TheVariants as error
-use Rattle.kf_cert.specs.Marks.{IsMarked, MarkedByRules, IsSeparating, NamesValues, width}
+use Rattle.kf_cert.specs.Marks.{IsMarked, MarkedByRules, NamesValues, width}
 use Rattle.kf_cert.specs.Views.{IsLowest, IsPrintable, read_back, named_by}
-use Rattle.kf_cert.specs.Laws.{ReadsBack}
+use Rattle.kf_cert.specs.Laws.{ReadsBack, IsSeparating}
 use Rattle.kf_cert.proofs.Accepting.{carrying_marked}
 use Rattle.kf_cert.proofs.Marking.{one_mark}
 use Rattle.kf_cert.proofs.Named.{TextsApart, names_values, stands_for_itself}

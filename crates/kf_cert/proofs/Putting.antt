@@ -9,7 +9,8 @@ use Rattle.serde_json.specs.declared.value.Value.TheVariants as json
 use Rattle.kf_value.specs.Targets.{Item}
 use Rattle.kf_gain.specs.Gains.{TableTree}
 use Rattle.kf_refine.specs.Refinements.{Fraction}
-use Rattle.kf_cert.specs.CertTexts.{items, named_of, entry_data, named_data, action_data, no_data}
+use Rattle.kf_cert.specs.CertTexts.{items, named_of, named_data, action_data}
+use Rattle.kf_cert.specs.Parts.{entry_data, no_data}
 use Rattle.kf_cert.specs.Order.{widest, rows_entries}
 
 module _ {E : Type 0} (text : Result (String Global) E) (bytes : List ℕ) (told : IfOk text (λ s. string_bytes s ≡ bytes)) where

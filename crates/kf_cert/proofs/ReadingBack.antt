@@ -17,8 +17,9 @@ use Rattle.kf_gain.specs.Gains.{TableTree}
 use Rattle.kf_cert.specs.Shapes.{IsWritable, IsWritableAction}
 use Rattle.kf_refine.specs.Verdicts.{VerdictTree}
 use Rattle.kf_refine.specs.Verdicts as verdict
-use Rattle.kf_cert.specs.Certificates.{CertTree, EntryTree, NamedTree, cert_in}
-use Rattle.kf_cert.specs.CertTexts.{items, entry_data, named_data, named_of, gain_data, action_data, no_data, cert_data, cert_text}
+use Rattle.kf_cert.specs.Certificates.{CertTree, EntryTree, NamedTree}
+use Rattle.kf_cert.specs.Parts.{cert_in, entry_data, gain_data, no_data}
+use Rattle.kf_cert.specs.CertTexts.{items, named_data, named_of, action_data, cert_data, cert_text}
 use Rattle.kf_cert.specs.Laws.{ReadsBack}
 use Rattle.kf_cert.specs.Views.{IsPrintable}
 use Rattle.kf_cert.specs.declared.cert.CertError.{CertError}

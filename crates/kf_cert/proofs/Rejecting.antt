@@ -8,9 +8,9 @@ use Rattle.kf_gain.specs.declared.table.Action.{Action}
 use Rattle.kf_gain.specs.Gains.{TableTree}
 use Rattle.kf_refine.specs.Refinements.{HyperTree, count, Fraction, IsShaped, CarriesWeights, Separates}
 use Rattle.kf_cert.specs.Certificates.{EntryTree, NamedTable, NamedTree, Yes, Named, No, matrix_of}
-use Rattle.kf_cert.specs.Marks.{IsMarked, MarkedByRules, IsInRange, SumToOne, StandsFor, denominator, over_one}
+use Rattle.kf_cert.specs.Marks.{IsMarked, MarkedByRules, IsInRange, StandsFor, denominator, over_one}
 use Rattle.kf_cert.specs.Naming.{IsMade, AreNarrow, BecomesFault}
-use Rattle.kf_cert.specs.Rows.{matrix_between}
+use Rattle.kf_cert.specs.Rows.{matrix_between, SumToOne}
 use Rattle.kf_cert.specs.Views.{IsLowest}
 use Rattle.kf_cert.specs.declared.mark.CheckError.{CheckError}
 use Rattle.kf_cert.specs.declared.mark.CheckError.TheVariants as error

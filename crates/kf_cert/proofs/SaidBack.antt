@@ -21,15 +21,16 @@ use Rattle.kf_cert.specs.Shapes.{IsWritable, IsWritableAction}
 use Rattle.kf_refine.specs.Verdicts.{VerdictTree}
 use Rattle.kf_refine.specs.Verdicts as verdict
 use Rattle.kf_cert.specs.Numbers.{whole_said}
-use Rattle.kf_cert.specs.Certificates.{CertTree, Named, No, EntryTree, NamedTable, NamedTree, is_size, is_entry, has_entries, has_numbers, has_actions, is_gain, is_named_action, is_narrow, is_narrow_fraction, is_narrow_whole, is_narrow_action, is_narrow_entry, are_narrow_entries, rules, size_said, entry_said, named_said, action_said, table_said, cert_said, cert_in}
-use Rattle.kf_cert.specs.CertTexts.{items, entry_data, named_data, named_of, gain_data, action_data, no_data, cert_data}
+use Rattle.kf_cert.specs.Certificates.{CertTree, Named, No, EntryTree, NamedTable, NamedTree, is_size, is_entry, has_entries, has_numbers, has_actions, is_gain, is_named_action, is_narrow, is_narrow_fraction, is_narrow_whole, is_narrow_entry, are_narrow_entries, rules, size_said, named_said, table_said, cert_said}
+use Rattle.kf_cert.specs.Parts.{entry_said, action_said, cert_in, entry_data, gain_data, no_data}
+use Rattle.kf_cert.specs.CertTexts.{items, named_data, named_of, action_data, cert_data}
 use Rattle.kf_cert.specs.Views.{IsLowest, IsPrintable, IsPrintableMatrix, named_by, read_back}
 use Rattle.kf_cert.specs.declared.cert.CertAction.{CertAction}
 use Rattle.kf_cert.specs.declared.cert.CertEntry.{CertEntry}
 use Rattle.kf_cert.specs.declared.cert.CertError.{CertError}
 use Rattle.kf_cert.proofs.Decimals.{whole_text, whole_is, no_minus, numerator_read, denominator_read, fraction_is_text, fraction_read}
 use Rattle.kf_cert.proofs.NamedRows.{IsGoodEntry, all_good, in_order}
-use Rattle.kf_cert.specs.Forms.{narrow}
+use Rattle.kf_cert.specs.Forms.{narrow, is_narrow_action}
 use Rattle.kf_cert.specs.Order.{is_in_order, widest}
 
 -- ---- lists

@@ -19,8 +19,8 @@ use Rattle.kf_column.proofs.AtMostOne.{In, Ordered, same_lists}
 use Rattle.kf_value.specs.Targets.{Item}
 use Rattle.kf_cert.specs.declared.cert.CertAction.{CertAction}
 use Rattle.kf_cert.specs.Certificates.{NamedTable}
-use Rattle.kf_cert.specs.Marks.{IsNumbered, StandsFor, NamesValues, width}
-use Rattle.kf_cert.specs.Naming.{IsMade, NamesOnce, table_width}
+use Rattle.kf_cert.specs.Marks.{StandsFor, NamesValues, width}
+use Rattle.kf_cert.specs.Naming.{IsMade, IsNumbered, NamesOnce, table_width}
 use Rattle.kf_cert.specs.Views.{IsSoundTable}
 use Rattle.kf_cert.proofs.Greatest.{greatest_made, all_within, bounded_all}
 

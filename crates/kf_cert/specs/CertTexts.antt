@@ -7,46 +7,31 @@ use Rattle.serde_json.specs.Written.{compact_text}
 use Rattle.kf_frac.specs.Fractions.{fraction_text}
 use Rattle.kf_value.specs.Targets.{Item, target_value_text}
 use Rattle.kf_gain.specs.declared.table.Action.{Action}
-use Rattle.kf_gain.specs.declared.table.GainEntry.{GainEntry}
-use Rattle.kf_gain.specs.Gains.{TableTree}
 use Rattle.kf_refine.specs.Refinements.{Fraction}
 use Rattle.kf_refine.specs.Verdicts.{VerdictTree, Yes, No}
 use Rattle.kf_cert.specs.Certificates.{EntryTree, NamedTree}
 use mathlib.Core.List.{foldr}
 
 abbrev pub items : List Data → Items
-items [] = no_items
-items (d ∷ ds) = item d (items ds)
+items ds = foldr item no_items ds
 
--- the text of a value, and that of its gain
-abbrev pub gain_data : List Item → GainEntry → Data
-gain_data target e = array (item (string (target_value_text target e.value)) (item (string (signed_decimal e.gain)) no_items))
-
+-- an action: each of its gains is the text of a value, and that of the gain
 abbrev pub action_data : List Item → Action → Data
 action_data target a =
-    object (member (codes "gains") (array (items (map (gain_data target) a.gains))) (member (codes "name") (string a.name) no_members))
+    let gains = map (λ e. array (item (string (target_value_text target e.value))
+    (item (string (signed_decimal e.gain)) no_items))) a.gains in
+    object (member (codes "gains") (array (items gains)) (member (codes "name") (string a.name) no_members))
 
--- a named entry: the texts of its row, its column and its value
-abbrev pub entry_data : EntryTree → Data
-entry_data e =
-    array (item (string (decimal e.row)) (item (string (decimal e.column))
-    (item (string (fraction_text e.value.num e.value.den)) no_items)))
-
+-- a matrix by its entries: each is the texts of its row, its column and its value
 abbrev pub named_data : NamedTree → Data
 named_data t =
+    let entries = map (λ e. array (item (string (decimal e.row)) (item (string (decimal e.column))
+    (item (string (fraction_text e.value.num e.value.den)) no_items)))) t.entries in
     object (member (codes "columns") (string (decimal t.columns))
-    (member (codes "entries") (array (items (map entry_data t.entries)))
+    (member (codes "entries") (array (items entries))
     (member (codes "format") (string (codes "kuifje-cert-2"))
     (member (codes "rows") (string (decimal t.rows))
     (member (codes "verdict") (string (codes "yes")) no_members)))))
-
-abbrev pub no_data : List Item → TableTree → Data
-no_data target t =
-    object (member (codes "actions") (array (items (map (action_data target) t.actions)))
-    (member (codes "format") (string (codes "kuifje-cert-2"))
-    (member (codes "over") (string (decimal t.over))
-    (member (codes "rest") (string (signed_decimal t.rest))
-    (member (codes "verdict") (string (codes "no")) no_members)))))
 
 -- ---- a matrix by its entries that aren't 0
 
@@ -67,7 +52,12 @@ named_of rows =
 -- the JSON value of a verdict on hypers of a target
 abbrev pub cert_data : List Item → VerdictTree → Data
 cert_data target (Yes rows) = named_data (named_of rows)
-cert_data target (No t) = no_data target t
+cert_data target (No t) =
+    object (member (codes "actions") (array (items (map (action_data target) t.actions)))
+    (member (codes "format") (string (codes "kuifje-cert-2"))
+    (member (codes "over") (string (decimal t.over))
+    (member (codes "rest") (string (signed_decimal t.rest))
+    (member (codes "verdict") (string (codes "no")) no_members)))))
 
 -- its text without spaces, and LF
 abbrev pub cert_text : List Item → VerdictTree → List ℕ

@@ -76,13 +76,11 @@ is_second_format d = is_the_text (codes "kuifje-cert-2") (at_key (codes "format"
 abbrev pub is_fraction : Data → Bool
 is_fraction d = is_text d && is_fraction_text (text_of d)
 
--- a list of such
-abbrev pub is_row : Data → Bool
-is_row d = is_list d && list_all is_fraction (members d)
-
--- a matrix row by row is a list of such lists
+-- a matrix row by row is a list of lists of such
 abbrev pub has_rows : Data → Bool
-has_rows d = is_list (at_key (codes "matrix") d) && list_all is_row (members (at_key (codes "matrix") d))
+has_rows d =
+    is_list (at_key (codes "matrix") d)
+    && list_all (λ row. is_list row && list_all is_fraction (members row)) (members (at_key (codes "matrix") d))
 
 -- a text that is a whole number: digits, maybe behind a `-`
 abbrev pub is_whole_number : Data → Bool
@@ -129,10 +127,6 @@ is_narrow_fraction d = is_narrow (numerator_said (text_of d)) && nat_le (denomin
 abbrev pub is_narrow_whole : Data → Bool
 is_narrow_whole d = is_narrow (whole_said (text_of d))
 
--- all gains of an action are
-abbrev pub is_narrow_action : Data → Bool
-is_narrow_action a = list_all (λ g. is_narrow_whole (at_place 1 g)) (members (gains_at a))
-
 -- all numbers of a matrix that stands row by row are
 abbrev pub is_narrow_matrix : Data → Bool
 is_narrow_matrix d = list_all (λ row. list_all is_narrow_fraction (members row)) (members (at_key (codes "matrix") d))
@@ -149,49 +143,41 @@ are_narrow_entries d =
 
 -- all numbers of a table are
 abbrev pub is_narrow_table : Data → Bool
-is_narrow_table d = is_narrow_whole (over_at d) && (is_narrow_whole (rest_at d) && list_all is_narrow_action (members (actions_at d)))
+is_narrow_table d =
+    is_narrow_whole (over_at d) && (is_narrow_whole (rest_at d)
+    && list_all (λ a. list_all (λ g. is_narrow_whole (at_place 1 g)) (members (gains_at a))) (members (actions_at d)))
 
 -- ---- what a certificate says
-
-abbrev pub row_said : Data → List Fraction
-row_said row = map (λ f. fraction_said (text_of f)) (members row)
 
 -- a whole number without a sign
 abbrev pub size_said : Data → ℕ
 size_said d = unsigned_abs (whole_said (text_of d))
 
-abbrev pub entry_said : Data → EntryTree
-entry_said e = record {
-  row = size_said (at_place 0 e);
-  column = size_said (at_place 1 e);
-  value = fraction_said (text_of (at_place 2 e));
-}
-
 abbrev pub named_said : Data → NamedTree
 named_said d = record {
   rows = size_said (at_key (codes "rows") d);
   columns = size_said (at_key (codes "columns") d);
-  entries = map entry_said (members (at_key (codes "entries") d));
-}
-
-abbrev pub action_said : Data → CertAction
-action_said a = record {
-  name = text_of (name_at a);
-  gains = map (λ g. record { value = text_of (at_place 0 g); gain = whole_said (text_of (at_place 1 g)) }) (members (gains_at a));
+  entries = map (λ e. record {
+    row = size_said (at_place 0 e);
+    column = size_said (at_place 1 e);
+    value = fraction_said (text_of (at_place 2 e));
+  }) (members (at_key (codes "entries") d));
 }
 
 abbrev pub table_said : Data → NamedTable
 table_said d = record {
-  over = unsigned_abs (whole_said (text_of (over_at d)));
+  over = size_said (over_at d);
   rest = whole_said (text_of (rest_at d));
-  actions = map action_said (members (actions_at d));
+  actions = map (λ a. record {
+    name = text_of (name_at a);
+    gains = map (λ g. record { value = text_of (at_place 0 g); gain = whole_said (text_of (at_place 1 g)) }) (members (gains_at a));
+  }) (members (actions_at d));
 }
 
-abbrev pub yes_said : Data → CertTree
-yes_said d = if has_entry_keys d then Named (named_said d) else Yes (map row_said (members (at_key (codes "matrix") d)))
-
 abbrev pub cert_said : Data → CertTree
-cert_said d = if says_yes d then yes_said d else No (table_said d)
+cert_said d =
+    let rows = map (λ row. map (λ f. fraction_said (text_of f)) (members row)) (members (at_key (codes "matrix") d)) in
+    if says_yes d then (if has_entry_keys d then Named (named_said d) else Yes rows) else No (table_said d)
 
 -- ---- the rules in their order
 
@@ -227,10 +213,9 @@ rules d =
     ∷ ((if says_yes d then (if has_entry_keys d then are_narrow_entries d else is_narrow_matrix d) else is_narrow_table d), broken.Wide)
     ∷ (names_in_order (cert_said d), broken.Form 7) ∷ []
 
--- the first rule that a JSON value breaks, or what it says
-abbrev pub cert_in : Data → Result CertTree CertError
-cert_in d = elim (first_broken (rules d) None) [ None ↦ Ok (cert_said d) | Some e ↦ Err e ]
-
--- the certificate that a file's bytes are
+-- the certificate that a file's bytes are: what their value says, or the first rule that it breaks
 abbrev pub cert_of : List ℕ → Result CertTree CertError
-cert_of bytes = elim (json_of bytes) [ None ↦ Err broken.Json | Some d ↦ cert_in d ]
+cert_of bytes = elim (json_of bytes) [
+  | None ↦ Err broken.Json
+  | Some d ↦ elim (first_broken (rules d) None) [ None ↦ Ok (cert_said d) | Some e ↦ Err e ]
+]

@@ -2,10 +2,10 @@
 use Rattle.std.specs.Prelude.{codes, Bool, ◌||◌, if◌then◌else◌, not, ◌&&◌, ℕ, List, bytes_eq}
 use Rattle.std.specs.List.{list_all}
 use Rattle.serde_json.specs.Data.{Data}
-use Rattle.kf_json.specs.Json.{at_key, is_the_text, members}
-use Rattle.kf_cert.specs.Certificates.{says_yes, has_entry_keys, is_first_format, is_second_format, has_rows, has_entries, has_numbers, has_actions, is_named_action, is_narrow_matrix, are_narrow_entries, is_narrow_table, has_matrix_keys, has_table_keys, has_yes_format}
+use Rattle.kf_json.specs.Json.{at_key, at_place, is_list, is_the_text, members}
+use Rattle.kf_cert.specs.Certificates.{is_fraction, is_narrow_whole, says_yes, has_entry_keys, is_first_format, is_second_format, has_rows, has_entries, has_numbers, has_actions, is_named_action, is_narrow_matrix, are_narrow_entries, is_narrow_table, has_matrix_keys, has_table_keys, has_yes_format}
 use Rattle.kf_cert.specs.Numbers.{is_numeral, past_sign}
-use Rattle.kf_gain.specs.Tables.{actions_at}
+use Rattle.kf_gain.specs.Tables.{actions_at, gains_at}
 
 abbrev pub verdict_at : Data → Data
 verdict_at d = at_key (codes "verdict") d
@@ -37,6 +37,10 @@ form_2 d = if says_yes d then has_matrix_keys d || has_entry_keys d else has_tab
 abbrev pub form_3 : Data → Bool
 form_3 d = if says_yes d then has_yes_format d else is_first_format d || is_second_format d
 
+-- a list of fractions
+abbrev pub is_row : Data → Bool
+is_row d = is_list d && list_all is_fraction (members d)
+
 -- the matrix stands in the way of its keys
 abbrev pub has_its_matrix : Data → Bool
 has_its_matrix d = if has_entry_keys d then has_entries d else has_rows d
@@ -52,6 +56,10 @@ form_5 d = says_yes d || (has_numbers d && has_actions d)
 -- Form 6: each action of a no is such
 abbrev pub form_6 : Data → Bool
 form_6 d = says_yes d || list_all is_named_action (members (actions_at d))
+
+-- all gains of an action are narrow
+abbrev pub is_narrow_action : Data → Bool
+is_narrow_action a = list_all (λ g. is_narrow_whole (at_place 1 g)) (members (gains_at a))
 
 -- all numbers of a yes are
 abbrev pub is_narrow_yes : Data → Bool

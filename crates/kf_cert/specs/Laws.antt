@@ -3,18 +3,23 @@ use Rattle.std.specs.Prelude.{◌≡◌, ◌⊎◌, ℕ, ◌*◌, ◌≤◌, All
 use Rattle.kf_frac.specs.Fractions.{limit}
 use Rattle.kf_value.specs.Sizes.{fault_of}
 use Rattle.kf_value.specs.Targets.{Item}
-use Rattle.kf_refine.specs.Refinements.{HyperTree, Fraction, count, IsShaped, Carries}
+use Rattle.kf_gain.specs.Gains.{TableTree}
+use Rattle.kf_refine.specs.Refinements.{HyperTree, Fraction, count, IsShaped, Carries, Separates}
 use Rattle.kf_refine.specs.Verdicts.{VerdictTree, IsVerdict}
 use Rattle.kf_refine.specs.Views.{IsProper}
 use Rattle.kf_cert.specs.Certificates.{CertTree, Yes, Named, No, NamedTable, NamedTree, cert_of, matrix_of}
 use Rattle.kf_cert.specs.CertTexts.{cert_text, named_of}
-use Rattle.kf_cert.specs.Marks.{IsMarked, IsSeparating, NamesValues, denominator, width}
+use Rattle.kf_cert.specs.Marks.{IsMarked, NamesValues, StandsFor, denominator, width}
 use Rattle.kf_cert.specs.Shapes.{IsWritable}
 use Rattle.kf_cert.specs.Views.{read_back, IsLowest, IsPrintable, IsSound}
 use Rattle.kf_cert.specs.declared.mark.Mark.{Mark}
 use Rattle.kf_cert.specs.declared.mark.Mark.TheVariants.{Accepted}
 use Rattle.kf_cert.specs.declared.mark.CheckError.{CheckError}
 use Rattle.kf_cert.specs.declared.mark.CheckError.TheVariants as error
+
+-- the table that a named table stands for separates the hypers
+abbrev pub IsSeparating : HyperTree → HyperTree → NamedTable → Type 0
+IsSeparating a b t = (table : TableTree) × StandsFor a.target t table × Separates table a b
 
 -- what a certificate proves: its matrix carries the one hyper to the other, or its table separates them
 abbrev pub Shows : HyperTree → HyperTree → CertTree → Type 0

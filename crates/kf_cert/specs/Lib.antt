@@ -10,6 +10,7 @@ pub mod Laws
 pub mod NamedGains
 pub mod Naming
 pub mod Order
+pub mod Parts
 pub mod Reading
 pub mod Rows
 pub mod Shapes

@@ -3,7 +3,9 @@ use Rattle.std.specs.Prelude.{◌≡◌, ℕ, ◌*◌, ◌/◌, ◌<◌, ◌==�
 use Rattle.kf_frac.specs.declared.frac.Frac.{Frac}
 use Rattle.kf_refine.specs.Refinements.{HyperTree, Fraction, count}
 use Rattle.kf_refine.specs.Views.{fraction_of}
+use Rattle.kf_simplex.specs.Base.{total}
 use Rattle.kf_cert.specs.Certificates.{EntryTree, NamedTree}
+use Rattle.kf_cert.specs.Marks.{denominator, over_one}
 use Rattle.kf_cert.specs.declared.matrix_rules.shares.Share.{Share}
 
 -- what contracts see of a row, and of rows
@@ -36,6 +38,10 @@ amount_of d f = unsigned_abs f.num * (d / f.den)
 -- an entry so
 abbrev pub share_of : ℕ → EntryTree → Share
 share_of d e = record { row = e.row; column = e.column; amount = amount_of d e.value }
+
+-- each row of a matrix sums to 1
+abbrev pub SumToOne : ℕ → ℕ → List (List Fraction) → Type 0
+SumToOne m n rows = (i : ℕ) → i < m → total n (over_one rows i) ≡ pos (denominator rows)
 
 -- what the shares of row i come to
 abbrev pub row_amount : List Share → ℕ → ℕ

@@ -113,7 +113,7 @@ fn is_fraction(found: Option<&Value>) -> bool
 
 /// Whether the value is a list of such.
 fn is_row(value: &Value) -> bool
-    ensures { result ≡ rule.is_row (view value.now) }
+    ensures { result ≡ single.is_row (view value.now) }
 {
     is_list(Some(value))
         && members(Some(value))

@@ -3,7 +3,8 @@
 ghost use Rattle.std.specs.Prelude.{◌≡◌, ◌≢◌, Ok, Err, IfOk, IfErr};
 ghost use Rattle.kf_cert.specs.declared.cert.CertError.TheVariants as broken;
 ghost use Rattle.serde_json.specs.View.{view};
-ghost use Rattle.kf_cert.specs.Certificates.{cert_in, cert_of};
+ghost use Rattle.kf_cert.specs.Certificates.{cert_of};
+ghost use Rattle.kf_cert.specs.Parts.{cert_in};
 ghost use Rattle.kf_cert.specs.Views.{cert_tree, IsSound};
 
 mod content;

@@ -15,6 +15,7 @@ use Rattle.kf_core.specs.Dxs.{DxTree}
 use Rattle.kf_core.specs.Views.{dx_tree}
 use Rattle.kf_check.specs.declared.errors.TypeError.{TypeError}
 use Rattle.kf_check.specs.declared.errors.TypeError.TheVariants as broken
+use Rattle.kf_check.specs.declared.variables.Declaration.{Declaration}
 use Rattle.kf_check.specs.declared.variables.Variable as code
 use Rattle.kf_check.specs.Types.{greatest_size, JudgesType}
 use Rattle.kf_check.specs.Kinds.{Known, AsksDist}
@@ -22,7 +23,7 @@ use Rattle.kf_check.specs.Sources.{Variable, types_of, known_of, Grows, JudgesDe
 use Rattle.kf_check.specs.Translation.{dx_of, decl_of, names_of}
 use Rattle.kf_check.specs.Picks.{names_in}
 use Rattle.kf_check.specs.Variables.{variable_of, IsKnown, IsUnknown}
-use Rattle.kf_check.specs.SourceAnswers.{AnswersGrowth}
+use Rattle.kf_check.specs.SourceAnswers.{AnswersGrowth, AnswersDecl}
 use Rattle.kf_check.proofs.Behind.{dx_behind}
 use Rattle.kf_check.proofs.Judging.{past}
 use Rattle.kf_check.proofs.Declared.{grown as extended, good_decl, names_of_known}
@@ -53,6 +54,10 @@ module _ (ts : List TypeTree) (t : TypeTree) (at variables stores : ℕ) (many :
       (t, (low, refl), (subst (λ s. s * count t ≤ 2 ^ 63) counted h.1, refl))
 
 -- ---- one declaration
+
+-- what is answered of a declaration behind some variables is answered behind the same ones
+pub answered_same : (vs ws : List code.Variable) (d : DeclTree) (r : Result Declaration TypeError) → vs ≡ ws → AnswersDecl (map variable_of vs) d r → AnswersDecl (map variable_of ws) d r
+answered_same vs ws d r same = subst (λ us. AnswersDecl (map variable_of us) d r) same
 
 module _ (vs : List Variable) (known : List Known) (agree : known ≡ known_of vs) (visible : Bool) (n : List ℕ) (at : ℕ) (y : TypeForm) (d : DistTree) where
   unknown_here : IsUnknown known n → IsUnknown (known_of vs) n

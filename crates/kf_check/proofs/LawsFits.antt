@@ -6,7 +6,7 @@ use Rattle.kf_ops.specs.declared.row.Pat.{Pat}
 use Rattle.kf_ops.specs.declared.row.Pat.TheVariants as pat
 use Rattle.kf_ops.specs.Rows.{Row, operators}
 use Rattle.kf_ops.specs.Places.{IsRow, pattern_kind}
-use Rattle.kf_check.specs.Kinds.{Fit}
+use Rattle.kf_check.specs.Picks.{Fit}
 use Rattle.kf_check.proofs.LawsChoices.{same_kind, same_list}
 
 -- whether the pattern's kind rests on that which `Any` stands for

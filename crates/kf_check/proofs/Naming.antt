@@ -1,5 +1,5 @@
 -- The entries of a map from names to what is known of them, as known variables.
-use Rattle.std.proofs.Common.{◌≡◌, ℕ, Bool, true, false, cond, List, [], ◌∷◌, ◌++◌, map, length, ◌<◌, arith, position, slice_get, get_or, None, Some, String, string_bytes, refl, sym, ap, ◌∙◌, true≢false}
+use Rattle.std.proofs.Common.{◌≡◌, ℕ, zero, suc, Bool, true, false, cond, List, [], ◌∷◌, ◌++◌, map, length, ◌<◌, arith, position, slice_get, get_or, None, Some, String, string_bytes, refl, sym, ap, ◌∙◌, true≢false}
 use Rattle.std.specs.Map.{keys_of, lookup}
 use Rattle.std.specs.Option.{option_map}
 use Rattle.std.specs.Str.{bytes_eq}
@@ -84,3 +84,12 @@ module _ {Z : Type 0} where
 
     pub flag_behind : map (λ e. e.1.visible) after ≡ map (λ e. e.1.visible) es ++ named.visible ∷ []
     flag_behind = ap (map (λ e. e.1.visible)) entries ∙ map-append (λ e. e.1.visible) es ((key, named) ∷ [])
+
+-- what is read of the list of flags
+pub flag_here : {A : Type 0} (f : A → Bool) (es : List A) (i : ℕ) (e : A) → slice_get es i ≡ Some e → f e ≡ get_or (map f es) i false
+flag_here f es i e there = sym (get_or_from_slice_get (map f es) i (f e) false (slice_get-map f es i ∙ ap (option_map f) there))
+
+pub no_flag : {A : Type 0} (f : A → Bool) (es : List A) (i : ℕ) → slice_get es i ≡ None → false ≡ get_or (map f es) i false
+no_flag f [] i past = refl
+no_flag f (e ∷ es) zero past = absurd (cc)
+no_flag f (e ∷ es) (suc i) past = no_flag f es i past

@@ -15,12 +15,12 @@ use Rattle.kf_check.specs.declared.errors.TypeError.{TypeError}
 use Rattle.kf_check.specs.declared.errors.TypeError.TheVariants as broken
 use Rattle.kf_check.specs.Judgements.{Judgement, Is, Picks, Where, After}
 use Rattle.kf_check.specs.Types.{greatest_size, Sized, JudgesType, JudgesTypeShape, JudgesTypes}
-use Rattle.kf_check.specs.Kinds.{Known, HasName, Fit, IsResult, IsCommon, IsPart, Judges, JudgesShape, JudgesAll, Asks, JudgesPair, JudgesCases, JudgesDistShape, JudgesDist, dist_place, AsksDist}
+use Rattle.kf_check.specs.Kinds.{Known, HasName, IsResult, IsCommon, IsPart, Judges, JudgesShape, JudgesAll, Asks, JudgesPair, JudgesCases, JudgesDist, dist_place, AsksDist}
 use Rattle.kf_check.specs.Statements.{JudgesStmt, JudgesStmtShape, JudgesStmts}
 use Rattle.kf_check.specs.Sources.{Variable, types_of, known_of, Grows, JudgesDecl, JudgesDecls, JudgesItem, JudgesItems, JudgesWhole, JudgesSource}
 use Rattle.kf_check.specs.Translation.{names_of}
 use Rattle.kf_check.specs.Laws.{OneJudgement}
-use Rattle.kf_check.specs.Picks.{names_in}
+use Rattle.kf_check.specs.Picks.{names_in, Fit}
 use Rattle.kf_check.proofs.Kinding.{Differ}
 use Rattle.kf_check.proofs.Declared.{none_differ, differ-declared, variables_differ, known_differ}
 use Rattle.kf_check.proofs.LawsFits.{gives_one}
@@ -148,7 +148,7 @@ module _ (known : List Known) (apart : Differ (names_in known)) where
   one_cases k [] = one_is k
   one_cases k (case_of x y ∷ cs) = one_after (JudgesPair known k x y) (λ _. JudgesCases known k cs) (one_pair k x y) (λ _ h. one_cases k cs)
 
-  one_drawn : (at : ℕ) (shape : DistShape) → HasOne (JudgesDistShape known at shape)
+  one_drawn : (at : ℕ) (shape : DistShape) → HasOne (JudgesDist known (dist_at at shape))
   one_drawn at (Sure x) = one_kind x
   one_drawn at (UniformSet x) =
       one_after (Judges known x) (λ j. Picks (λ k. j ≡ SetKind k) (broken.Clash (place x))) (one_kind x) (λ j h. one_picks (λ k. j ≡ SetKind k) (broken.Clash (place x)) (one_element j))

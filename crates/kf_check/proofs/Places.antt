@@ -14,7 +14,7 @@ use Rattle.kf_check.specs.declared.errors.TypeError.{TypeError}
 use Rattle.kf_check.specs.declared.errors.TypeError.TheVariants as broken
 use Rattle.kf_check.specs.Judgements.{Judgement, Is, Picks, Where, After}
 use Rattle.kf_check.specs.Types.{greatest_size, Sized, JudgesType, JudgesTypeShape, JudgesTypes}
-use Rattle.kf_check.specs.Kinds.{Known, HasName, IsResult, IsCommon, IsPart, Judges, JudgesShape, JudgesAll, Asks, JudgesPair, JudgesCases, JudgesDistShape, JudgesDist, dist_place, AsksDist}
+use Rattle.kf_check.specs.Kinds.{Known, HasName, IsResult, IsCommon, IsPart, Judges, JudgesShape, JudgesAll, Asks, JudgesPair, JudgesCases, JudgesDist, dist_place, AsksDist}
 use Rattle.kf_check.specs.Statements.{JudgesStmt, JudgesStmtShape, JudgesStmts}
 use Rattle.kf_check.specs.Sources.{Variable, types_of, known_of, Grows, JudgesDecl, JudgesDecls, JudgesItem, JudgesItems, JudgesWhole, JudgesSource}
 use Rattle.kf_check.specs.Laws.{BrokenIsTold}
@@ -120,7 +120,7 @@ module _ (known : List Known) where
   told_cases k [] = told_is k
   told_cases k (case_of x y ∷ cs) = told_after (JudgesPair known k x y) (λ _. JudgesCases known k cs) (told_pair k x y) (λ _. told_cases k cs)
 
-  told_dist_shape : (at : ℕ) (d : DistShape) → IsTold (JudgesDistShape known at d)
+  told_dist_shape : (at : ℕ) (d : DistShape) → IsTold (JudgesDist known (dist_at at d))
   told_dist_shape at (Sure x) = told_expr x
   told_dist_shape at (UniformSet x) =
       told_after (Judges known x) (λ j. Picks (λ k. j ≡ SetKind k) (broken.Clash (place x))) (told_expr x) (λ j. told_picks (λ k. j ≡ SetKind k) (broken.Clash (place x)) (clash (place x)))

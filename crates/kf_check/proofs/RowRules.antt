@@ -17,8 +17,8 @@ use Rattle.kf_ops.specs.Rows.{Row, operators}
 use Rattle.kf_ops.specs.Views.{row_of, rows_of}
 use Rattle.kf_ops.specs.Fitting.{Takes}
 use Rattle.kf_ops.specs.Places.{IsRow, pattern_kind}
-use Rattle.kf_check.specs.Kinds.{Fit, IsResult}
-use Rattle.kf_check.specs.Picks.{HasNoResult}
+use Rattle.kf_check.specs.Kinds.{IsResult}
+use Rattle.kf_check.specs.Picks.{HasNoResult, Fit}
 use Rattle.kf_check.proofs.Each.{mapped_read}
 use Rattle.kf_check.proofs.LawsFits.{all_at}
 use Rattle.kf_check.proofs.Nodes.{kind_tree-Bool, kind_tree-Int, kind_tree-Tuple, kind_tree-Set}
@@ -32,7 +32,7 @@ get_or_mapped f xs i d within = slice_get-map f xs i ∙ ap (option_map f) (slic
 
 -- ---- the kinds at one place
 
-other_pattern : (p : Pat) (any : KindTree) → (p ≡ pat.Bool → ⊥) → (p ≡ pat.Int → ⊥) → (p ≡ pat.SetOfAny → ⊥) → pattern_kind any p ≡ any
+pub other_pattern : (p : Pat) (any : KindTree) → (p ≡ pat.Bool → ⊥) → (p ≡ pat.Int → ⊥) → (p ≡ pat.SetOfAny → ⊥) → pattern_kind any p ≡ any
 other_pattern pat.Bool any no_truth no_whole no_set = absurd (no_truth refl)
 other_pattern pat.Int any no_truth no_whole no_set = absurd (no_whole refl)
 other_pattern pat.SetOfAny any no_truth no_whole no_set = absurd (no_set refl)

@@ -6,7 +6,7 @@ use Rattle.kf_ops.specs.Rows.{Row}
 use Rattle.kf_ops.specs.Places.{IsRow, pattern_kind}
 use Rattle.kf_ast.specs.Names.{name}
 use Rattle.kf_ast.specs.Exprs.{ExprTree, ExprShape, ExprTrees, expr_at, Number, Truth, Name, Apply, Tuple, SetOf, Part, no_exprs, more_exprs, place}
-use Rattle.kf_ast.specs.Dists.{CaseTree, case_of, DistTree, DistShape, dist_at, Sure, UniformSet, UniformRange, Choose, Flip}
+use Rattle.kf_ast.specs.Dists.{CaseTree, case_of, DistTree, dist_at, Sure, UniformSet, UniformRange, Choose, Flip}
 use Rattle.kf_check.specs.declared.errors.TypeError.TheVariants as broken
 use Rattle.kf_check.specs.Judgements.{Judgement, Is, Picks, Where, After}
 
@@ -19,13 +19,10 @@ pub record Known : Type 0 where
 abbrev pub HasName : List Known → List ℕ → KindTree → Type 0
 HasName known n k = (i : ℕ) × (slice_get known i ≡ Some (record { name = n; kind = k }))
 
--- the kinds are those of the row's patterns, where `Any` stands for this kind
-abbrev pub Fit : Row → KindTree → List KindTree → Type 0
-Fit r any ks = ks ≡ map (pattern_kind any) (take r.arity r.args)
-
--- the operator of this row gives this kind at arguments of these kinds
+-- the operator of this row gives this kind at arguments of these kinds, which are those of the row's patterns: `Any` stands for one kind
 abbrev pub IsResult : ℕ → List KindTree → KindTree → Type 0
-IsResult place ks k = (r : Row) × (any : KindTree) × IsRow place r × Fit r any ks × (k ≡ pattern_kind any r.result)
+IsResult place ks k =
+    (r : Row) × (any : KindTree) × IsRow place r × (ks ≡ map (pattern_kind any) (take r.arity r.args)) × (k ≡ pattern_kind any r.result)
 
 -- the first member has this kind, and the others have it too
 abbrev pub IsCommon : List KindTree → KindTree → Type 0
@@ -78,16 +75,13 @@ module _ (known : List Known) where
   JudgesCases k (case_of x y ∷ cs) = After (JudgesPair k x y) (λ _. JudgesCases k cs)
 
   -- the kind of a distribution's values; of those of a `choose` it is the first one's
-  abbrev pub JudgesDistShape : ℕ → DistShape → Judgement KindTree
-  JudgesDistShape at (Sure x) = Judges x
-  JudgesDistShape at (UniformSet x) = After (Judges x) (λ j. Picks (λ k. j ≡ SetKind k) (broken.Clash (place x)))
-  JudgesDistShape at (UniformRange x y) = JudgesPair WholeKind x y
-  JudgesDistShape at (Choose []) = λ r. ⊥
-  JudgesDistShape at (Choose (case_of x y ∷ cs)) = After (Judges x) (λ k. JudgesCases k (case_of x y ∷ cs))
-  JudgesDistShape at (Flip num den) = Where ((1 ≤ den) × (num ≤ den)) TruthKind (broken.BadFlip at)
-
   abbrev pub JudgesDist : DistTree → Judgement KindTree
-  JudgesDist (dist_at at shape) = JudgesDistShape at shape
+  JudgesDist (dist_at at (Sure x)) = Judges x
+  JudgesDist (dist_at at (UniformSet x)) = After (Judges x) (λ j. Picks (λ k. j ≡ SetKind k) (broken.Clash (place x)))
+  JudgesDist (dist_at at (UniformRange x y)) = JudgesPair WholeKind x y
+  JudgesDist (dist_at at (Choose [])) = λ r. ⊥
+  JudgesDist (dist_at at (Choose (case_of x y ∷ cs))) = After (Judges x) (λ k. JudgesCases k (case_of x y ∷ cs))
+  JudgesDist (dist_at at (Flip num den)) = Where ((1 ≤ den) × (num ≤ den)) TruthKind (broken.BadFlip at)
 
   -- a distribution whose values are to be of this kind
   abbrev pub AsksDist : KindTree → DistTree → Judgement KindTree

@@ -1,11 +1,15 @@
 -- For bodies: What is found among names and kinds, and what isn't.
-use Rattle.std.specs.Prelude.{◌≡◌, ℕ, List, map}
+use Rattle.std.specs.Prelude.{◌≡◌, ℕ, List, map, take}
 use Rattle.kf_value.specs.Kinds.{KindTree, SetKind}
 use Rattle.kf_ops.specs.Rows.{Row}
-use Rattle.kf_ops.specs.Places.{IsRow}
-use Rattle.kf_check.specs.Kinds.{Known, Fit, IsCommon, IsPart}
+use Rattle.kf_ops.specs.Places.{IsRow, pattern_kind}
+use Rattle.kf_check.specs.Kinds.{Known, IsCommon, IsPart}
 use Rattle.kf_check.specs.Translation.{place_of}
 use Rattle.kf_check.specs.Variables.{IsKnown}
+
+-- the kinds are those of the row's patterns, where `Any` stands for this kind
+abbrev pub Fit : Row → KindTree → List KindTree → Type 0
+Fit r any ks = ks ≡ map (pattern_kind any) (take r.arity r.args)
 
 abbrev pub names_in : List Known → List (List ℕ)
 names_in known = map (λ v. v.name) known

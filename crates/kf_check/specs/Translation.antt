@@ -8,12 +8,12 @@ use Rattle.kf_value.specs.Types.{TypeTree}
 use Rattle.kf_value.specs.Targets.{Item}
 use Rattle.kf_ast.specs.Names.{name}
 use Rattle.kf_ast.specs.Exprs.{ExprTree, ExprShape, ExprTrees, expr_at, Number, Truth, Name, Apply, Tuple, SetOf, Part, no_exprs, more_exprs}
-use Rattle.kf_ast.specs.Dists.{CaseTree, case_of, DistTree, DistShape, dist_at, Sure, UniformSet, UniformRange, Choose, Flip}
+use Rattle.kf_ast.specs.Dists.{CaseTree, case_of, DistTree, dist_at, Sure, UniformSet, UniformRange, Choose, Flip}
 use Rattle.kf_ast.specs.Stmts.{StmtTree, StmtShape, StmtTrees, stmt_at, Skip, Assign, Observe, If, While, no_stmts, more_stmts}
 use Rattle.kf_ast.specs.Sources.{DeclTree, declared, is_visible, ItemTree, item, SourceTree, source}
 use Rattle.kf_core.specs.Exs.{ExTree, ExTrees, no_exs, more_exs}
 use Rattle.kf_core.specs.Exs as ex
-use Rattle.kf_core.specs.Dxs.{DxCaseTree, DxShape, DxTree, dx_at}
+use Rattle.kf_core.specs.Dxs.{DxCaseTree, DxTree, dx_at}
 use Rattle.kf_core.specs.Dxs as dx
 use Rattle.kf_core.specs.Sts.{StTree, StTrees, no_sts, more_sts}
 use Rattle.kf_core.specs.Sts as st
@@ -47,15 +47,12 @@ module _ (names : List (List ℕ)) where
   abbrev pub dx_case_of : CaseTree → DxCaseTree
   dx_case_of (case_of x w) = dx.case_of (ex_of x) (ex_of w)
 
-  abbrev pub dx_of_shape : DistShape → DxShape
-  dx_of_shape (Sure x) = dx.Sure (ex_of x)
-  dx_of_shape (UniformSet x) = dx.UniformSet (ex_of x)
-  dx_of_shape (UniformRange x w) = dx.UniformRange (ex_of x) (ex_of w)
-  dx_of_shape (Choose cs) = dx.Choose (map dx_case_of cs)
-  dx_of_shape (Flip num den) = dx.Flip num den
-
   abbrev pub dx_of : DistTree → DxTree
-  dx_of (dist_at at shape) = dx_at at (dx_of_shape shape)
+  dx_of (dist_at at (Sure x)) = dx_at at (dx.Sure (ex_of x))
+  dx_of (dist_at at (UniformSet x)) = dx_at at (dx.UniformSet (ex_of x))
+  dx_of (dist_at at (UniformRange x w)) = dx_at at (dx.UniformRange (ex_of x) (ex_of w))
+  dx_of (dist_at at (Choose cs)) = dx_at at (dx.Choose (map dx_case_of cs))
+  dx_of (dist_at at (Flip num den)) = dx_at at (dx.Flip num den)
 
   abbrev pub decl_of : DeclTree → DxTree
   decl_of (declared visible n y d) = dx_of d

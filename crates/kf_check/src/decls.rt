@@ -12,6 +12,7 @@ ghost use Rattle.kf_check.specs.SourceAnswers.{AnswersDecl, AnswersDecls};
 
 use crate::TypeError;
 use crate::dists::asks_dist;
+use crate::errors::beside;
 use crate::kinds::kind_of;
 use crate::limits::grow;
 use crate::names::Names;
@@ -40,12 +41,14 @@ fn check_decl(
         return Err(TypeError::Twice { at });
     }
     let ty = ty(alloc, &decl.ty)?;
-    let stores = grow(variables.len(), stores, &ty, at)?;
-    let kind = kind_of(alloc, &ty)?;
-    let name = decl.name.text.copy(alloc)?;
-    let dist = asks_dist(alloc, names, &kind, &decl.dist)?;
+    let (stores, ty) = beside(grow(variables.len(), stores, &ty, at), ty)?;
+    let (kind, ty) = beside(kind_of(alloc, &ty), ty)?;
+    let (name, (ty, kind)) = beside(decl.name.text.copy(alloc), (ty, kind))?;
+    let variable = Variable { name, ty };
+    let dist = asks_dist(alloc, names, &kind, &decl.dist);
+    let (dist, (variable, kind)) = beside(dist, (variable, kind))?;
     Ok(Declaration {
-        variable: Variable { name, ty },
+        variable,
         kind,
         dist,
         stores,
@@ -100,8 +103,9 @@ fn declare(
         dist,
         stores,
     } = declaration;
-    declared.dists.push(dist)?;
-    declared.names.push(alloc, &variable.name, kind, visible)?;
+    let (_, (variable, kind)) = beside(declared.dists.push(dist), (variable, kind))?;
+    let named = declared.names.push(alloc, &variable.name, kind, visible);
+    let (_, variable) = beside(named, variable)?;
     declared.variables.push(variable)?;
     declared.stores = stores;
     Ok(())

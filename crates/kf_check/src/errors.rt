@@ -74,7 +74,7 @@ impl<T: Drop> From<AllocFailed<T>> for TypeError {
 
 /// What was found, beside what is held meanwhile, which is dropped where nothing was found. The call keeps proofs short: at a
 /// `?` each form of a value that is held is a case of its own.
-pub fn beside<A, B: Drop>(found: Result<A, TypeError>, held: B) -> Result<(A, B), TypeError>
+pub fn beside<A, B: Drop, E>(found: Result<A, E>, held: B) -> Result<(A, B), E>
     ensures ok { IfOk result (λ both. (found ≡ Ok both.0) × (both.1 ≡ held)) }
     ensures err { IfErr result (λ e. found ≡ Err e) }
 {

@@ -117,8 +117,8 @@ fn variable(alloc: Global, known: &Names, name: &Ident) -> Result<TypedEx, TypeE
 {
     match known.find(name.text.as_str()) {
         Some((place, kind)) => Ok(TypedEx {
-            ex: Ex::Slot(place),
             kind: kind.copy(alloc)?,
+            ex: Ex::Slot(place),
         }),
         None => Err(TypeError::Unknown { at: name.at }),
     }

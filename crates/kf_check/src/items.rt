@@ -9,6 +9,7 @@ ghost use Rattle.kf_check.specs.Variables.{variables_in, AreDeclared};
 ghost use Rattle.kf_check.specs.SourceAnswers.{AnswersItem, HasSame, Stands};
 
 use crate::TypeError;
+use crate::errors::beside;
 use crate::limits::grow;
 use crate::variables::{Declared, Variable};
 use kf_ast::Item;
@@ -92,7 +93,7 @@ pub fn check_item(
         });
     }
     let copy_slot = declared.variables.len() + copies;
-    let stores = grow(copy_slot, stores, &variable.ty, at)?;
+    let (stores, read) = beside(grow(copy_slot, stores, &variable.ty, at), read)?;
     Ok(ReadItem {
         item: read,
         slot: copy_slot as u8,

@@ -25,6 +25,7 @@ pub fn result_kind(alloc: Global, row: u8, kinds: &[Kind], at: u32) -> Result<Ki
     if fits(patterns, &any, kinds) {
         Ok(kind_of_pattern(alloc, row.result, any)?)
     } else {
+        drop(any);
         Err(TypeError::Clash { at })
     }
 }

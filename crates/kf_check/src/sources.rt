@@ -13,6 +13,7 @@ ghost use Rattle.kf_check.specs.Views.{known_in};
 
 use crate::TypeError;
 use crate::decls::check_decls;
+use crate::errors::beside;
 use crate::shapes::shape_of;
 use crate::stmts::check_stmts;
 use crate::targets::{Targeted, check_target};
@@ -39,7 +40,8 @@ pub fn check(alloc: Global, src: &Source) -> Result<Program, TypeError>
     ensures broken { IfErr result (λ e. e ≢ TypeError.Mem → IsBroken (source_tree src.now) e) }
 {
     let head = check_head(alloc, src)?;
-    let body = check_stmts(alloc, &head.declared.names, src.body.as_slice())?;
+    let body = check_stmts(alloc, &head.declared.names, src.body.as_slice());
+    let (body, head) = beside(body, head)?;
     let Head {
         declared,
         targeted,
@@ -70,8 +72,10 @@ fn check_head(alloc: Global, src: &Source) -> Result<Head, TypeError>
         return Err(TypeError::NoVariable { at: 0 });
     }
     let declared = check_decls(alloc, decls)?;
-    let targeted = check_target(alloc, &declared, src.target.as_slice())?;
-    let shape = shape_of(alloc, &declared.variables, targeted.copies.as_slice())?;
+    let targeted = check_target(alloc, &declared, src.target.as_slice());
+    let (targeted, declared) = beside(targeted, declared)?;
+    let shape = shape_of(alloc, &declared.variables, targeted.copies.as_slice());
+    let (shape, (declared, targeted)) = beside(shape, (declared, targeted))?;
     Ok(Head {
         declared,
         targeted,

@@ -11,10 +11,10 @@ use Rattle.std.proofs.lemmas.Cmp.{ranked}
 use Rattle.kf_value.proofs.ListLemmas.{each_weaker}
 use Rattle.kf_core.specs.Results.{then_ok}
 use Rattle.kf_core.specs.Runs.{Halted}
-use Rattle.kf_core.specs.Support.{StoreSet, Passed, ascending}
+use Rattle.kf_core.specs.Support.{StoreSet, Passed}
 use Rattle.kf_core.specs.SupportLaws.{LeastStoreFaults}
 use Rattle.kf_core.proofs.PassTells.{Lists, order_holds}
-use Rattle.kf_core.specs.Each.{each_pass}
+use Rattle.kf_core.specs.Each.{each_pass, ascending}
 
 -- ---- the stores of a set in order
 

@@ -1,5 +1,5 @@
 -- That a pass follows runs: it tells how those from the stores of its set end.
-use Rattle.std.proofs.Common.{◌≡◌, ℕ, zero, suc, List, [], ◌∷◌, map, Option, Some, None, Ok, Err, ◌⊎◌, inl, inr, refl, sym, ap, subst, ◌∙◌, ◌↔◌, Bool, true, false, true≢false, ◌&&◌}
+use Rattle.std.proofs.Common.{◌≡◌, ℕ, zero, suc, List, [], ◌∷◌, Option, Some, None, Ok, Err, ◌⊎◌, inl, inr, refl, sym, ap, subst, ◌∙◌, ◌↔◌, Bool, true, false, true≢false, ◌&&◌}
 use Rattle.std.specs.Prelude.{is_ok, IsTrue}
 use Rattle.std.specs.FinSet.{contains, contains-retain}
 use Rattle.std.specs.FinMap.{nat_cmp-IsAntisymmetric}
@@ -8,13 +8,13 @@ use Rattle.kf_value.specs.Values.{ValueTree}
 use Rattle.kf_core.specs.Dxs.{DxTree}
 use Rattle.kf_core.specs.Choices.{Weighted}
 use Rattle.kf_core.specs.Runs.{Run, Halted, Tried, LoopBound, tried, place, replaced, stay, stopped, chain, assigned, branched, guarded, looped}
-use Rattle.kf_core.specs.Results.{then_ok}
-use Rattle.kf_core.specs.Support.{StoreSet, Passed, step, same, each_moved, assign_pass, can_be, where_guard, either_pass, guard_pass, bounded, loop_pass}
+use Rattle.kf_core.specs.Results.{then_ok, each_ok}
+use Rattle.kf_core.specs.Support.{StoreSet, Passed, step, same, assign_pass, can_be, where_guard, either_pass, guard_pass, bounded, loop_pass}
 use Rattle.kf_core.proofs.Among.{Among, among_weaker, among_map, among_mapped, among_image}
 use Rattle.kf_core.proofs.RunEnds.{End, HasEnd, Then, Picked, Side, on_true, on_false, on_fault, side, side_of, chain_ends, ends_chain, branched_ends, ends_branched, picks_true, picks_false}
-use Rattle.kf_core.proofs.PassTells.{Tells, From, Lists, Holds, tells_same, then_tells, either_tells, step_tells}
-use Rattle.kf_core.specs.Each.{moved}
-use Rattle.kf_core.specs.Leaks.{silent, shown}
+use Rattle.kf_core.proofs.PassTells.{Tells, From, Lists, Holds, tells_same, then_tells, either_tells, each_tells, step_tells}
+use Rattle.kf_core.specs.Each.{moved, moved_pass}
+use Rattle.kf_core.specs.Leaks.{shown}
 
 abbrev pub Follows : (StoreSet → Passed StoreSet) → (ℕ → List Run) → Type 0
 Follows passed from = (ns : StoreSet) → Tells Holds (passed ns) (From Holds ns (λ n. HasEnd (from n)))
@@ -99,46 +99,25 @@ same_tells n (Err f) = refl
 pub observe_follows : (choose : ℕ → Tried) → Follows (step (λ n. same n (choose n))) (λ n. branched shown n (λ v. stay n) (choose n))
 observe_follows choose = choice_follows shown (λ n v. stay n) choose (λ n. same n (choose n)) (λ n. same_tells n (choose n))
 
--- where the options lead
-abbrev Moves : ℕ → List (Option ℕ) → End → Type 0
-Moves at ms e = Among (λ x. HasEnd (moved at x) e) ms
+module _ (m n : ℕ) where
+  there : Lists (m ∷ []) n → HasEnd (stay m) (Ok n)
+  there (inl same) = stay_ends m n same
+  there (inr h) = absurd h
 
-module _ (m : ℕ) (T : End → Type 0) where
-  head_halts : (ms : List ℕ) → Tells Lists (Ok ms) T → (f : Halted) → HasEnd (stay m) (Err f) ⊎ T (Err f) → ⊥
-  head_halts ms h f (inl s) = never_halts m f s
-  head_halts ms h f (inr t) = h.0 f t
-
-  head_to : (ms : List ℕ) → Tells Lists (Ok ms) T → (n : ℕ) → Lists (m ∷ ms) n → HasEnd (stay m) (Ok n) ⊎ T (Ok n)
-  head_to ms h n (inl same) = inl (stay_ends m n same)
-  head_to ms h n (inr c) = inr ((h.1 n).0 c)
-
-  head_back : (ms : List ℕ) → Tells Lists (Ok ms) T → (n : ℕ) → HasEnd (stay m) (Ok n) ⊎ T (Ok n) → Lists (m ∷ ms) n
-  head_back ms h n (inl s) = inl (same_end m n s)
-  head_back ms h n (inr t) = inr ((h.1 n).1 t)
-
-  head_tells : (p : Passed (List ℕ)) → Tells Lists p T → Tells Lists (then_ok p (λ others. Ok (m ∷ others))) (λ e. HasEnd (stay m) e ⊎ T e)
-  head_tells (Ok ms) h = (head_halts ms h, λ n. (head_to ms h n, head_back ms h n))
-  head_tells (Err f) h = inr h
-
-moves_tell : (at : ℕ) (ms : List (Option ℕ)) → Tells Lists (each_moved at ms) (Moves at ms)
-moves_tell at [] = (λ f h. h, λ m. (λ h. h, λ h. h))
-moves_tell at (None ∷ ms) = inl (inl refl)
-moves_tell at (Some m ∷ ms) = head_tells m (Moves at ms) (each_moved at ms) (moves_tell at ms)
+move_tells : (at : ℕ) (found : Option ℕ) → Tells Lists (moved_pass at found) (HasEnd (moved at found))
+move_tells at None = inl refl
+move_tells at (Some m) = (never_halts m, λ n. (there m n, λ h. inl (same_end m n h)))
 
 assign_tells : (at : ℕ) (go : ValueTree → Option ℕ) (g : Tried)
-    → Tells Lists (then_ok g (λ ws. each_moved at (map (λ w. go w.value) ws))) (Picked (λ v. HasEnd (moved at (go v))) g)
+    → Tells Lists (then_ok g (each_ok (λ w. moved_pass at (go w.value)))) (Picked (λ v. HasEnd (moved at (go v))) g)
 assign_tells at go (Ok ws) =
-    tells_same Lists (Moves at (map (λ w. go w.value) ws)) (λ e. Among (λ w. HasEnd (moved at (go w.value)) e) ws)
-    (λ e. among_map (λ x. HasEnd (moved at x) e) (λ (w : Weighted). go w.value) ws)
-    (λ e. among_mapped (λ x. HasEnd (moved at x) e) (λ (w : Weighted). go w.value) ws)
-    (each_moved at (map (λ w. go w.value) ws))
-    (moves_tell at (map (λ w. go w.value) ws))
+    each_tells (λ (w : Weighted). moved_pass at (go w.value)) (λ w. HasEnd (moved at (go w.value))) (λ w. move_tells at (go w.value)) ws
 assign_tells at go (Err f) = refl
 
 pub assign_follows : (leak : ValueTree → List ValueTree) (ts : List TypeTree) (i : ℕ) (d : DxTree) → Follows (assign_pass ts i d) (assigned leak ts i d)
 assign_follows leak ts i d =
     choice_follows leak (λ n v. moved (place d) (replaced ts i v n)) (tried ts d)
-    (λ n. then_ok (tried ts d n) (λ ws. each_moved (place d) (map (λ w. replaced ts i w.value n) ws)))
+    (λ n. then_ok (tried ts d n) (each_ok (λ w. moved_pass (place d) (replaced ts i w.value n))))
     (λ n. assign_tells (place d) (λ v. replaced ts i v n) (tried ts d n))
 
 -- ---- guards

@@ -9,11 +9,11 @@ use Rattle.std.specs.Cmp.{unsigned_tied}
 use Rattle.std.specs.FinSet.{contains, from_list, items, union, contains-from_list_nat, contains-items, contains-union}
 use Rattle.std.proofs.lemmas.Cmp.{nat_cmp_total, ranked}
 use Rattle.kf_core.specs.Runs.{Halted}
-use Rattle.kf_core.specs.Results.{then_ok}
-use Rattle.kf_core.specs.Support.{StoreSet, Passed, ascending, step, either_pass}
+use Rattle.kf_core.specs.Results.{then_ok, each_ok}
+use Rattle.kf_core.specs.Support.{StoreSet, Passed, step, either_pass}
 use Rattle.kf_core.proofs.Among.{Among, among_weaker, among_left, among_right, among_either, among_image, among_of_image, among_map, among_mapped}
 use Rattle.kf_core.proofs.RunEnds.{End, Goes, Then, among_from_test, test_from_among}
-use Rattle.kf_core.specs.Each.{each_pass}
+use Rattle.kf_core.specs.Each.{each_pass, ascending}
 
 -- its fault is an end; and where it has none, nothing ends in a fault, and what it reaches is where something ends
 abbrev pub Tells : {A : Type 0} → (A → ℕ → Type 0) → Passed A → (End → Type 0) → Type 0
@@ -171,11 +171,12 @@ either_tells = both_tell Holds union holds_union
 
 -- ---- a step from each store
 
-module _ (next : ℕ → Passed (List ℕ)) (T : ℕ → End → Type 0) (tells : (n : ℕ) → Tells Lists (next n) (T n)) where
-  each_tells : (ns : List ℕ) → Tells Lists (each_pass next ns) (λ e. Among (λ n. T n e) ns)
+module _ {A : Type 0} (next : A → Passed (List ℕ)) (T : A → End → Type 0) (tells : (x : A) → Tells Lists (next x) (T x)) where
+  pub each_tells : (xs : List A) → Tells Lists (each_ok next xs) (λ e. Among (λ x. T x e) xs)
   each_tells [] = (λ f h. h, λ m. (λ h. h, λ h. h))
-  each_tells (n ∷ ns) = both_tell Lists (λ ms others. ms ++ others) lists_joined (T n) (λ e. Among (λ k. T k e) ns) (next n) (each_pass next ns) (tells n) (each_tells ns)
+  each_tells (x ∷ xs) = both_tell Lists (λ ms others. ms ++ others) lists_joined (T x) (λ e. Among (λ y. T y e) xs) (next x) (each_ok next xs) (tells x) (each_tells xs)
 
+module _ (next : ℕ → Passed (List ℕ)) (T : ℕ → End → Type 0) (tells : (n : ℕ) → Tells Lists (next n) (T n)) where
   from_items : (ns : StoreSet) (e : End) → Among (λ n. T n e) (ascending (items ns)) → From Holds ns T e
   from_items ns e h = let r = among_image (λ n. T n e) (λ (n : ℕ). n) (ascending (items ns)) h in (r.0, (order_holds ns r.0).1 r.1, r.2)
 
@@ -185,7 +186,7 @@ module _ (next : ℕ → Passed (List ℕ)) (T : ℕ → End → Type 0) (tells 
   pub step_tells : (ns : StoreSet) → Tells Holds (step next ns) (From Holds ns T)
   step_tells ns =
       turned_tells Lists Holds from_list holds_listed (From Holds ns T) (each_pass next (ascending (items ns)))
-      (tells_same Lists (λ e. Among (λ n. T n e) (ascending (items ns))) (From Holds ns T) (from_items ns) (items_from ns) (each_pass next (ascending (items ns))) (each_tells (ascending (items ns))))
+      (tells_same Lists (λ e. Among (λ n. T n e) (ascending (items ns))) (From Holds ns T) (from_items ns) (items_from ns) (each_pass next (ascending (items ns))) (each_tells next T tells (ascending (items ns))))
 
 -- ---- from one store, and from the stores that others lead to
 

@@ -1,6 +1,8 @@
 -- For bodies: runs, choices and passes step by step, by the names of the functions that take the steps.
 use Rattle.std.specs.Prelude.{false, List, Option, Ok, ℕ, Result, map, ◌<◌, [], ◌∷◌, Err, Bool, ◌&&◌, ◌==◌}
 use Rattle.std.specs.Option.{option_map_or}
+use Rattle.std.specs.Ordering.{nat_cmp}
+use Rattle.std.specs.BTreeSet.{insert_key}
 use Rattle.std.specs.Result.{result_map_both}
 use Rattle.std.specs.Cmp.Lexicographic.{pointwise}
 use Rattle.kf_value.specs.Values.{Truth, ValueTree, is_equal}
@@ -14,6 +16,7 @@ use Rattle.kf_core.specs.Support.{Passed}
 use Rattle.kf_core.specs.Joint.{Cell, trace_weight}
 use Rattle.kf_core.specs.Exs.{ExTree, ExTrees, no_exs, more_exs}
 use Rattle.kf_frac.specs.Divisors.{common_multiple}
+use mathlib.Core.List.{foldr}
 
 abbrev pub at_row : Option Op → List Evaluated → Evaluated
 at_row found es = option_map_or (λ code. operated code es) found (Ok (Truth false))
@@ -31,6 +34,18 @@ moved at found = option_map_or stay found (stopped OutOfRange at)
 -- all that is reached from stores in turn, or the fault of the first that has one
 abbrev pub each_pass : (ℕ → Passed (List ℕ)) → List ℕ → Passed (List ℕ)
 each_pass next ns = each_ok next ns
+
+-- the numbers of a list, each once and ascending
+abbrev pub ascending : List ℕ → List ℕ
+ascending ns = foldr (λ n others. insert_key nat_cmp others n) [] ns
+
+-- where a choice leads: out of range is a fault
+abbrev pub moved_pass : ℕ → Option ℕ → Passed (List ℕ)
+moved_pass at found = option_map_or (λ n. Ok (n ∷ [])) found (Err (record { cause = OutOfRange; at = at }))
+
+-- where each choice leads
+abbrev pub each_moved : ℕ → List (Option ℕ) → Passed (List ℕ)
+each_moved at ms = each_ok (moved_pass at) ms
 
 -- the least common multiple of the runs' scales
 abbrev pub common_scale : List Run → ℕ

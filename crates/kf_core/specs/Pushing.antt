@@ -8,17 +8,14 @@ use Rattle.kf_core.specs.Sts.{sts}
 use Rattle.kf_core.specs.Programs.{ProgramTree}
 use Rattle.kf_core.specs.Runs.{Run, all_runs, declared, copied}
 use Rattle.kf_core.specs.Scale.{scale_of}
-use Rattle.kf_core.specs.Joint.{Cell, cells}
+use Rattle.kf_core.specs.Joint.{cells}
 use Rattle.kf_core.specs.Rows.{AreRowsOf}
 
--- the cells of a column when each of its stores goes along its runs: each run takes its share of the store's weight to its end
-abbrev pub carried_cells : (ℕ → List Run) → List Entry → List Cell
-carried_cells from column = flat_map (λ e. cells (λ n. n) e.weight (from e.value)) column
-
--- one column for each column before and each trace that runs from its stores leak (Gibbons et al. 2020, a hyper through a statement)
+-- one column for each column before and each trace that runs from its stores leak (Gibbons et al. 2020, a hyper through a statement): each
+-- run from a store takes its share of the store's weight to its end
 pub record AreBehind (from : ℕ → List Run) (before behind : List (List Entry)) : Type 0 where
   pub rows : List (List Row)
-  pub each : AllZip (λ column there. AreRowsOf (carried_cells from column) there) before rows
+  pub each : AllZip (λ column there. AreRowsOf (flat_map (λ e. cells (λ n. n) e.weight (from e.value)) column) there) before rows
   pub is : behind ≡ map (λ r. r.column) (flat_map (λ there. there) rows)
 
 -- so many beliefs stand behind the runs: classes of proportional columns of whole stores

@@ -10,7 +10,7 @@ use Rattle.kf_core.specs.Sts.{StTree, sts}
 use Rattle.kf_core.specs.Programs.{ProgramTree}
 use Rattle.kf_core.specs.Runs.{Run, all_runs, declared, copied}
 use Rattle.kf_core.specs.Scale.{scale_of}
-use Rattle.kf_core.specs.Joint.{cells, weight_of}
+use Rattle.kf_core.specs.Joint.{Cell, cells, weight_of}
 use Rattle.kf_core.specs.Support.{all_pass}
 use Rattle.kf_core.specs.Pushing.{AreBehind}
 
@@ -18,6 +18,10 @@ use Rattle.kf_core.specs.Pushing.{AreBehind}
 pub record IsStart (turns : ℕ) (p : ProgramTree) (column : List Entry) : Type 0 where
   pub is_column : IsColumn column
   pub weights : (n : ℕ) → weight_at column n ≡ weight_of (cells (copied p) (scale_of turns p) (declared p.types 0 p.decls 0)) [] n
+
+-- the cells of a column when each of its stores goes along its runs: each run takes its share of the store's weight to its end
+abbrev pub carried_cells : (ℕ → List Run) → List Entry → List Cell
+carried_cells from column = flat_map (λ e. cells (λ n. n) e.weight (from e.value)) column
 
 -- each run's scale divides the weight of the store from which it runs
 abbrev pub DivideAlong : (ℕ → List Run) → List (List Entry) → Type 0

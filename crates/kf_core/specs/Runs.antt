@@ -97,18 +97,20 @@ abbrev pub looped : ℕ → (ℕ → Tried) → ℕ → (ℕ → List Run) → �
 looped zero guard at body = guarded guard (λ n. stopped LoopBound at) stay
 looped (suc k) guard at body = guarded guard (λ n. chain (body n) (looped k guard at body)) stay
 
--- the runs of a statement, and of a block, from a store, where each loop has at most so many turns
-abbrev mutual
-  pub runs : List TypeTree → ℕ → StTree → ℕ → List Run
-  runs ts turns Skip n = stay n
-  runs ts turns (Assign i d visible) n = assigned (leaks visible) ts i d n
-  runs ts turns (Observe d) n = branched (leaks true) n (λ v. stay n) (tried ts d n)
-  runs ts turns (If d xs ys) n = guarded (tried ts d) (all_runs ts turns xs) (all_runs ts turns ys) n
-  runs ts turns (While d xs) n = looped turns (tried ts d) (place d) (all_runs ts turns xs) n
+-- where the variables have these types, and each loop has at most so many turns
+module _ (ts : List TypeTree) (turns : ℕ) where
+  -- the runs of a statement, and of a block, from a store
+  abbrev mutual
+    pub runs : StTree → ℕ → List Run
+    runs Skip n = stay n
+    runs (Assign i d visible) n = assigned (leaks visible) ts i d n
+    runs (Observe d) n = branched (leaks true) n (λ v. stay n) (tried ts d n)
+    runs (If d xs ys) n = guarded (tried ts d) (all_runs xs) (all_runs ys) n
+    runs (While d xs) n = looped turns (tried ts d) (place d) (all_runs xs) n
 
-  pub all_runs : List TypeTree → ℕ → StTrees → ℕ → List Run
-  all_runs ts turns no_sts n = stay n
-  all_runs ts turns (more_sts x xs) n = chain (runs ts turns x n) (all_runs ts turns xs)
+    pub all_runs : StTrees → ℕ → List Run
+    all_runs no_sts n = stay n
+    all_runs (more_sts x xs) n = chain (runs x n) (all_runs xs)
 
 -- declarations from variable i on, each an assignment that leaks nothing, whether or not the variable is visible
 abbrev pub declared : List TypeTree → ℕ → List DxTree → ℕ → List Run

@@ -1,9 +1,10 @@
 -- Believed: the support pass: which stores are reached, statement by statement, or the first fault.
-use Rattle.std.specs.Prelude.{ℕ, suc, zero, Bool, true, false, not, List, [], ◌∷◌, map, Option, None, Some, Result, Ok, Err}
+use Rattle.std.specs.Prelude.{ℕ, suc, zero, Bool, true, false, not, List, [], ◌∷◌, map, Result, Ok, Err}
 use Rattle.std.specs.List.{list_any}
 use Rattle.std.specs.Ordering.{nat_cmp}
 use Rattle.std.specs.BTreeSet.{insert_key}
 use Rattle.std.specs.FinSet.{FinSet, from_list, items, retain, union}
+use Rattle.std.specs.Option.{option_map_or}
 use Rattle.std.specs.Result.{result_map_both}
 use Rattle.kf_value.specs.Types.{TypeTree}
 use Rattle.kf_value.specs.Values.{truth}
@@ -21,27 +22,18 @@ StoreSet = FinSet nat_cmp
 abbrev pub Passed : Type 0 → Type 0
 Passed A = Result A Halted
 
--- the numbers of a list, each once and ascending
-abbrev pub ascending : List ℕ → List ℕ
-ascending ns = foldr (λ n others. insert_key nat_cmp others n) [] ns
-
--- the stores of a set are tried in ascending number
+-- the stores of a set are tried in ascending number, each once
 abbrev pub step : (ℕ → Passed (List ℕ)) → StoreSet → Passed StoreSet
-step next ns = then_ok (each_ok next (ascending (items ns))) (λ ms. Ok (from_list ms))
+step next ns = then_ok (each_ok next (foldr (λ n others. insert_key nat_cmp others n) [] (items ns))) (λ ms. Ok (from_list ms))
 
 -- the store itself, once for each choice
 abbrev pub same : ℕ → Tried → Passed (List ℕ)
 same n chosen = result_map_both (λ ws. map (λ w. n) ws) (λ f. f) chosen
 
--- where each choice leads: out of range is a fault behind those of the choices
-abbrev pub each_moved : ℕ → List (Option ℕ) → Passed (List ℕ)
-each_moved at [] = Ok []
-each_moved at (None ∷ ms) = Err (record { cause = OutOfRange; at = at })
-each_moved at (Some m ∷ ms) = then_ok (each_moved at ms) (λ others. Ok (m ∷ others))
-
+-- each choice leads to the store that it makes: out of range is a fault behind those of the choices
 abbrev pub assign_pass : List TypeTree → ℕ → DxTree → StoreSet → Passed StoreSet
-assign_pass ts i d ns =
-    step (λ n. then_ok (tried ts d n) (λ ws. each_moved (place d) (map (λ w. replaced ts i w.value n) ws))) ns
+assign_pass ts i d ns = step (λ n. then_ok (tried ts d n) (each_ok (λ w.
+    option_map_or (λ m. Ok (m ∷ [])) (replaced ts i w.value n) (Err (record { cause = OutOfRange; at = place d }))))) ns
 
 -- a guard in a store can be true, or false
 abbrev pub can_be : Bool → Tried → Bool
@@ -70,18 +62,20 @@ abbrev pub loop_pass : ℕ → (ℕ → Tried) → ℕ → (StoreSet → Passed 
 loop_pass zero guard at body ns = then_ok (step (λ n. bounded at n (guard n)) ns) (λ _. Ok (where_guard false guard ns))
 loop_pass (suc k) guard at body ns = guard_pass guard (λ turn. then_ok (body turn) (loop_pass k guard at body)) (λ left. Ok left) ns
 
--- the stores reached by a statement, and by a block, from a set of stores
-abbrev mutual
-  pub pass : List TypeTree → ℕ → StTree → StoreSet → Passed StoreSet
-  pass ts turns Skip ns = Ok ns
-  pass ts turns (Assign i d visible) ns = assign_pass ts i d ns
-  pass ts turns (Observe d) ns = step (λ n. same n (tried ts d n)) ns
-  pass ts turns (If d xs ys) ns = guard_pass (tried ts d) (all_pass ts turns xs) (all_pass ts turns ys) ns
-  pass ts turns (While d xs) ns = loop_pass turns (tried ts d) (place d) (all_pass ts turns xs) ns
+-- where the variables have these types, and each loop has at most so many turns
+module _ (ts : List TypeTree) (turns : ℕ) where
+  -- the stores reached by a statement, and by a block, from a set of stores
+  abbrev mutual
+    pub pass : StTree → StoreSet → Passed StoreSet
+    pass Skip ns = Ok ns
+    pass (Assign i d visible) ns = assign_pass ts i d ns
+    pass (Observe d) ns = step (λ n. same n (tried ts d n)) ns
+    pass (If d xs ys) ns = guard_pass (tried ts d) (all_pass xs) (all_pass ys) ns
+    pass (While d xs) ns = loop_pass turns (tried ts d) (place d) (all_pass xs) ns
 
-  pub all_pass : List TypeTree → ℕ → StTrees → StoreSet → Passed StoreSet
-  all_pass ts turns no_sts ns = Ok ns
-  all_pass ts turns (more_sts x xs) ns = then_ok (pass ts turns x ns) (all_pass ts turns xs)
+    pub all_pass : StTrees → StoreSet → Passed StoreSet
+    all_pass no_sts ns = Ok ns
+    all_pass (more_sts x xs) ns = then_ok (pass x ns) (all_pass xs)
 
 abbrev pub declare_pass : List TypeTree → ℕ → List DxTree → StoreSet → Passed StoreSet
 declare_pass ts i [] ns = Ok ns

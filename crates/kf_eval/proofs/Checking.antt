@@ -1,5 +1,5 @@
 -- What a checked expression asks of its parts, and what its parts' values give.
-use Rattle.std.proofs.Common.{◌≡◌, ◌≢◌, ℕ, ◌<◌, true, false, List, [], ◌∷◌, ◌++◌, length, map, take, drop, get_or, slice_get, Some, IfOk, Result, Ok, Err, refl, sym, ap, ◌∙◌, subst, arith, Box, Global}
+use Rattle.std.proofs.Common.{◌≡◌, ◌≢◌, ℕ, ◌<◌, true, false, List, [], ◌∷◌, ◌++◌, length, map, take, drop, get_or, slice_get, Some, IfOk, MatchResult, IsErrAnd, Result, Ok, Err, refl, sym, ap, ◌∙◌, subst, arith, Box, Global}
 use Rattle.std.specs.List.{AllByRecursion as Each}
 use Rattle.std.specs.Option.{option_map}
 use Rattle.std.proofs.lemmas.List.{append_assoc, append-nil, length-map, map-append}
@@ -13,6 +13,7 @@ use Rattle.kf_value.specs.Stores.{stores}
 use Rattle.kf_value.specs.Numbers.{IsStore}
 use Rattle.kf_value.specs.Views.{value_tree}
 use Rattle.kf_value.specs.declared.shape.Shape.{Shape}
+use Rattle.kf_value.specs.declared.mem.Mem.{Mem}
 use Rattle.kf_value.specs.declared.value.Value.{Value}
 use Rattle.kf_value.proofs.ListLemmas.{each_at, left_step, mapped_read}
 use Rattle.kf_ops.specs.Answers.{Answers as OpAnswers}
@@ -129,6 +130,16 @@ module _ (ks : List KindTree) (place : ℕ) (xs : List ExTree) (calls : CallsRow
       subst (λ c. Needs c (length xs)) (code_of code is)
       (subst (Needs calls.row.code) (sym long) (each_at (λ r. Needs r.code (length (take r.arity r.args))) operators place calls.row row_needs calls.here))
 
+-- a call's own arguments
+module _ (ks : List KindTree) (place : ℕ) (args : List Ex) (kinded : IsKinded ks (Apply place (exs (map ex_tree args)))) where
+  pub arguments_kinded : AreKinded ks (map ex_tree args)
+  arguments_kinded = each_kinded ks (calls_row ks place (map ex_tree args) kinded).args
+
+  -- as many as the operator takes
+  pub called : (code : Op) → operator_at place ≡ Some code → Needs code (length args) × AreKinded ks (map ex_tree args)
+  called code is =
+      (subst (Needs code) (length-map args ex_tree) (needed ks place (map ex_tree args) (calls_row ks place (map ex_tree args) kinded) code is), arguments_kinded)
+
 pub plain : (code : Op) (es : List Evaluated) → code ≢ op.Or → code ≢ op.And → code ≢ op.Cond → operated code es ≡ then_ok (all_values es) (applied code)
 plain op.Or es a b c = absurd (a refl)
 plain op.And es a b c = absurd (b refl)
@@ -180,6 +191,12 @@ slot_within shape e i n is same h =
 pub slot_value : (s : List ValueTree) (e : Ex) (i n : ℕ) (v : ValueTree) → e ≡ ex.Slot i → n ≡ i → slice_get s n ≡ Some v → ev s (ex_tree e) ≡ Ok v
 slot_value s e i n v is same at =
     ap (ev s) (ap ex_tree is ∙ ex_tree-Slot i) ∙ ap (λ w. Ok w) (get_or_from_slice_get s i v (Truth false) (ap (slice_get s) (sym same) ∙ at))
+
+pub slot_answers : (s : List ValueTree) (e : Ex) (i n : ℕ) (found : Result Value Mem) (result : Result Value EvalError) → e ≡ ex.Slot i → n ≡ i
+    → IfOk found (λ v. slice_get s n ≡ Some (value_tree v)) → MatchResult found (λ v. result ≡ Ok v) (λ m. IsErrAnd result (λ e. e ≡ error.Mem)) → Answers result (ev s (ex_tree e))
+slot_answers s e i n (Ok v) result is same at held = rw held (slot_value s e i n (value_tree v) is same at)
+slot_answers s e i n (Err m) (Ok v) is same at held = absurd held
+slot_answers s e i n (Err m) (Err fault) is same at held = rw held tt
 
 -- ---- operators that decide
 
@@ -340,9 +357,8 @@ item_kinded ks s all items i x done within at so_far = let here = left_step ex_t
 -- ---- the answer
 
 -- in terms of any list of values that is the store's
-pub answer_at : (shape : Shape) (n : ℕ) (s : List ValueTree) (x : ExTree) (r : Result Value EvalError) → IsStore (shape_types shape) n s → Answers r (ev (store_at (shape_types shape) n) x) → Answers r (ev s x)
-answer_at shape n s x r is answers =
-    subst (λ (t : List ValueTree). Answers r (ev t x)) (get_or_from_slice_get (stores (shape_types shape)) n s [] is) answers
+pub at_store : (shape : Shape) (n : ℕ) (s : List ValueTree) → IsStore (shape_types shape) n s → (P : List ValueTree → Type 0) → P (store_at (shape_types shape) n) → P s
+at_store shape n s is P h = subst P (get_or_from_slice_get (stores (shape_types shape)) n s [] is) h
 
 pub answer_kind : (keeps : KeepsKinds) (ks : List KindTree) (s : List ValueTree) → AreOfKinds ks s → (x : ExTree) (k : KindTree) (r : Result Value EvalError) → Kinded ks x k
     → Answers r (ev s x) → IfOk r (λ v. HasKind (value_tree v) k × IsWellFormed (value_tree v))

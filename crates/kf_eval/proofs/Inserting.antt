@@ -16,7 +16,8 @@ use Rattle.kf_value.proofs.ListLemmas.{each_at}
 use Rattle.kf_value.proofs.Orders.{flip, goes_on, same}
 use Rattle.kf_value.proofs.Sorting.{sorted-nil, sorted-head, sorted-tail}
 use Rattle.kf_core.proofs.SetLiterals.{inserted_ascends}
-use Rattle.kf_ops.specs.Values.{inserted, either}
+use Rattle.kf_ops.specs.Values.{inserted}
+use Rattle.kf_ops.specs.Sets.{either}
 use Rattle.kf_core.specs.Evaluation.{set_of}
 use Rattle.kf_eval.specs.Insertion.{with_value_at}
 

@@ -56,8 +56,8 @@ fn value_of(alloc: Global, e: &Ex, shape: &Shape, store: u64) -> Result<Value, E
     ensures { Answers result (ev (store_at (shape_types shape.now) store) (ex_tree e.now)) }
 {
     match e {
-        Ex::Const(value) => Ok(value.copy(alloc)?),
-        Ex::Slot(i) => Ok(value_in(alloc, shape, store, usize::from(*i))?),
+        Ex::Const(value) => value.copy(alloc).map_err(EvalError::from),
+        Ex::Slot(i) => value_in(alloc, shape, store, usize::from(*i)).map_err(EvalError::from),
         Ex::Apply { row, args } => {
             operation(alloc, usize::from(*row), args.as_slice(), shape, store)
         }
@@ -66,7 +66,7 @@ fn value_of(alloc: Global, e: &Ex, shape: &Shape, store: u64) -> Result<Value, E
         Ex::Part { of, k } => {
             evaluation_laws();
             let whole = value_of(alloc, of, shape, store)?;
-            Ok(part_at(alloc, &whole, *k as usize)?)
+            part_at(alloc, &whole, *k as usize).map_err(EvalError::from)
         }
     }
 }

@@ -88,15 +88,6 @@ macro_rules! comparison {
     };
 }
 
-macro_rules! arithmetic {
-    ($whole:expr) => {
-        match $whole {
-            Some(whole) => Some(Scalar::Whole(whole)),
-            None => None,
-        }
-    };
-}
-
 /// The value of the operator at its arguments, where an operator of one leaves the second aside. `None` where it has no
 /// value, and for `cond` and the operators on sets.
 pub(crate) fn scalar_at(code: Op, a: Scalar, b: Scalar) -> Option<Scalar>
@@ -112,17 +103,17 @@ pub(crate) fn scalar_at(code: Op, a: Scalar, b: Scalar) -> Option<Scalar>
         Op::AtMost => comparison!(a <= b),
         Op::Greater => comparison!(a > b),
         Op::AtLeast => comparison!(a >= b),
-        Op::Add => arithmetic!(whole(a).checked_add(whole(b))),
-        Op::Subtract => arithmetic!(whole(a).checked_sub(whole(b))),
-        Op::Multiply => arithmetic!(whole(a).checked_mul(whole(b))),
+        Op::Add => whole(a).checked_add(whole(b)).map(Scalar::Whole),
+        Op::Subtract => whole(a).checked_sub(whole(b)).map(Scalar::Whole),
+        Op::Multiply => whole(a).checked_mul(whole(b)).map(Scalar::Whole),
         Op::Div => quotient(whole(a), whole(b)),
         Op::Mod => remainder(whole(a), whole(b)),
-        Op::Negate => arithmetic!(whole(a).checked_neg()),
+        Op::Negate => whole(a).checked_neg().map(Scalar::Whole),
         Op::Xor => logic!(is_true(a) != is_true(b)),
         Op::Implies => logic!(is_true(b) | !is_true(a)),
         Op::Min => Some(Scalar::Whole(whole(a).min(whole(b)))),
         Op::Max => Some(Scalar::Whole(whole(a).max(whole(b)))),
-        Op::Abs => arithmetic!(whole(a).checked_abs()),
+        Op::Abs => whole(a).checked_abs().map(Scalar::Whole),
         Op::Elem | Op::Union | Op::Without | Op::Inter | Op::Size | Op::Cond | Op::Subset => None,
     }
 }
@@ -134,7 +125,7 @@ fn quotient(a: i64, b: i64) -> Option<Scalar>
     if b == 0 {
         return None;
     }
-    arithmetic!(a.checked_div_euclid(b))
+    a.checked_div_euclid(b).map(Scalar::Whole)
 }
 
 /// The Euclidean remainder, which an i64 always holds.

@@ -1,6 +1,7 @@
 -- Believed
 pub mod Divisors
 pub mod Fractions
+pub mod Rules
 pub mod Views
 -- For bodies
 pub mod Arithmetic

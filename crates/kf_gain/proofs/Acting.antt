@@ -1,6 +1,7 @@
 -- Actions of a table: one of them gains most, and none gains more than the weights times the greatest gain.
 use Rattle.std.proofs.Common.{◌≡◌, ◌≢◌, ℕ, ◌+◌, ◌*◌, ◌<◌, ◌≤◌, ◌==◌, List, [], ◌∷◌, ◌++◌, Bool, All, map, max, refl, sym, ◌∙◌, ap, subst, arith, suc, zero, length, flat_map, if◌then◌else◌, get_or, take, drop, drop-cons, add-one, true, false, ◌⊎◌, ⊎_elim, inl, inr}
 use Rattle.std.specs.Prelude.{ℤ, pos, ◌+ℤ◌, ◌*ℤ◌, ◌≤ℤ◌, ◌<ℤ◌, unsigned_abs, Contains, int_lt}
+use Rattle.std.specs.List.Sorted.{IsStrictlyIncreasing}
 use Rattle.std.proofs.lemmas.Int.{ints, clamps, by_lt_z, unsigned_abs-mul}
 use Rattle.std.specs.Int.{int_max}
 use Rattle.std.proofs.lemmas.Bool.{cases_lt}
@@ -13,6 +14,7 @@ use Rattle.kf_column.proofs.Scaling.{total-cons}
 use Rattle.kf_gain.specs.declared.table.Action.{Action}
 use Rattle.kf_gain.specs.declared.table.GainEntry.{GainEntry}
 use Rattle.kf_gain.specs.Gains.{Table, TableTree, gain_at}
+use Rattle.kf_gain.specs.Shapes.{IsTableShape}
 use Rattle.kf_gain.specs.Worth.{gained, IsVulnerability}
 use Rattle.kf_gain.specs.Vulnerabilities.{greatest, gains_of}
 
@@ -205,6 +207,13 @@ action_fits t a gains c k room rest same_rest same inside is fits =
       product_within (total c) (max (unsigned_abs rest) (greatest (map (λ (e : GainEntry). e.gain) gains))) (greatest (gains_of t)) (omega (arith, mine, ap unsigned_abs same_rest)),
       fits,
     )
+
+-- each action's values ascend
+pub action_ascends : (t : TableTree) → IsTableShape t → (a : Action) (gains : List GainEntry) (k : ℕ) → gains ≡ a.gains → k < length t.actions
+    → a ≡ get_or t.actions k a → IsStrictlyIncreasing (map (λ (e : GainEntry). e.value) gains)
+action_ascends t shape a gains k same inside is =
+    subst (λ (l : List GainEntry). IsStrictlyIncreasing (map (λ (e : GainEntry). e.value) l)) (sym (same ∙ ap (λ (b : Action). b.gains) is))
+    (shape.ascending k a inside)
 
 -- the best of the actions so far, and of the next one
 max_cases : (b : Bool) (x y : ℤ) → ((if b then x else y) ≡ x) ⊎ ((if b then x else y) ≡ y)

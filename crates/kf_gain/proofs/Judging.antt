@@ -1,5 +1,5 @@
 -- From the rules that a value keeps to its table, and from the first broken one to the answer.
-use Rattle.std.proofs.Common.{◌≡◌, ◌<◌, ◌≤◌, ℕ, zero, suc, ℤ, pos, negsuc, int_le, unsigned_abs, List, [], ◌∷◌, map, drop, length, Contains, All, Bool, true, false, not, ◌&&◌, ◌==◌, get_or, Option, None, Some, Ok, Err, Result, refl, sym, ap, ◌∙◌, subst, arith, ⊎_elim}
+use Rattle.std.proofs.Common.{◌≡◌, ◌<◌, ◌≤◌, ℕ, zero, suc, ℤ, pos, negsuc, int_le, unsigned_abs, List, [], ◌∷◌, ◌++◌, map, drop, length, Contains, All, Bool, true, false, not, ◌&&◌, ◌==◌, get_or, Option, None, Some, Ok, Err, Result, refl, sym, ap, ◌∙◌, subst, arith, ⊎_elim}
 use Rattle.std.specs.Prelude.{flat_map, ◌≢◌}
 use Rattle.std.specs.List.{AllZip, list_all}
 use Rattle.std.proofs.lemmas.Bool.{leb-true}
@@ -15,10 +15,10 @@ use Rattle.kf_gain.specs.Gains.{TableTree}
 use Rattle.kf_gain.specs.Shapes.{IsTableShape}
 use Rattle.kf_json.specs.Json.{json_of, members, at_place, text_of, whole_of, is_whole}
 use Rattle.kf_json.specs.Rules.{are_distinct, first_broken}
-use Rattle.kf_gain.specs.Tables.{over_at, rest_at, actions_at, gains_at, action_names, value_texts, narrow, is_narrow, form_rules, value_rules, fault_in, IsAction, IsTableOf, IsAnswerFor, IsTable}
-use Rattle.kf_gain.specs.Reading.{IsRead}
+use Rattle.kf_gain.specs.Tables.{over_at, rest_at, actions_at, gains_at, value_texts, narrow, is_narrow, form_rules, value_rules, IsTableOf, IsTable}
+use Rattle.kf_gain.specs.Reading.{IsRead, IsActionIn, IsAnswerFor}
 use Rattle.kf_gain.proofs.Entries.{contains_cases, contains_none, split_and}
-use Rattle.kf_gain.specs.Forms.{form_1, form_2, form_3, form_4, form_5, form_6, some_action, all_known, all_once}
+use Rattle.kf_gain.specs.Forms.{form_1, form_2, form_3, form_4, form_5, form_6, some_action, all_known, all_once, action_names, fault_in}
 
 -- ---- the first broken rule
 
@@ -30,6 +30,16 @@ broken_before : (rules : List (Bool × TableError)) (next : Option TableError) (
 broken_before [] next e h = absurd (cc)
 broken_before ((true, f) ∷ rules) next e h = broken_before rules next e h
 broken_before ((false, f) ∷ rules) next e h = h
+
+-- these rules are kept
+abbrev pub AreKept : List (Bool × TableError) → Type 0
+AreKept [] = Unit
+AreKept (rule ∷ rules) = (rule.0 ≡ true) × AreKept rules
+
+pub breaks : (front : List (Bool × TableError)) (rule : Bool × TableError) (rules : List (Bool × TableError)) → AreKept front → rule.0 ≡ false
+    → Some rule.1 ≡ first_broken (front ++ rule ∷ rules) None
+breaks [] (b, e) rules all is = rw is refl
+breaks ((b, e) ∷ front) rule rules (here, all) is = rw here (breaks front rule rules all is)
 
 none_before : (rules : List (Bool × TableError)) (next : Option TableError) → first_broken rules None ≡ None → first_broken rules next ≡ next
 none_before [] next h = refl
@@ -101,7 +111,7 @@ gain_within (g ∷ gs) all t z h =
     (contains_cases (text_of (at_place 0 g), whole_of (at_place 1 g)) (map (λ g. (text_of (at_place 0 g), whole_of (at_place 1 g))) gs) (t, z) h)
 
 module _ (items : List Item) where
-  actions_made : (ds : List Data) (made : List Action) → AllZip (IsRead items) ds made → list_all (λ a. are_distinct (value_texts a)) ds ≡ true → AllZip (IsAction items) ds made
+  actions_made : (ds : List Data) (made : List Action) → AllZip (IsRead items) ds made → list_all (λ a. are_distinct (value_texts a)) ds ≡ true → AllZip (IsActionIn items) ds made
   actions_made [] [] all once = tt
   actions_made [] (a ∷ made) all once = absurd all
   actions_made (d ∷ ds) [] all once = absurd all
@@ -109,19 +119,19 @@ module _ (items : List Item) where
       let both = split_and (are_distinct (value_texts d)) (list_all (λ a. are_distinct (value_texts a)) ds) once in
       (record { name = is.name; ascending = is.ascending both.0; gains = is.gains }, actions_made ds made all both.1)
 
-  all_ascending : (ds : List Data) (made : List Action) → AllZip (IsAction items) ds made → All (λ (a : Action). IsStrictlyIncreasing (map (λ e. e.value) a.gains)) made
+  all_ascending : (ds : List Data) (made : List Action) → AllZip (IsActionIn items) ds made → All (λ (a : Action). IsStrictlyIncreasing (map (λ e. e.value) a.gains)) made
   all_ascending [] [] all = All-nil (λ (a : Action). IsStrictlyIncreasing (map (λ e. e.value) a.gains))
   all_ascending [] (a ∷ made) all = absurd all
   all_ascending (d ∷ ds) [] all = absurd all
   all_ascending (d ∷ ds) (a ∷ made) (is, all) = All-cons (λ (a : Action). IsStrictlyIncreasing (map (λ e. e.value) a.gains)) a made is.ascending (all_ascending ds made all)
 
-  own_within : (d : Data) (a : Action) → IsAction items d a → list_all narrow_gain (members (gains_at d)) ≡ true → All (λ z. unsigned_abs z ≤ limit) (map (λ e. e.gain) a.gains)
+  own_within : (d : Data) (a : Action) → IsActionIn items d a → list_all narrow_gain (members (gains_at d)) ≡ true → All (λ z. unsigned_abs z ≤ limit) (map (λ e. e.gain) a.gains)
   own_within d a is small =
       All-map (λ z. unsigned_abs z ≤ limit) (λ e. e.gain) a.gains
       (λ k e within. let here = get_or a.gains k e in
       gain_within (members (gains_at d)) small (target_value_text items here.value) here.gain ((is.gains here).0 (Contains-get_or a.gains k e within)).1)
 
-  all_within : (ds : List Data) (made : List Action) → AllZip (IsAction items) ds made → list_all (λ a. list_all narrow_gain (members (gains_at a))) ds ≡ true
+  all_within : (ds : List Data) (made : List Action) → AllZip (IsActionIn items) ds made → list_all (λ a. list_all narrow_gain (members (gains_at a))) ds ≡ true
       → All (λ z. unsigned_abs z ≤ limit) (flat_map (λ a. map (λ e. e.gain) a.gains) made)
   all_within [] [] all small = All-nil (λ z. unsigned_abs z ≤ limit)
   all_within [] (a ∷ made) all small = absurd all
@@ -130,7 +140,7 @@ module _ (items : List Item) where
       let both = split_and (list_all narrow_gain (members (gains_at d))) (list_all (λ a. list_all narrow_gain (members (gains_at a))) ds) small in
       All-append (λ z. unsigned_abs z ≤ limit) (map (λ e. e.gain) a.gains) (flat_map (λ a. map (λ e. e.gain) a.gains) made) (own_within d a is both.0) (all_within ds made all both.1)
 
-  pub some_made : (ds : List Data) (made : List Action) → AllZip (IsAction items) ds made → not (length ds == 0) ≡ true → made ≢ []
+  pub some_made : (ds : List Data) (made : List Action) → AllZip (IsActionIn items) ds made → not (length ds == 0) ≡ true → made ≢ []
   some_made [] made all some = absurd (cc)
   some_made (d ∷ ds) [] all some = absurd all
   some_made (d ∷ ds) (a ∷ made) all some = λ none. absurd (cc)
@@ -162,7 +172,7 @@ module _ (items : List Item) where
 
     module _ (over : ℕ) (rest : ℤ) (made : List Action) (once : all_once d ≡ true) (all : AllZip (IsRead items) (members (actions_at d)) made)
         (over_is : over ≡ unsigned_abs (whole_of (over_at d))) (rest_is : rest ≡ whole_of (rest_at d)) where
-      acted : AllZip (IsAction items) (members (actions_at d)) made
+      acted : AllZip (IsActionIn items) (members (actions_at d)) made
       acted = actions_made (members (actions_at d)) made all
           (split_and (list_all (λ a. are_distinct (value_texts a)) (members (actions_at d))) (are_distinct (action_names d)) once).0
 

@@ -11,7 +11,9 @@ use Rattle.kf_gain.specs.declared.table.GainEntry.{GainEntry}
 use Rattle.kf_gain.specs.declared.error.TableError.{TableError}
 use Rattle.kf_gain.specs.Gains.{TableTree}
 use Rattle.kf_json.specs.Json.{json_of, members}
-use Rattle.kf_gain.specs.Tables.{actions_at, fault_in, IsAction, IsTableOf, IsAnswerFor}
+use Rattle.kf_gain.specs.Tables.{actions_at, IsTableOf}
+use Rattle.kf_gain.specs.Reading.{IsActionIn, IsAnswerFor}
+use Rattle.kf_gain.specs.Forms.{fault_in}
 use Rattle.kf_gain.specs.TableLaws.{OneTable}
 use Rattle.kf_gain.proofs.Entries.{contains_cases, contains_first, contains_later, contains_none}
 use Rattle.kf_gain.proofs.Judging.{judged}
@@ -63,14 +65,14 @@ same_entries (e ∷ es) (f ∷ fs) up over there back =
         (contains_cases e es x (back x (contains_later f fs x h)))
 
 module _ (items : List Item) where
-  one_action : (d : Data) (a b : Action) → IsAction items d a → IsAction items d b → a ≡ b
+  one_action : (d : Data) (a b : Action) → IsActionIn items d a → IsActionIn items d b → a ≡ b
   one_action d a b is was =
       let name : a.name ≡ b.name = is.name ∙ sym was.name in
       let gains : a.gains ≡ b.gains = same_entries a.gains b.gains (sorted_from_strictly_increasing (map (λ e. e.value) a.gains) is.ascending) (sorted_from_strictly_increasing (map (λ e. e.value) b.gains) was.ascending)
       (λ x h. (was.gains x).1 ((is.gains x).0 h)) (λ x h. (is.gains x).1 ((was.gains x).0 h)) in
       λ i. record { name = name i; gains = gains i }
 
-  one_list : (ds : List Data) (made others : List Action) → AllZip (IsAction items) ds made → AllZip (IsAction items) ds others → made ≡ others
+  one_list : (ds : List Data) (made others : List Action) → AllZip (IsActionIn items) ds made → AllZip (IsActionIn items) ds others → made ≡ others
   one_list [] [] [] all also = refl
   one_list [] [] (b ∷ others) all also = absurd also
   one_list [] (a ∷ made) others all also = absurd all

@@ -13,7 +13,9 @@ use Rattle.kf_gain.specs.declared.error.TableError.TheVariants as broken
 use Rattle.kf_gain.specs.Gains.{TableTree}
 use Rattle.kf_json.specs.Json.{json_of, members, at_place, text_of, whole_of}
 use Rattle.kf_json.specs.Rules.{are_distinct}
-use Rattle.kf_gain.specs.Tables.{actions_at, gains_at, name_at, over_at, rest_at, value_texts, fault_in, IsAction, IsTableOf, IsAnswerFor}
+use Rattle.kf_gain.specs.Tables.{actions_at, gains_at, name_at, over_at, rest_at, value_texts, IsTableOf}
+use Rattle.kf_gain.specs.Reading.{IsActionIn, IsAnswerFor}
+use Rattle.kf_gain.specs.Forms.{fault_in}
 use Rattle.kf_gain.specs.TableLaws.{SomeTable, TablesHaveActions}
 use Rattle.kf_gain.proofs.Entries.{contains_cases, contains_first, contains_later, contains_none, split_and}
 use Rattle.kf_gain.proofs.Judging.{judged, rules_kept, pos_abs, some_made}
@@ -75,7 +77,7 @@ module _ (items : List Item) where
   abbrev seek : Data → ℕ → Option ℤ
   seek d v = gain_of (members (gains_at d)) (target_value_text items v)
 
-  action_made : (d : Data) → are_distinct (value_texts d) ≡ true → (a : Action) × IsAction items d a
+  action_made : (d : Data) → are_distinct (value_texts d) ≡ true → (a : Action) × IsActionIn items d a
   action_made d apart = by (found (seek d) 0 (length (target_values items)))
     where
       there : (e : GainEntry) → Sought (seek d) 0 (length (target_values items)) e → (e.value < length (target_values items)) × Contains (map pair (members (gains_at d))) (target_value_text items e.value, e.gain)
@@ -84,13 +86,13 @@ module _ (items : List Item) where
       back : (e : GainEntry) → (e.value < length (target_values items)) × Contains (map pair (members (gains_at d))) (target_value_text items e.value, e.gain) → Sought (seek d) 0 (length (target_values items)) e
       back e (to, named) = (omega arith, omega (arith, to), named_sought (target_value_text items e.value) e.gain (members (gains_at d)) apart named)
 
-      by : Found (seek d) 0 (length (target_values items)) → (a : Action) × IsAction items d a
+      by : Found (seek d) 0 (length (target_values items)) → (a : Action) × IsActionIn items d a
       by f = (
         record { name = text_of (name_at d); gains = f.entries },
         record { name = refl; ascending = increasing 0 (map (λ e. e.value) f.entries) f.rising; gains = λ e. (λ h. there e ((f.all e).0 h), λ h. (f.all e).1 (back e h)) },
       )
 
-  actions_made : (ds : List Data) → list_all (λ a. are_distinct (value_texts a)) ds ≡ true → (made : List Action) × AllZip (IsAction items) ds made
+  actions_made : (ds : List Data) → list_all (λ a. are_distinct (value_texts a)) ds ≡ true → (made : List Action) × AllZip (IsActionIn items) ds made
   actions_made [] once = ([], tt)
   actions_made (d ∷ ds) once =
       let both = split_and (are_distinct (value_texts d)) (list_all (λ a. are_distinct (value_texts a)) ds) once in

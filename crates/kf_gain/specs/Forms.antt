@@ -1,11 +1,12 @@
 -- For bodies: the rules of gain tables one by one.
-use Rattle.std.specs.Prelude.{◌&&◌, ◌==◌, pos, int_le, List, [], ◌∷◌, length, Bool, not, codes}
+use Rattle.std.specs.Prelude.{◌&&◌, ◌==◌, pos, int_le, ℕ, List, [], ◌∷◌, map, length, Bool, not, Option, None, codes}
 use Rattle.std.specs.List.{list_all}
 use Rattle.serde_json.specs.Data.{Data}
 use Rattle.kf_value.specs.Targets.{Item}
-use Rattle.kf_gain.specs.Tables.{over_at, rest_at, actions_at, name_at, gains_at, value_texts, action_names, is_action, is_gain, is_value_text}
-use Rattle.kf_json.specs.Rules.{is_name, are_distinct}
-use Rattle.kf_json.specs.Json.{has_keys, at_key, is_list, members, is_the_text, is_whole, whole_of}
+use Rattle.kf_gain.specs.Tables.{over_at, rest_at, actions_at, name_at, gains_at, value_texts, is_action, is_gain, is_value_text, form_rules, value_rules}
+use Rattle.kf_gain.specs.declared.error.TableError.{TableError}
+use Rattle.kf_json.specs.Rules.{is_name, are_distinct, first_broken}
+use Rattle.kf_json.specs.Json.{has_keys, at_key, is_list, members, is_the_text, is_whole, text_of, whole_of}
 
 -- Form 1: an object with exactly these keys
 abbrev pub form_1 : Data → Bool
@@ -43,6 +44,14 @@ some_action d = not (length (members (actions_at d)) == 0)
 abbrev pub all_known : List Item → Data → Bool
 all_known items d = list_all (λ a. list_all (is_value_text items) (value_texts a)) (members (actions_at d))
 
+-- the names of all actions
+abbrev pub action_names : Data → List (List ℕ)
+action_names d = map (λ a. text_of (name_at a)) (members (actions_at d))
+
 -- Twice is broken where an action names a value twice, or two actions have one name; a value has one text
 abbrev pub all_once : Data → Bool
 all_once d = list_all (λ a. are_distinct (value_texts a)) (members (actions_at d)) && are_distinct (action_names d)
+
+-- the first rule that a value breaks, those on the file alone before those on the values that it names
+abbrev pub fault_in : List Item → Data → Option TableError
+fault_in items d = first_broken (form_rules d) (first_broken (value_rules items d) None)

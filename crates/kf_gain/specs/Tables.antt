@@ -1,5 +1,5 @@
 -- Believed: gain tables as JSON files: which bytes are one, what it says, and the first rule that other bytes break.
-use Rattle.std.specs.Prelude.{◌≡◌, ℕ, ◌<◌, ◌↔◌, ◌&&◌, ◌==◌, nat_le, ℤ, pos, int_le, unsigned_abs, List, [], ◌∷◌, map, length, Contains, Bool, not, Option, None, Some, Result, Ok, Err, codes, bytes_eq}
+use Rattle.std.specs.Prelude.{◌≡◌, ℕ, ◌<◌, ◌↔◌, ◌&&◌, ◌==◌, nat_le, ℤ, pos, int_le, unsigned_abs, List, [], ◌∷◌, map, length, Contains, Bool, not, None, Some, Result, Err, IsOkAnd, MatchOption, codes, bytes_eq}
 use Rattle.std.specs.List.{AllZip, list_all, list_any}
 use Rattle.std.specs.List.Sorted.{IsStrictlyIncreasing}
 use Rattle.serde_json.specs.Data.{Data}
@@ -33,12 +33,9 @@ gains_at action = at_key (codes "gains") action
 abbrev pub named : Data → List (List ℕ × ℤ)
 named action = map (λ g. (text_of (at_place 0 g), whole_of (at_place 1 g))) (members (gains_at action))
 
--- the texts of the values that an action names, and the names of all actions
+-- the texts of the values that an action names
 abbrev pub value_texts : Data → List (List ℕ)
 value_texts action = map (λ g. text_of (at_place 0 g)) (members (gains_at action))
-
-abbrev pub action_names : Data → List (List ℕ)
-action_names d = map (λ a. text_of (name_at a)) (members (actions_at d))
 
 -- ---- what stands in a table
 
@@ -81,36 +78,33 @@ form_rules d =
 -- value has one text
 abbrev pub value_rules : List Item → Data → List (Bool × TableError)
 value_rules items d =
+    let names = map (λ a. text_of (name_at a)) (members (actions_at d)) in
     (list_all (λ a. list_all (is_value_text items) (value_texts a)) (members (actions_at d)), broken.Unknown)
-    ∷ (list_all (λ a. are_distinct (value_texts a)) (members (actions_at d)) && are_distinct (action_names d), broken.Twice) ∷ []
-
-abbrev pub fault_in : List Item → Data → Option TableError
-fault_in items d = first_broken (form_rules d) (first_broken (value_rules items d) None)
+    ∷ (list_all (λ a. are_distinct (value_texts a)) (members (actions_at d)) && are_distinct names, broken.Twice) ∷ []
 
 -- ---- what a table says
 
--- the action names this value, with this gain
-abbrev pub Names : List Item → Data → GainEntry → Type 0
-Names items action e = (e.value < length (target_values items)) × Contains (named action) (target_value_text items e.value, e.gain)
+-- a value of the target, whose text has this gain among these, each with the text of its value
+abbrev pub Names : List Item → List (List ℕ × ℤ) → GainEntry → Type 0
+Names items gains e = (e.value < length (target_values items)) × Contains gains (target_value_text items e.value, e.gain)
 
--- an action: its name, and exactly the gains that it names, in the order of their values
-pub record IsAction (items : List Item) (action : Data) (a : Action) : Type 0 where
-  pub name : a.name ≡ text_of (name_at action)
+-- an action of this name, with exactly these gains, in the order of their values
+pub record IsAction (items : List Item) (called : List ℕ) (named : List (List ℕ × ℤ)) (a : Action) : Type 0 where
+  pub name : a.name ≡ called
   pub ascending : IsStrictlyIncreasing (map (λ e. e.value) a.gains)
-  pub gains : (e : GainEntry) → Contains a.gains e ↔ Names items action e
+  pub gains : (e : GainEntry) → Contains a.gains e ↔ Names items named e
 
 -- a table: its numbers, and all actions in the file's order
 pub record IsTableOf (items : List Item) (d : Data) (t : TableTree) : Type 0 where
   pub over : pos t.over ≡ whole_of (over_at d)
   pub rest : t.rest ≡ whole_of (rest_at d)
-  pub actions : AllZip (IsAction items) (members (actions_at d)) t.actions
+  pub actions : AllZip (λ a. IsAction items (text_of (name_at a)) (named a)) (members (actions_at d)) t.actions
 
--- the answer for a JSON value: the first rule that it breaks, or its table
-abbrev pub IsAnswerFor : List Item → Data → Option TableError → Result TableTree TableError → Type 0
-IsAnswerFor items d (Some e) r = r ≡ Err e
-IsAnswerFor items d None (Ok t) = IsTableOf items d t
-IsAnswerFor items d None (Err e) = ⊥
-
--- the answer for a file's bytes, read for a target of these items
+-- the answer for a file's bytes, read for a target of these items: the first rule that their value breaks, or its table
 abbrev pub IsTable : List Item → List ℕ → Result TableTree TableError → Type 0
-IsTable items bytes r = elim (json_of bytes) [ None ↦ r ≡ Err broken.Json | Some d ↦ IsAnswerFor items d (fault_in items d) r ]
+IsTable items bytes r = elim (json_of bytes) [
+  | None ↦ r ≡ Err broken.Json
+  | Some d ↦
+      let broken_rule = first_broken (form_rules d) (first_broken (value_rules items d) None) in
+      MatchOption broken_rule (IsOkAnd r (IsTableOf items d)) (λ e. r ≡ Err e)
+]

@@ -5,7 +5,8 @@ ghost use Rattle.serde_json.specs.View.{view};
 ghost use Rattle.kf_value.specs.Views.{items_of};
 ghost use Rattle.kf_gain.specs.declared.error.TableError.TheVariants as broken;
 ghost use Rattle.kf_json.specs.Json.{json_of};
-ghost use Rattle.kf_gain.specs.Tables.{IsTable, IsTableOf, fault_in};
+ghost use Rattle.kf_gain.specs.Tables.{IsTable, IsTableOf};
+ghost use Rattle.kf_gain.specs.Forms.{fault_in};
 ghost use Rattle.kf_gain.specs.Shapes.{IsTableShape};
 ghost use Rattle.kf_gain.specs.Views.{table_tree};
 

@@ -15,10 +15,10 @@ use Rattle.kf_core.specs.Runs.{Halted}
 use Rattle.kf_core.specs.Scale.{scale_of as run_scale}
 use Rattle.kf_core.specs.Support.{StoreSet, program_pass}
 use Rattle.kf_load.specs.Steps.{Refused, Step, Each, Gives, refusal}
-use Rattle.kf_load.specs.Texts.{File, Text, TextWith, TypedOf, TextOf, cleared, long_enough, LongCleared}
-use Rattle.kf_load.specs.Refusals.{bad_run, narrow}
-use Rattle.kf_top.specs.Outcome.{few_stores, FullOf, ReadyOf}
-use Rattle.kf_top.specs.Steps.{FullTexts, ClearedOf}
+use Rattle.kf_load.specs.Texts.{File, Text, TextWith, TypedOf, TextOf, cleared, LongCleared}
+use Rattle.kf_load.specs.Refusals.{bad_run, narrow, long_enough}
+use Rattle.kf_top.specs.Outcome.{few_stores, ReadyOf}
+use Rattle.kf_top.specs.Steps.{FullTexts, ClearedOf, FullOf}
 use Rattle.kf_words.specs.Task.{Command, Covers, Quiet}
 use Rattle.kf_laws.proofs.ProperHypers.{IsTypedProgram, IsClear}
 use Rattle.kf_laws.proofs.SizedTargets.{target_sized}

@@ -21,10 +21,10 @@ use Rattle.kf_text.specs.Texts.{hyper_text}
 use Rattle.kf_text.specs.VerdictTexts.{verdict_text}
 use Rattle.kf_load.specs.Steps.{Each, Gives}
 use Rattle.kf_load.specs.Texts.{File, LongCleared, Text, cleared}
-use Rattle.kf_top.specs.Answer.{AreHypers, CommandOutcome, HyperOf, Shown, is_yes}
+use Rattle.kf_top.specs.Answer.{CommandOutcome, HyperOf, Shown}
 use Rattle.kf_top.specs.Ends.{Answer}
-use Rattle.kf_top.specs.Outcome.{FullOf, few_stores}
-use Rattle.kf_top.specs.Steps.{most_pivots, showing, ClearedOf}
+use Rattle.kf_top.specs.Outcome.{few_stores}
+use Rattle.kf_top.specs.Steps.{most_pivots, showing, ClearedOf, is_yes, AreHypers, FullOf}
 use Rattle.kf_laws.specs.Held.{held}
 use Rattle.kf_laws.specs.Laws.{AreQuietAnswers, CoversAllPriors, IsCoversAnswer, NoIsSeparated, QuietIsNoBetter, asks_covers}
 use Rattle.kf_laws.specs.Refusals.{RefusalsAreReasoned}
@@ -80,16 +80,16 @@ module _ (one_cleared : (command : Command) (turns : ℕ) (programs : List File)
       let w = command_shown reasoned contents one_cleared asked.words (asks_covers first second turns) answer (p ∷ q ∷ []) asked.asks asked.is_answer few asked.are_cleared in
       let refined = w.2 in
       let a = refined.0 in
-      let b = refined.1 in
-      let v = verdict_of false a b refined.3.0 w.0 refined.3.2 in
+      let b = refined.2.0 in
+      let v = verdict_of false a b refined.2.2.0 w.0 refined.2.2.2 in
       let status : answer.status ≡ (if w.0.yes then 0 else 1) = ap (λ (x : Answer). x.status) w.1 in
       let out : answer.out ≡ w.0.bytes = ap (λ (x : Answer). x.out) w.1 in
       record {
         a = a;
         b = b;
         v = v.0;
-        hypers = refined.2;
-        verdict = subst (λ (x : Result VerdictTree _). IsVerdict a b most_pivots x) v.1 refined.3.1;
+        hypers = record { first = refined.1; second = refined.2.1 };
+        verdict = subst (λ (x : Result VerdictTree _). IsVerdict a b most_pivots x) v.1 refined.2.2.1;
         proves = v.2;
         bytes = out ∙ ap (λ (s : Shown). s.bytes) v.3;
         status = status ∙ ap (λ (s : Shown). if s.yes then 0 else 1) v.3;

@@ -3,7 +3,6 @@ use Rattle.std.proofs.Common.{◌≡◌, ℕ, true, List, [], ◌∷◌, All, co
 use Rattle.kf_value.specs.Targets.{Item}
 use Rattle.kf_core.specs.Joint.{joint_of}
 use Rattle.kf_core.specs.Programs.{ProgramTree}
-use Rattle.kf_core.specs.Scale.{scale_of}
 use Rattle.kf_channel.specs.Channels.{all_initial}
 use Rattle.kf_capacity.specs.Grids.{ChannelTree, channel_grid}
 use Rattle.kf_gain.specs.Gains.{GainOf, Bayes, TableTree}
@@ -14,9 +13,9 @@ use Rattle.kf_load.specs.Texts.{File}
 use Rattle.kf_order.specs.Channels.{CapacityIsLeaked, IsNotNegative, LeakageIsBounded}
 use Rattle.kf_text.specs.CapacityTexts.{capacity_text}
 use Rattle.kf_text.specs.ReportTexts.{report_text}
-use Rattle.kf_top.specs.Answer.{CapacityIn, CommandOutcome, GainIn, IsChannelTree, ReportOf, Shown, initial, is_narrow, wide_channel}
+use Rattle.kf_top.specs.Answer.{CommandOutcome, GainIn, IsChannelTree, IsHyperTree, Shown, initial, is_narrow, prints, wide_channel}
 use Rattle.kf_top.specs.Ends.{Answer}
-use Rattle.kf_top.specs.Steps.{showing, ClearedOf}
+use Rattle.kf_top.specs.Steps.{showing, ClearedOf, CapacityIn}
 use Rattle.kf_words.specs.Task.{Capacity, Command, Leak, tables_of}
 use Rattle.kf_words.specs.OfWords.{on_file}
 use Rattle.kf_laws.specs.Held.{held}
@@ -25,6 +24,8 @@ use Rattle.kf_laws.specs.Refusals.{RefusalsAreReasoned}
 use Rattle.kf_laws.proofs.ClearedPrograms.{kept}
 use Rattle.kf_laws.proofs.OneAnswer.{HasOne}
 use Rattle.kf_laws.proofs.ShownAnswers.{command_shown, printed, task_shown}
+use Rattle.kf_report.specs.Reports.{Leakage, IsLeakage}
+use Rattle.kf_refine.specs.Refinements.{HyperTree}
 
 -- ---- what is shown
 
@@ -52,7 +53,9 @@ module _ (contents : List ℕ → List ℕ) (name : List ℕ) (gain : GainOf (Li
   by_programs [] su st cleared is_capacity is_leak told told_too = absurd (cc)
   by_programs (p ∷ []) su st cleared is_capacity is_leak told told_too =
       let channel = capacity_printed capacity su turns p is_capacity told in
-      let report : ReportOf (scale_of turns p) (joint_of turns p) told_too.0 (Ok st) = told_too.2.2 in
+      let hyper : HyperTree = told_too.2.0 in
+      let of_p : IsHyperTree turns p hyper = told_too.2.1 in
+      let report : (l : Leakage) × IsLeakage told_too.0 hyper.scale hyper.inners l × (Ok st ≡ prints (report_text told_too.0 l)) = told_too.2.2.2 in
       record {
         program = p;
         is_cleared = cleared;
@@ -60,12 +63,12 @@ module _ (contents : List ℕ → List ℕ) (name : List ℕ) (gain : GainOf (Li
         is_channel = channel.1;
         g = told_too.0;
         is_gain = told_too.1;
-        inners = report.0;
-        is_hyper = report.1;
-        report = report.2.0;
-        is_report = report.2.1;
+        inners = hyper.inners;
+        is_hyper = of_p.is_hyper;
+        report = report.0;
+        is_report = subst (λ (n : ℕ). IsLeakage told_too.0 n hyper.inners report.0) of_p.scale report.1;
         capacity_printed = channel.2;
-        leak_printed = printed leak st (report_text told_too.0 report.2.0) is_leak report.2.2;
+        leak_printed = printed leak st (report_text told_too.0 report.0) is_leak report.2;
       }
   by_programs (p ∷ q ∷ ps) su st cleared is_capacity is_leak told told_too = absurd (cc)
 

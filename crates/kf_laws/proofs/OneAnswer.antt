@@ -30,6 +30,7 @@ use Rattle.kf_text.specs.BlameTexts.{blame_text}
 use Rattle.kf_text.specs.CapacityTexts.{capacity_text}
 use Rattle.kf_frac.specs.Fractions.{limit}
 use Rattle.kf_value.specs.Targets.{Item}
+use Rattle.kf_value.specs.Numbers.{target_size}
 use Rattle.kf_column.specs.declared.entry.Entry.{Entry}
 use Rattle.kf_column.specs.Hypers.{Inner}
 use Rattle.kf_core.specs.Joint.{Cell, joint_of}
@@ -40,7 +41,7 @@ use Rattle.kf_gain.specs.Laws.{OneAverage, OneReport}
 use Rattle.kf_gain.specs.TableLaws.{OneTable}
 use Rattle.kf_gain.specs.Vulnerabilities.{IsWidth, width}
 use Rattle.kf_report.specs.Reports.{Leakage, IsLeakage}
-use Rattle.kf_attack.specs.Attacks.{ReachTree, IsReach}
+use Rattle.kf_attack.specs.Attacks.{ReachTree, IsReach, AttackTree}
 use Rattle.kf_attack.specs.Laws.{OneAttacks, OneReach}
 use Rattle.kf_attack.specs.Views.{AreAttacks}
 use Rattle.kf_make.specs.Making.{make_source}
@@ -52,8 +53,8 @@ use Rattle.kf_refine.specs.Views.{IsProper}
 use Rattle.kf_cert.specs.Certificates.{CertTree, cert_of}
 use Rattle.kf_cert.specs.Laws.{OneMark}
 use Rattle.kf_load.specs.Steps.{Refused, Step, After, Each, Gives, refusal}
-use Rattle.kf_load.specs.Texts.{File, Fault, Text, token_fault, syntax_fault, type_fault, IsBad, TokensOf, SourceOf, ProgramOf, TextWith, TypedOf, TextOf, cleared, long_enough, LongCleared, source_of}
-use Rattle.kf_load.specs.Refusals.{bad_text}
+use Rattle.kf_load.specs.Texts.{File, Text, token_fault, syntax_fault, type_fault, IsBad, TextWith, TypedOf, TextOf, cleared, LongCleared, source_of}
+use Rattle.kf_load.specs.Refusals.{bad_text, Fault, TokensOf, SourceOf, ProgramOf, long_enough}
 use Rattle.kf_prior.specs.FullSources.{full_source}
 use Rattle.kf_quiet.specs.Laws.{OnlyOneBlames}
 use Rattle.kf_quiet.specs.Summaries.{SummaryTree}
@@ -62,13 +63,13 @@ use Rattle.kf_run.specs.Laws.{OnlyOneTrail}
 use Rattle.kf_words.specs.Jobs.{IsInRange}
 use Rattle.kf_words.specs.Laws.{TasksInRange}
 use Rattle.kf_words.specs.Task.{Command, Composition, Hyper, Traces, Channel, Trail, Capacity, Compose, Leak, Attack, Reach, Make, Refine, Check, Covers, Quiet, Blame, Task, task_of}
-use Rattle.kf_top.specs.Answer.{Shown, usage, prints, other_target, wide_channel, HyperOf, MadeOutcome, initial, ChannelOf, IsChannelTree, is_narrow, CapacityIn, Composed, algebra_shown, ComposedIn, table_word, bad_file, TableOf, GainIn, HasWidth, NarrowGain, ReportOf, ReportIn, AttackOf, AttackIn, ReachOf, IsHyperTree, AreHypers, VerdictShown, VerdictOn, RefineOutcome, CertIn, mark_shown, MarkIn, MarkOn, CommandOutcome}
-use Rattle.kf_top.specs.Outcome.{few_stores, FullOf, ReadyOf, TaskOutcome}
+use Rattle.kf_top.specs.Answer.{Shown, usage, prints, other_target, wide_channel, HyperOf, initial, IsChannelTree, is_narrow, Composed, ComposedIn, table_word, bad_file, TableOf, GainIn, IsHyperTree, NarrowGain, OnHyper, PrintsSome, ReportOn, AttackOn, VerdictShown, RefineOutcome, CertIn, mark_shown, MarkIn, MarkOn, CommandOutcome}
+use Rattle.kf_top.specs.Outcome.{few_stores, ReadyOf, TaskOutcome}
 use Rattle.kf_top.specs.Ends.{Answer, settled}
-use Rattle.kf_top.specs.Steps.{TracesOf, TrailOf, MadeOf, BlameOf, TableIn, cert_read, most_pivots, IsAnswer, FullTexts, ClearedOf, SomeOutcome}
+use Rattle.kf_top.specs.Steps.{TracesOf, TrailOf, MadeOf, BlameOf, TableIn, cert_read, most_pivots, IsAnswer, FullTexts, ClearedOf, SomeOutcome, MadeOutcome, ChannelOf, CapacityIn, algebra_shown, VerdictOn, FullOf}
 use Rattle.kf_laws.proofs.ClearedPrograms.{AreClear}
 use Rattle.kf_laws.proofs.OneComposed.{one_composed}
-use Rattle.kf_laws.proofs.ProperHypers.{AreProper, IsClear, IsShaped, shaped}
+use Rattle.kf_laws.proofs.ProperHypers.{AreProper, IsClear}
 
 -- ---- secrets
 
@@ -160,25 +161,10 @@ module _ (hypers_are_one : HypersAreOne) where
   one_made_hyper count scale joint r s p q =
       p.2 ∙ ap (λ (is : List Inner). prints (make_text count scale is)) (hypers_are_one joint p.0 q.0 p.1 q.1) ∙ sym q.2
 
-  one_report : OneReport → (scale : ℕ) (joint : List Cell) (g : GainOf TableTree) → HasOne (ReportOf scale joint g)
-  one_report reports_are_one scale joint g r s p q =
-      let inners : p.0 ≡ q.0 = hypers_are_one joint p.0 q.0 p.1 q.1 in
-      let leakage : p.2.0 ≡ q.2.0 = one_leakage reports_are_one g scale q.0 p.2.0 q.2.0 (subst (λ (is : List Inner). IsLeakage g scale is p.2.0) inners p.2.1) q.2.1 in
-      p.2.2 ∙ ap (λ (l : Leakage). prints (report_text g l)) leakage ∙ sym q.2.2
-
-  one_attack : OneAttacks → (target : List Item) (scale : ℕ) (joint : List Cell) (g : GainOf TableTree) → IsShaped scale joint → HasOne (AttackOf target scale joint g)
-  one_attack attacks_are_one target scale joint g has r s p q =
-      let inners : p.0 ≡ q.0 = hypers_are_one joint p.0 q.0 p.1 q.1 in
-      let are : AreAttacks g q.0 p.2.0 = subst (λ (is : List Inner). AreAttacks g is p.2.0) inners p.2.1 in
-      let attacks : p.2.0 ≡ q.2.0 = attacks_are_one has.0 scale g q.0 p.2.0 q.2.0 (has.1 q.0 q.1) are q.2.1 in
-      p.2.2 ∙ (λ i. prints (attack_text g target scale (inners i) (attacks i))) ∙ sym q.2.2
-
-  one_reach : OneReach → (num den scale : ℕ) (joint : List Cell) → 0 < den → HasOne (ReachOf num den scale joint)
-  one_reach reaches_are_one num den scale joint some r s p q =
-      let inners : p.0 ≡ q.0 = hypers_are_one joint p.0 q.0 p.1 q.1 in
-      let is : IsReach scale q.0 num den p.2.0 = subst (λ (is : List Inner). IsReach scale is num den p.2.0) inners p.2.1 in
-      let reach : p.2.0 ≡ q.2.0 = reaches_are_one scale num den q.0 p.2.0 q.2.0 some is q.2.1 in
-      p.2.2 ∙ ap (λ (t : ReachTree). prints (reach_text scale t)) reach ∙ sym q.2.2
+-- tries are one
+one_reach : OneReach → (num den : ℕ) (h : HyperTree) → 0 < den → HasOne (PrintsSome (IsReach h.scale h.inners num den) (reach_text h.scale))
+one_reach reaches_are_one num den h some r s p q =
+    p.2 ∙ ap (λ (t : ReachTree). prints (reach_text h.scale t)) (reaches_are_one h.scale num den h.inners p.0 q.0 some p.1 q.1) ∙ sym q.2
 
 -- the laws of rows
 module _ (rows_are_one : RowsAreOne) where
@@ -224,29 +210,28 @@ module _ (tables_are_one : OneTable) where
       one_after (TableIn target file) (λ t. Gives (Ok (Table t))) (one_table_in target file) (λ t _. one_given (Ok (Table t)))
   one_gain target (Table name) tables = one_given (Err usage)
 
--- the laws of hypers and of their sums
-module _ (hypers_are_one : HypersAreOne) (averages_are_one : OneAverage) where
-  one_width : (joint : List Cell) (g : GainOf TableTree) (m n : ℕ) → HasWidth joint g m → HasWidth joint g n → m ≡ n
-  one_width joint g m n p q =
-      let inners : p.inners ≡ q.inners = hypers_are_one joint p.inners q.inners p.is_hyper q.is_hyper in
-      let same : IsWidth g q.inners m = subst (λ (is : List Inner). IsWidth g is m) inners p.is_width in
-      let average : same.average ≡ q.is_width.average = averages_are_one q.inners same.average q.is_width.average same.is_average q.is_width.is_average in
-      same.is ∙ ap (λ (column : List Entry). width g (length column)) average ∙ sym q.is_width.is
+-- the law of sums
+module _ (averages_are_one : OneAverage) (g : GainOf TableTree) (h : HyperTree) where
+  one_width : (m n : ℕ) → IsWidth g h.inners m → IsWidth g h.inners n → m ≡ n
+  one_width m n p q =
+      p.is ∙ ap (λ (column : List Entry). width g (length column)) (averages_are_one h.inners p.average q.average p.is_average q.is_average) ∙ sym q.is
 
   -- the width of a gain, where it fits
-  one_narrow : (scale : ℕ) (joint : List Cell) (g : GainOf TableTree) → HasOne (NarrowGain scale joint g)
-  one_narrow scale joint g r s p q =
-      let m : p.0 ≡ q.0 = one_width joint g p.0 q.0 p.1 q.1 in
-      p.2 ∙ ap (λ (n : ℕ). if nat_le (scale * n) limit then Ok n else Err (refusal 7 [] (codes "gain passes 2^127 - 1"))) m ∙ sym q.2
+  one_narrow : HasOne (NarrowGain g h)
+  one_narrow r s p q =
+      p.2 ∙ ap (λ (n : ℕ). if nat_le (h.scale * n) limit then Ok n else Err (refusal 7 [] (codes "gain passes 2^127 - 1"))) (one_width p.0 q.0 p.1 q.1) ∙ sym q.2
 
-  one_report_in : OneReport → (scale : ℕ) (joint : List Cell) (g : GainOf TableTree) → HasOne (ReportIn scale joint g)
-  one_report_in reports_are_one scale joint g =
-      one_after (NarrowGain scale joint g) (λ m. ReportOf scale joint g) (one_narrow scale joint g) (λ m _. one_report hypers_are_one reports_are_one scale joint g)
+  one_report : OneReport → HasOne (ReportOn g h)
+  one_report reports_are_one =
+      one_after (NarrowGain g h) (λ m. PrintsSome (IsLeakage g h.scale h.inners) (report_text g)) one_narrow
+      (λ m _ r s p q. p.2 ∙ ap (λ (l : Leakage). prints (report_text g l)) (one_leakage reports_are_one g h.scale h.inners p.0 q.0 p.1 q.1) ∙ sym q.2)
 
-  one_attack_in : OneAttacks → (target : List Item) (scale : ℕ) (joint : List Cell) → IsShaped scale joint → (g : GainOf TableTree) → HasOne (AttackIn target scale joint g)
-  one_attack_in attacks_are_one target scale joint has g =
-      one_after (NarrowGain scale joint g) (λ m. AttackOf target scale joint g) (one_narrow scale joint g)
-      (λ m _. one_attack hypers_are_one attacks_are_one target scale joint g has)
+  one_attack : OneAttacks → IsProper h → HasOne (AttackOn g h)
+  one_attack attacks_are_one proper =
+      one_after (NarrowGain g h) (λ m. PrintsSome (AreAttacks g h.inners) (attack_text g h.target h.scale h.inners)) one_narrow
+      (λ m _ r s p q.
+      p.2 ∙ ap (λ (ts : List AttackTree). prints (attack_text g h.target h.scale h.inners ts))
+      (attacks_are_one (target_size h.target) h.scale g h.inners p.0 q.0 proper p.1 q.1) ∙ sym q.2)
 
 -- ---- verdicts and certificates
 
@@ -267,19 +252,16 @@ one_verdict_on verdicts_are_one json a b proper proper' r s h k =
     let verdict : h.0 ≡ k.0 = verdicts_are_one a b most_pivots h.0 k.0 proper proper' h.1 k.1 in
     one_verdict_shown json a b k.0 r s (subst (λ (v : Result VerdictTree RefineError). VerdictShown json a b v r) verdict h.2) k.2
 
--- what holds of the hypers of two programs holds of one pair
-module _ (hypers_are_one : HypersAreOne) (turns : ℕ) (p q : ProgramTree) (On : HyperTree → HyperTree → Step Shown)
-    (one_on : (a b : HyperTree) → AreHypers turns p q a b → HasOne (On a b)) where
-  one_of_hypers : HasOne (λ result. (a b : HyperTree) × AreHypers turns p q a b × On a b result)
-  one_of_hypers r s h k =
-      let a : h.0 ≡ k.0 = one_tree hypers_are_one turns p h.0 k.0 h.2.first k.2.first in
-      let b : h.1 ≡ k.1 = one_tree hypers_are_one turns q h.1 k.1 h.2.second k.2.second in
-      one_on k.0 k.1 k.2 r s (subst (λ (x : HyperTree). On k.0 x r) b (subst (λ (x : HyperTree). On x h.1 r) a h.3)) k.3
+-- and so one thing is made of it
+one_on_hyper : HypersAreOne → (turns : ℕ) (p : ProgramTree) (next : HyperTree → Step Shown) → ((h : HyperTree) → IsHyperTree turns p h → HasOne (next h)) → HasOne (OnHyper turns p next)
+one_on_hyper hypers_are_one turns p next one_next r s x y =
+    one_next y.0 y.1 r s (subst (λ (h : HyperTree). next h r) (one_tree hypers_are_one turns p x.0 y.0 x.1 y.1) x.2) y.2
 
 one_refine : HypersAreOne → OneVerdict → AreProper → (json : Bool) (turns : ℕ) (p q : ProgramTree) → IsClear turns p → IsClear turns q → HasOne (RefineOutcome json turns p q)
 one_refine hypers_are_one verdicts_are_one are_proper json turns p q clear clear' =
-    one_of_hypers hypers_are_one turns p q (VerdictOn json)
-    (λ a b are. one_verdict_on verdicts_are_one json a b (are_proper turns p a clear are.first) (are_proper turns q b clear' are.second))
+    one_on_hyper hypers_are_one turns p (λ a. OnHyper turns q (VerdictOn json a)) (λ a of_a.
+    one_on_hyper hypers_are_one turns q (VerdictOn json a)
+    (λ b of_b. one_verdict_on verdicts_are_one json a b (are_proper turns p a clear of_a) (are_proper turns q b clear' of_b)))
 
 one_mark : OneMark → (a b : HyperTree) (c : CertTree) → HasOne (MarkIn a b c)
 one_mark marks_are_one a b c r s h k =
@@ -298,7 +280,8 @@ one_cert file =
 
 one_mark_on : HypersAreOne → OneMark → (turns : ℕ) (p q : ProgramTree) (c : CertTree) → HasOne (MarkOn turns p q c)
 one_mark_on hypers_are_one marks_are_one turns p q c =
-    one_of_hypers hypers_are_one turns p q (λ a b. MarkIn a b c) (λ a b are. one_mark marks_are_one a b c)
+    one_on_hyper hypers_are_one turns p (λ a. OnHyper turns q (λ b. MarkIn a b c)) (λ a _.
+    one_on_hyper hypers_are_one turns q (λ b. MarkIn a b c) (λ b _. one_mark marks_are_one a b c))
 
 -- ---- capacities
 
@@ -349,13 +332,14 @@ module _ (made_are_one : (count turns : ℕ) → HasOne (MadeOutcome count turns
       (λ first _. one_after (Gives (initial q)) (λ q. ComposedIn way turns first q) (one_given (initial q)) (λ second _. one_composition rows_are_one way turns first second))
   one_command (Make count) has tables [] clear = made_are_one count turns
   one_command (Leak g) has tables (p ∷ []) clear =
-      one_after (GainIn p.target g tables) (ReportIn (run_scale turns p) (joint_of turns p)) (one_gain tables_are_one p.target g tables)
-      (λ t _. one_report_in hypers_are_one averages_are_one reports_are_one (run_scale turns p) (joint_of turns p) t)
+      one_after (GainIn p.target g tables) (λ t. OnHyper turns p (ReportOn t)) (one_gain tables_are_one p.target g tables)
+      (λ t _. one_on_hyper hypers_are_one turns p (ReportOn t) (λ h _. one_report averages_are_one t h reports_are_one))
   one_command (Attack g) has tables (p ∷ []) clear =
-      one_after (GainIn p.target g tables) (AttackIn p.target (run_scale turns p) (joint_of turns p)) (one_gain tables_are_one p.target g tables)
-      (λ t _. one_attack_in hypers_are_one averages_are_one attacks_are_one p.target (run_scale turns p) (joint_of turns p) (shaped are_proper turns p clear.0) t)
+      one_after (GainIn p.target g tables) (λ t. OnHyper turns p (AttackOn t)) (one_gain tables_are_one p.target g tables)
+      (λ t _. one_on_hyper hypers_are_one turns p (AttackOn t) (λ h is. one_attack averages_are_one t h attacks_are_one (are_proper turns p h clear.0 is)))
   one_command (Reach num den) has tables (p ∷ []) clear =
-      one_reach hypers_are_one reaches_are_one num den (run_scale turns p) (joint_of turns p) (omega (arith, has.0, has.1))
+      one_on_hyper hypers_are_one turns p (λ h. PrintsSome (IsReach h.scale h.inners num den) (reach_text h.scale))
+      (λ h _. one_reach reaches_are_one num den h (omega (arith, has.0, has.1)))
   one_command (Refine json) has tables (p ∷ q ∷ []) clear = one_refine hypers_are_one verdicts_are_one are_proper json turns p q clear.0 clear.1.0
   one_command (Check name) has (file ∷ []) (p ∷ q ∷ []) clear =
       one_after (CertIn file) (MarkOn turns p q) (one_cert file) (λ c _. one_mark_on hypers_are_one marks_are_one turns p q c)

@@ -4,7 +4,9 @@ use Rattle.std.proofs.lemmas.Bool.{lt-leb, cases_eq, cases_lt}
 use Rattle.kf_frac.specs.Fractions.{limit}
 use Rattle.kf_refine.proofs.SomeTargets.{Decided, decided_by, decided_both, same_targets}
 use Rattle.kf_capacity.specs.Grids.{ChannelTree, GridTree, channel_grid}
-use Rattle.kf_capacity.specs.Compositions.{IsCascade, IsParallel, IsChoice, HaveSameRows, HaveOtherRows, fits, places, cells_of, cascade_grid, parallel_grid, choice_grid, ComposeFault}
+use Rattle.kf_capacity.specs.Compositions.{fits, places, cells_of, cascade_grid, parallel_grid, choice_grid, ComposeFault}
+use Rattle.kf_capacity.specs.Cases.{CascadeCase, ParallelCase, ChoiceCase, HaveSameRows, HaveOtherRows}
+use Rattle.kf_capacity.proofs.Cases.{cascade_case, cascade_told, parallel_case, parallel_told, choice_case, choice_told}
 use Rattle.kf_capacity.specs.Compositions as compose
 use Rattle.kf_load.specs.Steps.{Refused}
 use Rattle.kf_top.specs.Answer.{Composed, composed_grid}
@@ -53,19 +55,19 @@ module _ (c d : ChannelTree) where
   fitting : fits c d ≡ true → cascade_fitting ≡ cascade_result
   fitting fit = ap (λ b. if b then cascade_fitting else Err compose.Fit) (sym fit)
 
-  cascade_is : (r : Result GridTree ComposeFault) → IsCascade c d r → r ≡ cascade_result
+  cascade_is : (r : Result GridTree ComposeFault) → CascadeCase c d r → r ≡ cascade_result
   cascade_is (Ok g) is =
       ap Ok is.2 ∙ where_few cascaded.over limit (Ok cascaded) (Err compose.Wide) (subst (λ (h : GridTree). h.over ≤ limit) is.2 is.1) ∙ fitting is.0
   cascade_is (Err compose.Fit) is = ap (λ b. if b then cascade_fitting else Err compose.Fit) (sym is)
   cascade_is (Err compose.Wide) is = where_many cascaded.over limit (Ok cascaded) (Err compose.Wide) is.1 ∙ fitting is.0
   cascade_is (Err e) is = absurd is
 
-  some_cascade : IsCascade c d cascade_result
+  some_cascade : CascadeCase c d cascade_result
   some_cascade =
       ⊎_elim
-      (λ (fit : fits c d ≡ true). subst (IsCascade c d) (fitting fit)
-      (either_bound cascaded.over limit (Ok cascaded) (Err compose.Wide) (IsCascade c d) (λ few. (fit, few, refl)) (λ many. (fit, many))))
-      (λ (no' : fits c d ≡ false). subst (IsCascade c d) (ap (λ b. if b then cascade_fitting else Err compose.Fit) (sym no')) no')
+      (λ (fit : fits c d ≡ true). subst (CascadeCase c d) (fitting fit)
+      (either_bound cascaded.over limit (Ok cascaded) (Err compose.Wide) (CascadeCase c d) (λ few. (fit, few, refl)) (λ many. (fit, many))))
+      (λ (no' : fits c d ≡ false). subst (CascadeCase c d) (ap (λ b. if b then cascade_fitting else Err compose.Fit) (sym no')) no')
       (either_way (fits c d))
 
 -- ---- two channels about the same secrets, or not
@@ -127,7 +129,7 @@ module _ (c d : ChannelTree) where
   parallel_same : HaveSameRows c d → parallel_alike ≡ parallel_result
   parallel_same alike = where_same (Err compose.Targets) (Err compose.Rows) parallel_alike alike standing
 
-  parallel_is : (r : Result GridTree ComposeFault) → IsParallel c d r → r ≡ parallel_result
+  parallel_is : (r : Result GridTree ComposeFault) → ParallelCase c d r → r ≡ parallel_result
   parallel_is (Ok g) is =
       ap Ok is.3 ∙ where_few paired.over limit (Ok paired) (Err compose.Wide) (subst (λ (h : GridTree). h.over ≤ limit) is.3 is.2)
       ∙ where_few (cells_of c d) 4000000 parallel_few parallel_many is.1 ∙ parallel_same is.0
@@ -139,11 +141,11 @@ module _ (c d : ChannelTree) where
       where_many paired.over limit (Ok paired) (Err compose.Wide) is.2 ∙ where_few (cells_of c d) 4000000 parallel_few parallel_many is.1 ∙ parallel_same is.0
   parallel_is (Err e) is = absurd is
 
-  some_parallel : IsParallel c d parallel_result
+  some_parallel : ParallelCase c d parallel_result
   some_parallel =
-      each_standing (Err compose.Targets) (Err compose.Rows) parallel_alike (IsParallel c d) (λ differ. differ) (λ other. other)
-      (λ alike. either_bound (cells_of c d) 4000000 parallel_few parallel_many (IsParallel c d)
-      (λ few. either_bound paired.over limit (Ok paired) (Err compose.Wide) (IsParallel c d) (λ narrow. (alike, few, narrow, refl)) (λ wide. (alike, few, wide)))
+      each_standing (Err compose.Targets) (Err compose.Rows) parallel_alike (ParallelCase c d) (λ differ. differ) (λ other. other)
+      (λ alike. either_bound (cells_of c d) 4000000 parallel_few parallel_many (ParallelCase c d)
+      (λ few. either_bound paired.over limit (Ok paired) (Err compose.Wide) (ParallelCase c d) (λ narrow. (alike, few, narrow, refl)) (λ wide. (alike, few, wide)))
       (λ many. (alike, many, refl)))
       standing
 
@@ -162,7 +164,7 @@ module _ (c d : ChannelTree) where
     choice_same : HaveSameRows c d → choice_alike ≡ choice_result
     choice_same alike = where_same (Err compose.Targets) (Err compose.Rows) choice_alike alike standing
 
-    choice_is : (r : Result GridTree ComposeFault) → IsChoice num den c d r → r ≡ choice_result
+    choice_is : (r : Result GridTree ComposeFault) → ChoiceCase num den c d r → r ≡ choice_result
     choice_is (Ok g) is =
         ap Ok is.2 ∙ where_few chosen.over limit (Ok chosen) (Err compose.Wide) (subst (λ (h : GridTree). h.over ≤ limit) is.2 is.1) ∙ choice_same is.0
     choice_is (Err compose.Targets) is = where_targets (Err compose.Targets) (Err compose.Rows) choice_alike is standing
@@ -170,10 +172,10 @@ module _ (c d : ChannelTree) where
     choice_is (Err compose.Wide) is = where_many chosen.over limit (Ok chosen) (Err compose.Wide) is.1 ∙ choice_same is.0
     choice_is (Err e) is = absurd is
 
-    some_choice : IsChoice num den c d choice_result
+    some_choice : ChoiceCase num den c d choice_result
     some_choice =
-        each_standing (Err compose.Targets) (Err compose.Rows) choice_alike (IsChoice num den c d) (λ differ. differ) (λ other. other)
-        (λ alike. either_bound chosen.over limit (Ok chosen) (Err compose.Wide) (IsChoice num den c d) (λ narrow. (alike, narrow, refl)) (λ wide. (alike, wide)))
+        each_standing (Err compose.Targets) (Err compose.Rows) choice_alike (ChoiceCase num den c d) (λ differ. differ) (λ other. other)
+        (λ alike. either_bound chosen.over limit (Ok chosen) (Err compose.Wide) (ChoiceCase num den c d) (λ narrow. (alike, narrow, refl)) (λ wide. (alike, wide)))
         standing
 
 -- ---- in each way
@@ -183,12 +185,22 @@ same_told : {R : Type 0} (told : R → Result GridTree Refused) (only a b : R) (
 same_told told only a b r s p q x y = x ∙ ap told (p ∙ sym q) ∙ sym y
 
 pub one_composed : (way : Composition) (c d : ChannelTree) (r s : Result GridTree Refused) → Composed way c d r → Composed way c d s → r ≡ s
-one_composed Cascade c d r s h k = same_told composed_grid (cascade_result c d) h.0 k.0 r s (cascade_is c d h.0 h.1) (cascade_is c d k.0 k.1) h.2 k.2
-one_composed Parallel c d r s h k = same_told composed_grid (parallel_result c d) h.0 k.0 r s (parallel_is c d h.0 h.1) (parallel_is c d k.0 k.1) h.2 k.2
+one_composed Cascade c d r s h k =
+    same_told composed_grid (cascade_result c d) h.0 k.0 r s
+    (cascade_is c d h.0 (cascade_case c d h.0 h.1)) (cascade_is c d k.0 (cascade_case c d k.0 k.1)) h.2 k.2
+one_composed Parallel c d r s h k =
+    same_told composed_grid (parallel_result c d) h.0 k.0 r s
+    (parallel_is c d h.0 (parallel_case c d h.0 h.1)) (parallel_is c d k.0 (parallel_case c d k.0 k.1)) h.2 k.2
 one_composed (Choice num den) c d r s h k =
-    same_told composed_grid (choice_result c d num den) h.0 k.0 r s (choice_is c d num den h.0 h.1) (choice_is c d num den k.0 k.1) h.2 k.2
+    same_told composed_grid (choice_result c d num den) h.0 k.0 r s
+    (choice_is c d num den h.0 (choice_case c d num den h.0 h.1)) (choice_is c d num den k.0 (choice_case c d num den k.0 k.1)) h.2 k.2
 
 pub some_composed : (way : Composition) (c d : ChannelTree) → (r : Result GridTree Refused) × Composed way c d r
-some_composed Cascade c d = (composed_grid (cascade_result c d), (cascade_result c d, some_cascade c d, refl))
-some_composed Parallel c d = (composed_grid (parallel_result c d), (parallel_result c d, some_parallel c d, refl))
-some_composed (Choice num den) c d = (composed_grid (choice_result c d num den), (choice_result c d num den, some_choice c d num den, refl))
+some_composed Cascade c d =
+    (composed_grid (cascade_result c d), (cascade_result c d, cascade_told c d (cascade_result c d) (some_cascade c d), refl))
+some_composed Parallel c d =
+    (composed_grid (parallel_result c d), (parallel_result c d, parallel_told c d (parallel_result c d) (some_parallel c d), refl))
+some_composed (Choice num den) c d = (
+  composed_grid (choice_result c d num den),
+  (choice_result c d num den, choice_told c d num den (choice_result c d num den) (some_choice c d num den), refl),
+)

@@ -126,18 +126,6 @@ pub record IsClear (turns : ℕ) (p : ProgramTree) : Type 0 where
 abbrev pub AreProper : Type 0
 AreProper = (turns : ℕ) (p : ProgramTree) (h : HyperTree) → IsClear turns p → IsHyperTree turns p h → IsProper h
 
--- the hyper of a joint has a shape
-abbrev pub IsShaped : ℕ → List Cell → Type 0
-IsShaped scale joint = (size : ℕ) × ((inners : List Inner) → IsHyperOf joint inners → IsShape size scale inners)
-
--- that of a clear program has one
-pub shaped : AreProper → (turns : ℕ) (p : ProgramTree) → IsClear turns p → IsShaped (run_scale turns p) (joint_of turns p)
-shaped are_proper turns p clear = (
-  target_size p.target,
-  λ inners is. are_proper turns p (record { target = p.target; scale = run_scale turns p; inners = inners }) clear
-      (record { target = refl; scale = refl; is_hyper = is }),
-)
-
 module _ (whole : JointIsWhole) (scales : ScalesArePositive) (least : CommonScaleIsLeast) where
   inners_shaped : (turns : ℕ) (p : ProgramTree) (inners : List Inner) → IsClear turns p → IsHyperOf (joint_of turns p) inners → IsShape (target_size p.target) (run_scale turns p) inners
   inners_shaped turns p inners clear is =

@@ -8,10 +8,10 @@ use Rattle.kf_cert.specs.CertTexts.{cert_text}
 use Rattle.kf_text.specs.VerdictTexts.{verdict_text}
 use Rattle.kf_load.specs.Steps.{Refused}
 use Rattle.kf_load.specs.Texts.{File}
-use Rattle.kf_top.specs.Answer.{CommandOutcome, Shown, VerdictShown, is_yes, prints, verdict_refusal}
+use Rattle.kf_top.specs.Answer.{CommandOutcome, Shown, VerdictShown, prints, verdict_refusal}
 use Rattle.kf_top.specs.Ends.{Answer, names_of, settled}
 use Rattle.kf_top.specs.Outcome.{TaskOutcome}
-use Rattle.kf_top.specs.Steps.{showing, ClearedOf}
+use Rattle.kf_top.specs.Steps.{showing, ClearedOf, is_yes}
 use Rattle.kf_words.specs.Task.{Command, Task, tables_of, task_of}
 use Rattle.kf_laws.specs.Held.{IsAnswerOver, held}
 use Rattle.kf_laws.specs.Refusals.{IsReasoned, Reason, ReadFailed, TooLong, BadText, BadRun, WideScale, NotInitial, BadTable, WideGain, OtherTarget, ManyCells, WideTableau, ManyPivots, BadCert, WideCert, OtherRows, NoFit, ManyChannelCells, WideChannel, ManyStores, FewStatements, RefusalsAreReasoned, refusal_for}

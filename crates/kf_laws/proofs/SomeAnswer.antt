@@ -22,14 +22,17 @@ use Rattle.kf_core.specs.Scale.{scale_of as run_scale}
 use Rattle.kf_capacity.specs.Grids.{ChannelTree, channel_grid}
 use Rattle.kf_frac.specs.Fractions.{limit}
 use Rattle.kf_value.specs.Targets.{Item}
+use Rattle.kf_value.specs.Numbers.{target_size}
 use Rattle.kf_gain.specs.declared.error.TableError.{TableError}
 use Rattle.kf_gain.specs.Gains.{GainOf, Bayes, Tries, Guessing, Table, TableTree, over_of}
 use Rattle.kf_gain.specs.Laws.{HasActions, SomeAverage, SomeReport}
 use Rattle.kf_gain.specs.TableLaws.{SomeTable, TablesHaveActions}
 use Rattle.kf_gain.specs.Tables.{IsTable}
 use Rattle.kf_gain.specs.Vulnerabilities.{width}
-use Rattle.kf_report.specs.Reports.{Leakage}
+use Rattle.kf_report.specs.Reports.{Leakage, IsLeakage}
 use Rattle.kf_attack.specs.Laws.{SomeAttacks, SomeReach}
+use Rattle.kf_attack.specs.Views.{AreAttacks}
+use Rattle.kf_attack.specs.Attacks.{IsReach}
 use Rattle.kf_make.specs.Making.{make_source}
 use Rattle.kf_prior.specs.FullSources.{full_source}
 use Rattle.kf_prior.specs.Laws.{FullIsBuilt}
@@ -48,18 +51,18 @@ use Rattle.kf_cert.specs.Laws.{ReadSound, SomeMark}
 use Rattle.kf_cert.specs.Views.{IsSound}
 use Rattle.kf_cert.specs.declared.cert.CertError.{CertError}
 use Rattle.kf_load.specs.Steps.{Refused, Step, After, Each, Gives, refusal}
-use Rattle.kf_load.specs.Texts.{File, Text, Fault, fault, token_fault, syntax_fault, type_fault, IsBad, TokensOf, SourceOf, ProgramOf, TextWith, TypedOf, TextOf, cleared, long_enough, LongCleared, source_of}
-use Rattle.kf_load.specs.Refusals.{bad_text}
-use Rattle.kf_top.specs.Answer.{usage, prints, shows, other_target, wide_channel, HyperOf, MadeOutcome, initial, ChannelOf, IsChannelTree, is_narrow, CapacityIn, Composed, algebra_shown, ComposedIn, table_word, bad_file, TableOf, GainIn, NarrowGain, ReportOf, ReportIn, AttackOf, AttackIn, ReachOf, IsHyperTree, verdict_refusal, is_yes, VerdictShown, RefineOutcome, CertIn, mark_shown, MarkIn, MarkOn, CommandOutcome}
-use Rattle.kf_top.specs.Outcome.{few_stores, FullOf, ReadyOf, TaskOutcome}
+use Rattle.kf_load.specs.Texts.{File, Text, token_fault, syntax_fault, type_fault, IsBad, TextWith, TypedOf, TextOf, cleared, LongCleared, source_of}
+use Rattle.kf_load.specs.Refusals.{bad_text, Fault, fault, TokensOf, SourceOf, ProgramOf, long_enough}
+use Rattle.kf_top.specs.Answer.{Shown, usage, prints, shows, other_target, wide_channel, HyperOf, initial, IsChannelTree, is_narrow, Composed, ComposedIn, table_word, bad_file, TableOf, GainIn, NarrowGain, OnHyper, PrintsSome, ReportOn, AttackOn, IsHyperTree, verdict_refusal, VerdictShown, RefineOutcome, CertIn, mark_shown, MarkIn, MarkOn, CommandOutcome}
+use Rattle.kf_top.specs.Outcome.{few_stores, ReadyOf, TaskOutcome}
 use Rattle.kf_top.specs.Ends.{Answer, settled}
-use Rattle.kf_top.specs.Steps.{TracesOf, TrailOf, MadeOf, BlameOf, TableIn, cert_read, most_pivots, IsAnswer, FullTexts, ClearedOf, SomeOutcome}
+use Rattle.kf_top.specs.Steps.{TracesOf, TrailOf, MadeOf, BlameOf, TableIn, cert_read, most_pivots, IsAnswer, FullTexts, ClearedOf, SomeOutcome, MadeOutcome, ChannelOf, CapacityIn, algebra_shown, is_yes, FullOf, VerdictOn}
 use Rattle.kf_words.specs.Jobs.{IsInRange}
 use Rattle.kf_words.specs.Laws.{TasksInRange}
 use Rattle.kf_words.specs.Task.{Command, Composition, Hyper, Traces, Channel, Trail, Capacity, Compose, Leak, Attack, Reach, Make, Refine, Check, Covers, Quiet, Blame, Task, task_of}
 use Rattle.kf_laws.proofs.ClearedPrograms.{AreClear, IsTyped, every_done, every_one, few_typed, texts_typed}
 use Rattle.kf_laws.proofs.OneComposed.{some_composed}
-use Rattle.kf_laws.proofs.ProperHypers.{AreProper, IsClear, IsShaped, shaped}
+use Rattle.kf_laws.proofs.ProperHypers.{AreProper, IsClear}
 use Rattle.kf_text.specs.Texts.{hyper_text, trace_text, channel_text, trail_text, make_text}
 use Rattle.kf_text.specs.CapacityTexts.{capacity_text}
 use Rattle.kf_text.specs.ReportTexts.{report_text}
@@ -147,24 +150,24 @@ module _ (hypers_exist : HypersExist) where
   some_made_hyper : (count scale : ℕ) (joint : List Cell) → HasSome (MadeOf count scale joint)
   some_made_hyper count scale joint = let h = hypers_exist joint in (prints (make_text count scale h.0), (h.0, h.1, refl))
 
-  some_report : SomeReport → (scale : ℕ) (joint : List Cell) (g : GainOf TableTree) → HasActions g → HasSome (ReportOf scale joint g)
-  some_report reports_exist scale joint g has =
-      let h = hypers_exist joint in
-      let r = reports_exist g h.0 has in
-      let l : Leakage = record { prior = r.0.0; posterior = r.1.0; whole = scale * over_of g } in
-      (prints (report_text g l), (h.0, h.1, (l, record { prior = r.0.1; posterior = r.1.1; whole = refl }, refl)))
+  -- a program has a hyper
+  some_tree : (turns : ℕ) (p : ProgramTree) → (h : HyperTree) × IsHyperTree turns p h
+  some_tree turns p =
+      let h = hypers_exist (joint_of turns p) in
+      let tree : HyperTree = record { target = p.target; scale = run_scale turns p; inners = h.0 } in
+      (tree, record { target = refl; scale = refl; is_hyper = h.1 })
 
-  some_attack : SomeAttacks → (target : List Item) (scale : ℕ) (joint : List Cell) (g : GainOf TableTree) → HasActions g → IsShaped scale joint → HasSome (AttackOf target scale joint g)
-  some_attack attacks_exist target scale joint g has is =
-      let h = hypers_exist joint in
-      let attacks = attacks_exist is.0 scale g h.0 (is.1 h.0 h.1) has in
-      (prints (attack_text g target scale h.0 attacks.0), (h.0, h.1, (attacks.0, attacks.1, refl)))
+  -- and so something is made of it
+  some_on_hyper : (turns : ℕ) (p : ProgramTree) (next : HyperTree → Step Shown) → ((h : HyperTree) → IsHyperTree turns p h → HasSome (next h)) → HasSome (OnHyper turns p next)
+  some_on_hyper turns p next some_next =
+      let h = some_tree turns p in
+      let s = some_next h.0 h.1 in
+      (s.0, (h.0, h.1, s.1))
 
-  some_reach : SomeReach → (num den scale : ℕ) (joint : List Cell) → 1 ≤ num → num ≤ den → IsShaped scale joint → HasSome (ReachOf num den scale joint)
-  some_reach reaches_exist num den scale joint some few is =
-      let h = hypers_exist joint in
-      let r = reaches_exist is.0 scale num den h.0 (is.1 h.0 h.1) some few in
-      (prints (reach_text scale r.0), (h.0, h.1, (r.0, r.1, refl)))
+some_reach : SomeReach → (num den : ℕ) (h : HyperTree) → 1 ≤ num → num ≤ den → IsProper h → HasSome (PrintsSome (IsReach h.scale h.inners num den) (reach_text h.scale))
+some_reach reaches_exist num den h some few proper =
+    let r = reaches_exist (target_size h.target) h.scale num den h.inners proper some few in
+    (prints (reach_text h.scale r.0), (r.0, r.1, refl))
 
 some_traces : RowsExist → (target : List Item) (scale : ℕ) (joint : List Cell) → HasSome (TracesOf target scale joint)
 some_traces rows_exist target scale joint = let rows = rows_exist joint in (prints (trace_text target scale rows.0), (rows.0, rows.1, refl))
@@ -214,33 +217,30 @@ module _ (tables_exist : SomeTable) where
       some_after (TableIn target file) (λ t. Gives (Ok (Table t))) (λ t _. some_given (Ok (Table t))) (some_table target file)
   some_gain target (Table name) tables = some_given (Err usage)
 
--- the laws of hypers and of their sums: the width of a gain, where it fits
-module _ (hypers_exist : HypersExist) (averages_exist : SomeAverage) where
-  some_narrow : (scale : ℕ) (joint : List Cell) (g : GainOf TableTree) → HasSome (NarrowGain scale joint g)
-  some_narrow scale joint g =
-      let h = hypers_exist joint in
-      let a = averages_exist h.0 in
+-- the law of sums: the width of a gain, where it fits
+module _ (averages_exist : SomeAverage) (g : GainOf TableTree) (h : HyperTree) (has : HasActions g) where
+  some_narrow : HasSome (NarrowGain g h)
+  some_narrow =
+      let a = averages_exist h.inners in
       let m = width g (length a.0) in (
-        (if nat_le (scale * m) limit then Ok m else Err (refusal 7 [] (codes "gain passes 2^127 - 1"))),
-        (m, record { inners = h.0; is_hyper = h.1; is_width = record { average = a.0; is_average = a.1; is = refl } }, refl),
+        (if nat_le (h.scale * m) limit then Ok m else Err (refusal 7 [] (codes "gain passes 2^127 - 1"))),
+        (m, record { average = a.0; is_average = a.1; is = refl }, refl),
       )
 
-  some_report_in : SomeReport → (scale : ℕ) (joint : List Cell) (g : GainOf TableTree) → HasActions g → HasSome (ReportIn scale joint g)
-  some_report_in reports_exist scale joint g has =
-      some_after (NarrowGain scale joint g) (λ m. ReportOf scale joint g) (λ m _. some_report hypers_exist reports_exist scale joint g has) (some_narrow scale joint g)
+  some_report : SomeReport → HasSome (ReportOn g h)
+  some_report reports_exist =
+      let r = reports_exist g h.inners has in
+      let l : Leakage = record { prior = r.0.0; posterior = r.1.0; whole = h.scale * over_of g } in
+      some_after (NarrowGain g h) (λ m. PrintsSome (IsLeakage g h.scale h.inners) (report_text g))
+      (λ m _. (prints (report_text g l), (l, record { prior = r.0.1; posterior = r.1.1; whole = refl }, refl))) some_narrow
 
-  some_attack_in : SomeAttacks → (target : List Item) (scale : ℕ) (joint : List Cell) → IsShaped scale joint → (g : GainOf TableTree) → HasActions g → HasSome (AttackIn target scale joint g)
-  some_attack_in attacks_exist target scale joint is g has =
-      some_after (NarrowGain scale joint g) (λ m. AttackOf target scale joint g) (λ m _. some_attack hypers_exist attacks_exist target scale joint g has is) (some_narrow scale joint g)
+  some_attack : SomeAttacks → IsProper h → HasSome (AttackOn g h)
+  some_attack attacks_exist proper =
+      let attacks = attacks_exist (target_size h.target) h.scale g h.inners proper has in
+      some_after (NarrowGain g h) (λ m. PrintsSome (AreAttacks g h.inners) (attack_text g h.target h.scale h.inners))
+      (λ m _. (prints (attack_text g h.target h.scale h.inners attacks.0), (attacks.0, attacks.1, refl))) some_narrow
 
 -- ---- verdicts and certificates
-
--- a program has a hyper
-some_tree : HypersExist → (turns : ℕ) (p : ProgramTree) → (h : HyperTree) × IsHyperTree turns p h
-some_tree hypers_exist turns p =
-    let h = hypers_exist (joint_of turns p) in
-    let tree : HyperTree = record { target = p.target; scale = run_scale turns p; inners = h.0 } in
-    (tree, record { target = refl; scale = refl; is_hyper = h.1 })
 
 some_verdict_shown : VerdictsProve → (json : Bool) (a b : HyperTree) → IsProper a → IsProper b → (r : Result VerdictTree RefineError) → IsVerdict a b most_pivots r → HasSome (VerdictShown json a b r)
 some_verdict_shown verdicts_prove json a b proper proper' (Ok v) is =
@@ -249,13 +249,13 @@ some_verdict_shown verdicts_prove json a b proper proper' (Err e) is = (Err (ver
 
 some_refine : HypersExist → SomeVerdict → VerdictsProve → AreProper → (json : Bool) (turns : ℕ) (p q : ProgramTree) → IsClear turns p → IsClear turns q → HasSome (RefineOutcome json turns p q)
 some_refine hypers_exist verdicts_exist verdicts_prove are_proper json turns p q clear clear' =
-    let a = some_tree hypers_exist turns p in
-    let b = some_tree hypers_exist turns q in
-    let proper = are_proper turns p a.0 clear a.1 in
-    let proper' = are_proper turns q b.0 clear' b.1 in
-    let v = verdicts_exist a.0 b.0 most_pivots proper proper' in
-    let s = some_verdict_shown verdicts_prove json a.0 b.0 proper proper' v.0 v.1 in
-    (s.0, (a.0, b.0, record { first = a.1; second = b.1 }, (v.0, v.1, s.1)))
+    some_on_hyper hypers_exist turns p (λ a. OnHyper turns q (VerdictOn json a)) (λ a of_a.
+    some_on_hyper hypers_exist turns q (VerdictOn json a) (λ b of_b.
+    let proper = are_proper turns p a clear of_a in
+    let proper' = are_proper turns q b clear' of_b in
+    let v = verdicts_exist a b most_pivots proper proper' in
+    let s = some_verdict_shown verdicts_prove json a b proper proper' v.0 v.1 in
+    (s.0, (v.0, v.1, s.1))))
 
 some_cert : (file : File) → HasSome (CertIn file)
 some_cert file =
@@ -279,10 +279,9 @@ module _ (marks_exist : SomeMark) (a b : HyperTree) (c : CertTree) where
 module _ (hypers_exist : HypersExist) (read_sound : ReadSound) (marks_exist : SomeMark) (are_proper : AreProper) where
   some_mark_on : (turns : ℕ) (p q : ProgramTree) → IsClear turns p → IsClear turns q → (c : CertTree) → IsSound c → HasSome (MarkOn turns p q c)
   some_mark_on turns p q clear clear' c sound =
-      let a = some_tree hypers_exist turns p in
-      let b = some_tree hypers_exist turns q in
-      let m = some_mark marks_exist a.0 b.0 c (are_proper turns p a.0 clear a.1) (are_proper turns q b.0 clear' b.1) sound in
-      (m.0, (a.0, b.0, record { first = a.1; second = b.1 }, m.1))
+      some_on_hyper hypers_exist turns p (λ a. OnHyper turns q (λ b. MarkIn a b c)) (λ a of_a.
+      some_on_hyper hypers_exist turns q (λ b. MarkIn a b c)
+      (λ b of_b. some_mark marks_exist a b c (are_proper turns p a clear of_a) (are_proper turns q b clear' of_b) sound))
 
   some_check : (file : File) (turns : ℕ) (p q : ProgramTree) → IsClear turns p → IsClear turns q → HasSome (After (CertIn file) (MarkOn turns p q))
   some_check file turns p q clear clear' =
@@ -335,16 +334,17 @@ module _ (made_exist : (count turns : ℕ) → HasSome (MadeOutcome count turns)
       (some_given (initial p))
   some_command (Make count) has tables [] clear = made_exist count turns
   some_command (Leak g) has tables (p ∷ []) clear =
-      some_after (GainIn p.target g tables) (ReportIn (run_scale turns p) (joint_of turns p))
-      (λ t is. some_report_in hypers_exist averages_exist reports_exist (run_scale turns p) (joint_of turns p) t (read_gain tables_have_actions p.target g tables t is))
+      some_after (GainIn p.target g tables) (λ t. OnHyper turns p (ReportOn t))
+      (λ t is. some_on_hyper hypers_exist turns p (ReportOn t) (λ h _. some_report averages_exist t h (read_gain tables_have_actions p.target g tables t is) reports_exist))
       (some_gain tables_exist p.target g tables)
   some_command (Attack g) has tables (p ∷ []) clear =
-      some_after (GainIn p.target g tables) (AttackIn p.target (run_scale turns p) (joint_of turns p))
-      (λ t is. some_attack_in hypers_exist averages_exist attacks_exist p.target (run_scale turns p) (joint_of turns p) (shaped are_proper turns p clear.0) t
-      (read_gain tables_have_actions p.target g tables t is))
+      some_after (GainIn p.target g tables) (λ t. OnHyper turns p (AttackOn t))
+      (λ t is. some_on_hyper hypers_exist turns p (AttackOn t)
+      (λ h of_p. some_attack averages_exist t h (read_gain tables_have_actions p.target g tables t is) attacks_exist (are_proper turns p h clear.0 of_p)))
       (some_gain tables_exist p.target g tables)
   some_command (Reach num den) has tables (p ∷ []) clear =
-      some_reach hypers_exist reaches_exist num den (run_scale turns p) (joint_of turns p) has.0 has.1 (shaped are_proper turns p clear.0)
+      some_on_hyper hypers_exist turns p (λ h. PrintsSome (IsReach h.scale h.inners num den) (reach_text h.scale))
+      (λ h is. some_reach reaches_exist num den h has.0 has.1 (are_proper turns p h clear.0 is))
   some_command (Refine json) has tables (p ∷ q ∷ []) clear = some_refine hypers_exist verdicts_exist verdicts_prove are_proper json turns p q clear.0 clear.1.0
   some_command (Check name) has (file ∷ []) (p ∷ q ∷ []) clear = some_check hypers_exist read_sound marks_exist are_proper file turns p q clear.0 clear.1.0
   some_command Covers has tables (p ∷ q ∷ []) clear = some_refine hypers_exist verdicts_exist verdicts_prove are_proper false turns p q clear.0 clear.1.0

@@ -14,9 +14,9 @@ use Rattle.kf_order.specs.Structure.{AreShown, HaveOneMatrix, HaveOnePrior, IsSt
 use Rattle.kf_text.specs.Texts.{channel_text}
 use Rattle.kf_load.specs.Steps.{After, Each, Gives, Refused, Step, refusal}
 use Rattle.kf_load.specs.Texts.{File, Text, TextOf, cleared}
-use Rattle.kf_top.specs.Answer.{ChannelOf, IsChannelTree, IsHyperTree, Shown, VerdictShown, initial, is_yes, prints}
+use Rattle.kf_top.specs.Answer.{IsChannelTree, IsHyperTree, Shown, VerdictShown, initial, prints}
 use Rattle.kf_top.specs.Ends.{Answer}
-use Rattle.kf_top.specs.Steps.{showing, ClearedOf}
+use Rattle.kf_top.specs.Steps.{showing, ClearedOf, ChannelOf, is_yes}
 use Rattle.kf_words.specs.Task.{Channel, Command, Refine, on_files}
 use Rattle.kf_words.specs.OfWords.{on_file}
 use Rattle.kf_laws.specs.Held.{held, held_file}
@@ -134,20 +134,19 @@ module _ (one_cleared : (command : Command) (turns : ℕ) (programs : List File)
         command_shown reasoned contents one_cleared is.words (on_files (Refine is.json) (first ∷ second ∷ []) turns) answer (is.p ∷ is.q ∷ []) is.asks is.is_answer is.shown are in
         let refined = w.2 in
         let a = refined.0 in
-        let b = refined.1 in
-        let hypers = refined.2 in
-        let v = by_verdict is.json a b refined.3.0 answer w.0 w.1 refined.3.2 in
+        let b = refined.2.0 in
+        let v = by_verdict is.json a b refined.2.2.0 answer w.0 w.1 refined.2.2.2 in
         record {
           a = a;
           b = b;
           v = v.0;
           of_a = joint_of turns is.p;
           of_b = joint_of turns is.q;
-          first = are_shown contents turns first is.p c a is.of_first hypers.first;
-          second = are_shown contents turns second is.q d b is.of_second hypers.second;
+          first = are_shown contents turns first is.p c a is.of_first refined.1;
+          second = are_shown contents turns second is.q d b is.of_second refined.2.1;
           one_prior =
-              subst (λ (m : ℕ). HaveOnePrior m c b.scale d) (sym hypers.first.scale)
-              (subst (λ (n : ℕ). HaveOnePrior (scale_of turns is.p) c n d) (sym hypers.second.scale) is.one_prior);
+              subst (λ (m : ℕ). HaveOnePrior m c b.scale d) (sym refined.1.scale)
+              (subst (λ (n : ℕ). HaveOnePrior (scale_of turns is.p) c n d) (sym refined.2.1.scale) is.one_prior);
           proves = v.1;
           status_is = v.2;
         }

@@ -1,13 +1,15 @@
 -- The task of any words has as many programs as its command asks for.
-use Rattle.std.proofs.Common.{◌≡◌, ℕ, ◌+◌, Bool, true, false, ◌&&◌, List, [], ◌∷◌, find, length, ◌==◌, Option, None, Some, option_map, option_and_then, if◌then◌else◌, refl, subst, arith}
+use Rattle.std.proofs.Common.{◌≡◌, ℕ, ◌+◌, ◌-◌, Bool, true, false, ◌&&◌, List, [], ◌∷◌, take, length, ◌==◌, Option, None, Some, option_map, option_and_then, if◌then◌else◌, refl, subst, arith}
 use Rattle.std.specs.List.{AllByRecursion as Every}
+use Rattle.std.specs.Map.{lookup}
 use Rattle.std.specs.Str.{bytes_eq}
+use Rattle.std.proofs.lemmas.List.{length-take-le}
 use Rattle.kf_gain.specs.Gains.{GainOf}
 use Rattle.kf_words.specs.Arguments.{Arguments, arguments_of}
 use Rattle.kf_words.specs.GainWords.{gain_named}
 use Rattle.kf_words.specs.Numbers.{block_of, probability_of, threshold_of}
-use Rattle.kf_words.specs.Task.{Command, Hyper, Traces, Channel, Trail, Capacity, Compose, Cascade, Parallel, Choice, Leak, Attack, Reach, Make, Refine, Check, Covers, Quiet, Blame, Task, CommandRow, on_files, files_only, with_gain, make_row, refine_row, check_row, with_pair, commands, row_of, options_fit, turns_of, row_task, task_of, task_of_values, observations_of, but_last}
-use Rattle.kf_words.specs.OfWords.{first_of, others_of, last_of, task_of_arguments}
+use Rattle.kf_words.specs.Task.{Command, Hyper, Traces, Channel, Trail, Capacity, Compose, Cascade, Parallel, Choice, Leak, Attack, Reach, Make, Refine, Check, Covers, Quiet, Blame, Task, CommandRow, on_files, files_only, with_gain, with_pair, commands, options_fit, row_task, task_of, task_of_values, observations_of}
+use Rattle.kf_words.specs.OfWords.{first_of, others_of, last_of, task_of_arguments, make_row, refine_row, check_row, row_of, turns_of}
 
 -- how many programs a command asks for
 abbrev pub programs_asked : Command → ℕ
@@ -75,20 +77,15 @@ check_fits values arguments ask turns long is =
     let cert = mapped (λ cert. on_files (Check cert) (others_of values)) (first_of values) ask is in
     asked_fits (Check cert.0) (others_of values) ask turns cert.2 (others_two values long)
 
-but_one : (word : List ℕ) (words : List (List ℕ)) → length (but_last (word ∷ words)) ≡ length words
-but_one word [] = refl
-but_one word (next ∷ words) = let rest = but_one next words in omega (arith, rest)
-
-shorter : (values : List (List ℕ)) (n : ℕ) → length values ≡ n + 1 → length (but_last values) ≡ n
-shorter [] n long = absurd (omega (arith, long))
-shorter (word ∷ words) n long = let rest = but_one word words in omega (arith, long, rest)
+shorter : (values : List (List ℕ)) (n : ℕ) → length values ≡ n + 1 → length (take (n + 1 - 1) values) ≡ n
+shorter values n long = let fewer = length-take-le (n + 1 - 1) values (omega (arith, long)) in omega (arith, fewer)
 
 pair_fits : (pair : List ℕ → Option (ℕ × ℕ)) (command : ℕ → ℕ → Command) (files : ℕ) → ((x y : ℕ) → files ≡ programs_asked (command x y)) → Fits (with_pair pair command (files + 1))
 pair_fits pair command files many values arguments ask turns long is =
-    let p = mapped (λ (p : ℕ × ℕ). on_files (command p.0 p.1) (but_last values)) (option_and_then pair (last_of values)) ask is in
+    let p = mapped (λ (p : ℕ × ℕ). on_files (command p.0 p.1) (take (files + 1 - 1) values)) (option_and_then pair (last_of values)) ask is in
     let left = shorter values files long in
     let asked = many p.0.0 p.0.1 in
-    asked_fits (command p.0.0 p.0.1) (but_last values) ask turns p.2 (cc)
+    asked_fits (command p.0.0 p.0.1) (take (files + 1 - 1) values) ask turns p.2 (cc)
 
 -- ---- the table
 
@@ -143,16 +140,16 @@ all_fit = (
   ),
 )
 
-first_or_later : (b : Bool) (r : List ℕ × CommandRow) (later : Option (List ℕ × CommandRow)) (row : CommandRow) → Fits r.1
-    → (option_map (λ r. r.1) later ≡ Some row → Fits row) → option_map (λ r. r.1) (if b then Some r else later) ≡ Some row → Fits row
+first_or_later : (b : Bool) (r : List ℕ × CommandRow) (later : Option CommandRow) (row : CommandRow) → Fits r.1
+    → (later ≡ Some row → Fits row) → (if b then Some r.1 else later) ≡ Some row → Fits row
 first_or_later true r later row here there is = let same : r.1 ≡ row = cc in subst Fits same here
 first_or_later false r later row here there is = there is
 
 found_fits : (word : List ℕ) (rows : List (List ℕ × CommandRow)) → Every (λ (r : List ℕ × CommandRow). Fits r.1) rows → (row : CommandRow)
-    → option_map (λ r. r.1) (find (λ r. bytes_eq word r.0) rows) ≡ Some row → Fits row
+    → lookup (bytes_eq word) rows ≡ Some row → Fits row
 found_fits word [] all row is = absurd (cc)
 found_fits word (r ∷ rows) all row is =
-    first_or_later (bytes_eq word r.0) r (find (λ r. bytes_eq word r.0) rows) row all.0 (found_fits word rows all.1 row) is
+    first_or_later (bytes_eq word r.0) r (lookup (bytes_eq word) rows) row all.0 (found_fits word rows all.1 row) is
 
 -- ---- the words
 

@@ -9,14 +9,16 @@ use Rattle.kf_lex.specs.Readings.{IsFault}
 use Rattle.kf_parse.specs.Answers.{IsRefused}
 use Rattle.kf_ast.specs.Sources.{SourceTree}
 use Rattle.kf_frac.specs.Fractions.{limit}
-use Rattle.kf_core.specs.Joint.{Cell, joint_of}
+use Rattle.kf_core.specs.Joint.{joint_of}
 use Rattle.kf_core.specs.Programs.{ProgramTree}
 use Rattle.kf_core.specs.Runs.{Halted}
 use Rattle.kf_core.specs.Scale.{scale_of as run_scale}
 use Rattle.kf_core.specs.Support.{StoreSet, program_pass}
 use Rattle.kf_channel.specs.Channels.{all_initial}
 use Rattle.kf_capacity.specs.Grids.{ChannelTree, GridTree, channel_grid}
-use Rattle.kf_capacity.specs.Compositions.{IsCascade, IsParallel, IsChoice, ComposeFault}
+use Rattle.kf_capacity.specs.Compositions.{ComposeFault}
+use Rattle.kf_capacity.specs.Cases.{CascadeCase, ParallelCase, ChoiceCase}
+use Rattle.kf_capacity.proofs.Cases.{cascade_case, parallel_case, choice_case}
 use Rattle.kf_capacity.specs.Compositions as compose
 use Rattle.kf_make.specs.Laws.{MadeIsClear, MadeIsParsed, MadeIsTyped, MadeScale}
 use Rattle.kf_make.specs.Made.{made_program, made_tree}
@@ -39,13 +41,13 @@ use Rattle.kf_cert.specs.declared.mark.CheckError.{CheckError}
 use Rattle.kf_cert.specs.declared.mark.CheckError.TheVariants as check
 use Rattle.kf_load.specs.Place.{line_at, column_at}
 use Rattle.kf_load.specs.Steps.{Refused, Step, After, Each, Gives}
-use Rattle.kf_load.specs.Texts.{File, Fault, Text, token_fault, syntax_fault, type_fault, IsBad, TokensOf, SourceOf, ProgramOf, TextWith, TypedOf, TextOf, cause_word, cleared, long_enough, LongCleared, source_of}
-use Rattle.kf_load.specs.Refusals.{bad_run, narrow, bytes_read}
+use Rattle.kf_load.specs.Texts.{File, Text, token_fault, syntax_fault, type_fault, IsBad, TextWith, TypedOf, TextOf, cause_word, cleared, LongCleared, source_of}
+use Rattle.kf_load.specs.Refusals.{bad_run, narrow, bytes_read, Fault, TokensOf, SourceOf, ProgramOf, long_enough}
 use Rattle.kf_prior.specs.FullSources.{full_source, initial_stores}
-use Rattle.kf_top.specs.Answer.{Shown, shows, other_target, wide_channel, MadeOutcome, initial, ChannelOf, is_narrow, CapacityIn, Composed, composed_grid, algebra_shown, ComposedIn, table_word, TableOf, GainIn, NarrowGain, ReportOf, ReportIn, AttackOf, AttackIn, VerdictShown, RefineOutcome, cert_word, CertIn, mark_shown, MarkOn, CommandOutcome}
-use Rattle.kf_top.specs.Outcome.{few_stores, FullOf, ReadyOf, TaskOutcome}
+use Rattle.kf_top.specs.Answer.{Shown, shows, other_target, wide_channel, initial, is_narrow, Composed, composed_grid, ComposedIn, table_word, TableOf, GainIn, NarrowGain, OnHyper, PrintsSome, ReportOn, AttackOn, VerdictShown, RefineOutcome, cert_word, CertIn, mark_shown, MarkOn, CommandOutcome}
+use Rattle.kf_top.specs.Outcome.{few_stores, ReadyOf, TaskOutcome}
 use Rattle.kf_top.specs.Ends.{AreNamed, names_of}
-use Rattle.kf_top.specs.Steps.{MadeOf, TableIn, cert_read, most_pivots, FullTexts, ClearedOf}
+use Rattle.kf_top.specs.Steps.{MadeOf, TableIn, cert_read, most_pivots, FullTexts, ClearedOf, MadeOutcome, ChannelOf, CapacityIn, algebra_shown, FullOf}
 use Rattle.kf_words.specs.Jobs.{IsInRange}
 use Rattle.kf_words.specs.Laws.{TasksInRange}
 use Rattle.kf_words.specs.Task.{Command, Composition, Cascade, Parallel, Choice, Hyper, Traces, Channel, Trail, Capacity, Compose, Leak, Attack, Reach, Make, Refine, Check, Covers, Quiet, Blame, Task, tables_of}
@@ -55,6 +57,10 @@ use Rattle.kf_laws.proofs.ClearedPrograms.{every_done}
 use Rattle.kf_laws.proofs.OneAnswer.{HasOne, next_of}
 use Rattle.kf_laws.proofs.TaskFiles.{IsFitting, programs_asked, tasks_fit}
 use Rattle.kf_check.specs.Variables.{IsBroken}
+use Rattle.kf_report.specs.Reports.{IsLeakage}
+use Rattle.kf_attack.specs.Views.{AreAttacks}
+use Rattle.kf_text.specs.ReportTexts.{report_text}
+use Rattle.kf_text.specs.AttackTexts.{attack_text}
 
 -- ---- steps
 
@@ -155,7 +161,7 @@ module _ (task : Task) where
   module _ (name : List ℕ) (in' : Contains task.files name) where
     bad_refused : {E : Type 0} (IsError : E → Type 0) (fault_of : E → Option Fault) (bytes : List ℕ) (r : Refused) → IsBad IsError fault_of name bytes r → Reasoned r
     bad_refused IsError fault_of bytes r bad =
-        record { reason = BadText name (line_at bytes bad.fault.at) (column_at bytes bad.fault.at) bad.fault.word; can = in'; is = bad.is }
+        record { reason = BadText name (line_at bytes bad.fault.1) (column_at bytes bad.fault.1) bad.fault.0; can = in'; is = bad.is }
 
     with_refused : (bytes : List ℕ) (tree : SourceTree) → Refuses Reasoned (TextWith name bytes tree)
     with_refused bytes tree =
@@ -289,17 +295,19 @@ module _ (task : Task) where
         gain_by (Table name) (f ∷ g' ∷ files) under' in' are' = absurd (cc)
 
   module _ (word : GainOf (List ℕ)) (under : IsUnder word task.command) where
-    narrow_refused : (scale : ℕ) (joint : List Cell) (g : GainOf TableTree) → Refuses Reasoned (NarrowGain scale joint g)
-    narrow_refused scale joint g r is =
-        record { reason = WideGain; can = (word, under); is = refused_if (nat_le (scale * is.0) limit) is.0 (refusal_for WideGain) r is.2 }
+    narrow_refused : (g : GainOf TableTree) (h : HyperTree) → Refuses Reasoned (NarrowGain g h)
+    narrow_refused g h r is =
+        record { reason = WideGain; can = (word, under); is = refused_if (nat_le (h.scale * is.0) limit) is.0 (refusal_for WideGain) r is.2 }
 
-    report_refused : (scale : ℕ) (joint : List Cell) (g : GainOf TableTree) → Refuses Reasoned (ReportIn scale joint g)
-    report_refused scale joint g =
-        refused_after Reasoned (NarrowGain scale joint g) (λ m. ReportOf scale joint g) (narrow_refused scale joint g) (λ m _ r is. absurd (never_shown r true _ is.2.2))
+    report_refused : (turns : ℕ) (p : ProgramTree) (g : GainOf TableTree) → Refuses Reasoned (OnHyper turns p (ReportOn g))
+    report_refused turns p g r is =
+        refused_after Reasoned (NarrowGain g is.0) (λ m. PrintsSome (IsLeakage g is.0.scale is.0.inners) (report_text g)) (narrow_refused g is.0)
+        (λ m _ s h. absurd (never_shown s true _ h.2)) r is.2
 
-    attack_refused : (target : List Item) (scale : ℕ) (joint : List Cell) (g : GainOf TableTree) → Refuses Reasoned (AttackIn target scale joint g)
-    attack_refused target scale joint g =
-        refused_after Reasoned (NarrowGain scale joint g) (λ m. AttackOf target scale joint g) (narrow_refused scale joint g) (λ m _ r is. absurd (never_shown r true _ is.2.2))
+    attack_refused : (turns : ℕ) (p : ProgramTree) (g : GainOf TableTree) → Refuses Reasoned (OnHyper turns p (AttackOn g))
+    attack_refused turns p g r is =
+        refused_after Reasoned (NarrowGain g is.0) (λ m. PrintsSome (AreAttacks g is.0.inners) (attack_text g is.0.target is.0.scale is.0.inners)) (narrow_refused g is.0)
+        (λ m _ s h. absurd (never_shown s true _ h.2)) r is.2
 
   -- ---- channels
 
@@ -320,13 +328,13 @@ module _ (task : Task) where
     other_targets : (r : Refused) → r ≡ other_target → Reasoned r
     other_targets r is = record { reason = OtherTarget; can = inr (inr composing); is = is }
 
-    cascade_refused : (c d : ChannelTree) (x : Result GridTree ComposeFault) (r : Refused) → IsCascade c d x → Err r ≡ composed_grid x → Reasoned r
+    cascade_refused : (c d : ChannelTree) (x : Result GridTree ComposeFault) (r : Refused) → CascadeCase c d x → Err r ≡ composed_grid x → Reasoned r
     cascade_refused c d (Ok g) r is given = absurd (cc)
     cascade_refused c d (Err compose.Fit) r is given = let same : r ≡ refusal_for NoFit = cc in record { reason = NoFit; can = composing; is = same }
     cascade_refused c d (Err compose.Wide) r is given = wide r (cc)
     cascade_refused c d (Err e) r is given = absurd is
 
-    parallel_refused : (c d : ChannelTree) (x : Result GridTree ComposeFault) (r : Refused) → IsParallel c d x → Err r ≡ composed_grid x → Reasoned r
+    parallel_refused : (c d : ChannelTree) (x : Result GridTree ComposeFault) (r : Refused) → ParallelCase c d x → Err r ≡ composed_grid x → Reasoned r
     parallel_refused c d (Ok g) r is given = absurd (cc)
     parallel_refused c d (Err compose.Targets) r is given = other_targets r (cc)
     parallel_refused c d (Err compose.Rows) r is given = let same : r ≡ refusal_for OtherRows = cc in record { reason = OtherRows; can = composing; is = same }
@@ -336,7 +344,7 @@ module _ (task : Task) where
     parallel_refused c d (Err compose.Wide) r is given = wide r (cc)
     parallel_refused c d (Err e) r is given = absurd is
 
-    choice_refused : (num den : ℕ) (c d : ChannelTree) (x : Result GridTree ComposeFault) (r : Refused) → IsChoice num den c d x → Err r ≡ composed_grid x → Reasoned r
+    choice_refused : (num den : ℕ) (c d : ChannelTree) (x : Result GridTree ComposeFault) (r : Refused) → ChoiceCase num den c d x → Err r ≡ composed_grid x → Reasoned r
     choice_refused num den c d (Ok g) r is given = absurd (cc)
     choice_refused num den c d (Err compose.Targets) r is given = other_targets r (cc)
     choice_refused num den c d (Err compose.Rows) r is given = let same : r ≡ refusal_for OtherRows = cc in record { reason = OtherRows; can = composing; is = same }
@@ -344,9 +352,9 @@ module _ (task : Task) where
     choice_refused num den c d (Err e) r is given = absurd is
 
     composed_refused : (w : Composition) (c d : ChannelTree) → Refuses Reasoned (Composed w c d)
-    composed_refused Cascade c d r is = cascade_refused c d is.0 r is.1 is.2
-    composed_refused Parallel c d r is = parallel_refused c d is.0 r is.1 is.2
-    composed_refused (Choice num den) c d r is = choice_refused num den c d is.0 r is.1 is.2
+    composed_refused Cascade c d r is = cascade_refused c d is.0 r (cascade_case c d is.0 is.1) is.2
+    composed_refused Parallel c d r is = parallel_refused c d is.0 r (parallel_case c d is.0 is.1) is.2
+    composed_refused (Choice num den) c d r is = choice_refused num den c d is.0 r (choice_case c d num den is.0 is.1) is.2
 
     algebra_refused : (c d : ChannelTree) → Refuses Reasoned (After (Composed way c d) (λ g. Gives (algebra_shown (channel_grid c) (channel_grid d) g)))
     algebra_refused c d =
@@ -368,7 +376,7 @@ module _ (task : Task) where
     verdict_refused a b (Err refine.Mem) r is given = absurd is
 
     refine_refused : (turns : ℕ) (p q : ProgramTree) → Refuses Reasoned (RefineOutcome json turns p q)
-    refine_refused turns p q r is = verdict_refused is.0 is.1 is.3.0 r is.3.1 is.3.2
+    refine_refused turns p q r is = verdict_refused is.0 is.2.0 is.2.2.0 r is.2.2.1 is.2.2.2
 
   module _ (name : List ℕ) (asked : task.command ≡ Check name) where
     cert_refused : (file : File) → name ≡ file.name → Contains (tables_of task.command) file.name → Refuses Reasoned (CertIn file)
@@ -390,8 +398,10 @@ module _ (task : Task) where
 
     mark_refused : (turns : ℕ) (p q : ProgramTree) (c : CertTree) → Refuses Reasoned (MarkOn turns p q c)
     mark_refused turns p q c r is =
-        ⊎_elim (λ (other : (is.0.target ≢ is.1.target) × (Err r ≡ Err other_target)). other_by other.1)
-        (λ (same : (is.0.target ≡ is.1.target) × ((x : Result Mark CheckError) × IsMarked is.0 is.1 c x × (Err r ≡ mark_shown x))). mark_by is.0 is.1 c same.1.0 r same.1.1 same.1.2) is.3
+        let a = is.0 in
+        let b = is.2.0 in
+        ⊎_elim (λ (other : (a.target ≢ b.target) × (Err r ≡ Err other_target)). other_by other.1)
+        (λ (same : (a.target ≡ b.target) × ((x : Result Mark CheckError) × IsMarked a b c x × (Err r ≡ mark_shown x))). mark_by a b c same.1.0 r same.1.1 same.1.2) is.2.2
       where
         other_by : ◌≡◌ {A = Result Shown Refused} (Err r) (Err other_target) → Reasoned r
         other_by given = let same : r ≡ refusal_for OtherTarget = cc in record { reason = OtherTarget; can = inr (inl (name, asked)); is = same }
@@ -428,8 +438,7 @@ module _ (task : Task) where
         (λ second _. composition_refused way asked turns first second)) r is
     command_refused (Make count) asked are [] fit r is = made_answers count turns asked r is
     command_refused (Leak word) asked are (p ∷ []) fit r is =
-        under_refused p.target word (ReportIn (run_scale turns p) (joint_of turns p)) (inl asked) (are ∙ leak_files word)
-        (report_refused word (inl asked) (run_scale turns p) (joint_of turns p)) r is
+        under_refused p.target word (λ t. OnHyper turns p (ReportOn t)) (inl asked) (are ∙ leak_files word) (report_refused word (inl asked) turns p) r is
       where
         leak_files : (g : GainOf (List ℕ)) → tables_of (Leak g) ≡ gain_files g
         leak_files Bayes = refl
@@ -437,8 +446,7 @@ module _ (task : Task) where
         leak_files Guessing = refl
         leak_files (Table name) = refl
     command_refused (Attack word) asked are (p ∷ []) fit r is =
-        under_refused p.target word (AttackIn p.target (run_scale turns p) (joint_of turns p)) (inr asked) (are ∙ attack_files word)
-        (attack_refused word (inr asked) p.target (run_scale turns p) (joint_of turns p)) r is
+        under_refused p.target word (λ t. OnHyper turns p (AttackOn t)) (inr asked) (are ∙ attack_files word) (attack_refused word (inr asked) turns p) r is
       where
         attack_files : (g : GainOf (List ℕ)) → tables_of (Attack g) ≡ gain_files g
         attack_files Bayes = refl

@@ -21,9 +21,9 @@ use Rattle.kf_cert.specs.declared.mark.CheckError.TheVariants as check
 use Rattle.kf_cert.proofs.Printable.{matrix_printable, table_printable}
 use Rattle.kf_load.specs.Steps.{After, Refused, refusal}
 use Rattle.kf_load.specs.Texts.{File, source_of}
-use Rattle.kf_top.specs.Answer.{AreHypers, CertIn, CommandOutcome, MarkIn, MarkOn, RefineOutcome, Shown, mark_shown, other_target}
+use Rattle.kf_top.specs.Answer.{CertIn, CommandOutcome, MarkIn, MarkOn, RefineOutcome, Shown, mark_shown, other_target}
 use Rattle.kf_top.specs.Ends.{Answer, settled}
-use Rattle.kf_top.specs.Steps.{cert_read, wide_cert, most_pivots, showing, refusing, ClearedOf}
+use Rattle.kf_top.specs.Steps.{cert_read, wide_cert, most_pivots, showing, refusing, AreHypers, ClearedOf}
 use Rattle.kf_words.specs.Task.{Command, Refine, Check}
 use Rattle.kf_laws.specs.Held.{held, held_file}
 use Rattle.kf_laws.specs.Laws.{CertificatesAccepted, asks_certificate, asks_check}
@@ -111,7 +111,7 @@ module _ (hypers_are_one : HypersAreOne) (are_proper : AreProper) (verdicts_prov
       check_end : (r : Result Shown Refused) → After (CertIn (held_file later cert)) (MarkOn turns p q) r → IsEnd r
       check_end r outcome =
           let marked = next_of (CertIn (held_file later cert)) (MarkOn turns p q) (one_cert (held_file later cert)) (read_back a.target v) found r outcome in
-          hypers_end r (read_back a.target v) refl marked.0 marked.1 marked.2 marked.3
+          hypers_end r (read_back a.target v) refl marked.0 marked.2.0 (record { first = marked.1; second = marked.2.1 }) marked.2.2
 
 -- ---- the same texts have the same programs
 
@@ -131,11 +131,11 @@ module _ (hypers_are_one : HypersAreOne) (are_proper : AreProper) (verdicts_prov
   pair_end : (p q : ProgramTree) → IsClear turns p → IsClear turns q → RefineOutcome true turns p q (Ok shown) → After (CertIn (held_file later cert)) (MarkOn turns p q) r → IsEnd r
   pair_end p q clear clear' refined checked =
       let a = refined.0 in
-      let b = refined.1 in
-      let v = verdict_of true a b refined.3.0 shown refined.3.2 in
-      let verdict = subst (λ (x : Result VerdictTree _). IsVerdict a b most_pivots x) v.1 refined.3.1 in
+      let b = refined.2.0 in
+      let v = verdict_of true a b refined.2.2.0 shown refined.2.2.2 in
+      let verdict = subst (λ (x : Result VerdictTree _). IsVerdict a b most_pivots x) v.1 refined.2.2.1 in
       let bytes : shown.bytes ≡ cert_text a.target v.0 = ap (λ (s : Shown). s.bytes) v.3 in
-      check_end hypers_are_one are_proper verdicts_prove reads_back written_accepted turns p q clear clear' a b refined.2 v.0 verdict later cert (stands ∙ bytes)
+      check_end hypers_are_one are_proper verdicts_prove reads_back written_accepted turns p q clear clear' a b (record { first = refined.1; second = refined.2.1 }) v.0 verdict later cert (stands ∙ bytes)
       (subst (λ (bs : List ℕ). length bs ≤ 1048576) bytes short) r checked
 
   command_end : (ps : List ProgramTree) → Every (IsClear turns) ps → CommandOutcome (Refine true) turns [] ps (Ok shown)

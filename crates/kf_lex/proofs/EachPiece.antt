@@ -14,9 +14,9 @@ use Rattle.kf_lex.specs.declared.token.Sign.TheVariants as sign
 use Rattle.kf_lex.specs.declared.token.Tok.{Tok}
 use Rattle.kf_lex.specs.declared.token.Tok.TheVariants as tok
 use Rattle.kf_lex.specs.declared.token.Word.{Word}
-use Rattle.kf_lex.specs.Cuts.{IsBeginning, IsRun, first_sign, is_in_line, IsNumber}
+use Rattle.kf_lex.specs.Cuts.{IsBeginning, IsRun, first_sign, is_in_line, IsNumber, begins_name}
 use Rattle.kf_lex.specs.Words.{reserved, sign_text}
-use Rattle.kf_lex.specs.Lexemes.{IsLongest, IsWord, Spells, begins_name, greatest_number}
+use Rattle.kf_lex.specs.Lexemes.{IsLongest, IsWord, Spells, greatest_number}
 use Rattle.kf_lex.specs.Pieces.{IsBlank, IsOther, IsPiece, is_separator}
 use Rattle.kf_lex.specs.Pieces as piece
 use Rattle.kf_lex.proofs.Both.{and_first}

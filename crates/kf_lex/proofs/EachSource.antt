@@ -5,9 +5,9 @@ use Rattle.std.specs.Str.Lossy.{utf8_valid_len}
 use Rattle.kf_lex.specs.declared.token.LexError.{LexError}
 use Rattle.kf_lex.specs.declared.token.LexError.TheVariants as fault
 use Rattle.kf_lex.specs.declared.token.Token.{Token}
-use Rattle.kf_lex.specs.Cuts.{IsBeginning}
+use Rattle.kf_lex.specs.Cuts.{IsBeginning, valid_front}
 use Rattle.kf_lex.specs.Laws.{IsOneReading}
-use Rattle.kf_lex.specs.Readings.{IsFault, IsTokens, Reads, WrongFrom, place, valid_front}
+use Rattle.kf_lex.specs.Readings.{IsFault, IsTokens, Reads, WrongFrom, place}
 use Rattle.kf_lex.proofs.Cutting.{beginning}
 use Rattle.kf_lex.proofs.Faults.{no_fault, one_fault, one_tokens, whole_front}
 use Rattle.kf_lex.proofs.Going.{Goes, first_of, past_blank, past_token, reads_all, starts}

@@ -7,7 +7,8 @@ use Rattle.std.proofs.Math.Seq.{drop-append_seam}
 use Rattle.kf_lex.specs.declared.token.LexError.{LexError}
 use Rattle.kf_lex.specs.declared.token.LexError.TheVariants as fault
 use Rattle.kf_lex.specs.declared.token.Token.{Token}
-use Rattle.kf_lex.specs.Readings.{Fault, IsFault, IsTokens, WrongFrom, place, valid_front}
+use Rattle.kf_lex.specs.Readings.{Fault, IsFault, IsTokens, WrongFrom, place}
+use Rattle.kf_lex.specs.Cuts.{valid_front}
 use Rattle.kf_lex.proofs.Following.{never_wrong, one_list, piece_length, reached, wrong_piece}
 
 seam : (text front left : List ℕ) (at : ℕ) → text ≡ front ++ left → at ≡ length front → left ≡ drop at text

@@ -10,9 +10,9 @@ use Rattle.unicode_ident.proofs.IdentLemmas.{is_xid_start-ascii}
 use Rattle.kf_lex.specs.declared.token.Sign.{Sign}
 use Rattle.kf_lex.specs.declared.token.Sign.TheVariants as sign
 use Rattle.kf_lex.specs.Words.{sign_text}
-use Rattle.kf_lex.specs.Lexemes.{IsWord, begins_name}
+use Rattle.kf_lex.specs.Lexemes.{IsWord}
 use Rattle.kf_lex.specs.Pieces.{IsBlank, is_separator}
-use Rattle.kf_lex.specs.Cuts.{IsNumber}
+use Rattle.kf_lex.specs.Cuts.{IsNumber, begins_name}
 
 -- 0 where a blank may begin, 1 at a digit, 2 where a word may begin, and 3 elsewhere
 abbrev pub sort : ℕ → ℕ

@@ -6,8 +6,8 @@ use Rattle.std.proofs.lemmas.Str.{utf8_valid_len-IsValidUpTo}
 use Rattle.kf_lex.specs.declared.token.LexError.{LexError}
 use Rattle.kf_lex.specs.declared.token.LexError.TheVariants as fault
 use Rattle.kf_lex.specs.declared.token.Token.{Token}
-use Rattle.kf_lex.specs.Cuts.{IsFirstWrong, IsFaultOrMem}
-use Rattle.kf_lex.specs.Readings.{Fault, IsFault, IsTokens, Reads, WrongFrom, place, valid_front}
+use Rattle.kf_lex.specs.Cuts.{IsFirstWrong, IsFaultOrMem, valid_front}
+use Rattle.kf_lex.specs.Readings.{Fault, IsFault, IsTokens, Reads, WrongFrom, place}
 use Rattle.kf_lex.proofs.Faults.{before_end, front_length}
 use Rattle.kf_lex.proofs.Following.{never_wrong}
 

@@ -15,9 +15,9 @@ use Rattle.unicode_ident.specs.Ident.{is_xid_continue, is_xid_start}
 use Rattle.unicode_ident.proofs.IdentLemmas.{is_xid_continue-ascii, is_xid_start-is_xid_continue}
 use Rattle.kf_lex.specs.declared.cuts.TheConstants.{SIGNS}
 use Rattle.kf_lex.specs.declared.token.Sign.{Sign}
-use Rattle.kf_lex.specs.Cuts.{IsBeginning, IsRun, first_sign, IsSign, IsNumber}
+use Rattle.kf_lex.specs.Cuts.{IsBeginning, IsRun, first_sign, IsSign, IsNumber, begins_name}
 use Rattle.kf_lex.specs.Words.{sign_text}
-use Rattle.kf_lex.specs.Lexemes.{IsLexeme, IsLongest, IsWord, begins_name}
+use Rattle.kf_lex.specs.Lexemes.{IsLexeme, IsLongest, IsWord}
 use Rattle.kf_lex.specs.Pieces.{IsBlank, IsComment, IsOther, is_separator}
 use Rattle.kf_lex.proofs.Both.{all_behind, and_first, and_second}
 use Rattle.kf_lex.proofs.FirstBytes.{Begins, begins-append, clash, number_sort, sign_sort, word_sort}

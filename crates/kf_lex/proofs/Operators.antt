@@ -14,8 +14,8 @@ use Rattle.kf_lex.specs.declared.token.Tok.{Tok}
 use Rattle.kf_lex.specs.declared.token.Tok.TheVariants as tok
 use Rattle.kf_lex.specs.declared.token.Word.{Word}
 use Rattle.kf_lex.specs.declared.token.Word.TheVariants as word
-use Rattle.kf_lex.specs.Words.{operator_with, reserved, sign_text, word_of}
-use Rattle.kf_lex.specs.Operators.{op_of, operator_of}
+use Rattle.kf_lex.specs.Words.{reserved, sign_text}
+use Rattle.kf_lex.specs.Operators.{op_of, operator_of, operator_with, word_of}
 use Rattle.kf_lex.specs.Lexemes.{Spells}
 use Rattle.kf_lex.specs.Cuts.{first_sign}
 use Rattle.kf_lex.specs.Laws.{AreOperatorTokens}

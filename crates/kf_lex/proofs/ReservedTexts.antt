@@ -12,8 +12,9 @@ use Rattle.kf_ops.proofs.EachRow.{row_at}
 use Rattle.kf_lex.specs.contracts.token.Word.{the_type}
 use Rattle.kf_lex.specs.declared.token.Word.{Word}
 use Rattle.kf_lex.specs.Laws.{HaveOneText}
-use Rattle.kf_lex.specs.Operators.{op_of, operator_word, own_word}
-use Rattle.kf_lex.specs.Words.{operator_with, own_words, reserved, word_of}
+use Rattle.kf_lex.specs.Operators.{op_of, operator_word, own_word, operator_with, word_of}
+use Rattle.kf_lex.specs.Words.{own_words, reserved}
+use Rattle.kf_lex.proofs.Spelling.{in_two}
 
 abbrev letters_in : List (List ℕ × Word) → Word → List ℕ
 letters_in [] w = []
@@ -80,8 +81,7 @@ by_word text w (Some v) is h = let same : v ≡ w = cc in looked_up text own_wor
 by_word text w None is h = by_operator text w (operator_with operators text) refl h
 
 written : (text : List ℕ) (w : Word) → reserved text ≡ Some w → letters w ≡ text
-unfolding reserved
-written text w h = by_word text w (own_word text) refl h
+written text w h = by_word text w (own_word text) refl (sym (in_two text) ∙ h)
 
 pub have_one_text : HaveOneText
 have_one_text text other w h k = sym (written text w h) ∙ written other w k

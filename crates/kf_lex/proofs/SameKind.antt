@@ -14,13 +14,14 @@ use Rattle.kf_lex.specs.declared.token.Tok.{Tok}
 use Rattle.kf_lex.specs.declared.token.Tok.TheVariants as tok
 use Rattle.kf_lex.specs.declared.token.Word.{Word}
 use Rattle.kf_lex.specs.Cuts.{first_sign}
-use Rattle.kf_lex.specs.Words.{operator_with, own_words, reserved, sign_text, word_of}
+use Rattle.kf_lex.specs.Words.{own_words, reserved, sign_text}
 use Rattle.kf_lex.specs.Lexemes.{IsWord, Spells}
 use Rattle.kf_lex.specs.Laws.{AreOperatorsReserved}
 use Rattle.kf_lex.proofs.Both.{and_first, and_second}
 use Rattle.kf_lex.proofs.SignSearch.{found_again}
 use Rattle.kf_lex.proofs.FirstBytes.{Begins, number_sort, same_sort, sign_sort, sort, word_sort}
-use Rattle.kf_lex.specs.Operators.{operator_word, own_word}
+use Rattle.kf_lex.specs.Operators.{operator_word, own_word, operator_with, word_of}
+use Rattle.kf_lex.proofs.Spelling.{in_two}
 
 same_sign : (s t : Sign) (text : List ℕ) → text ≡ sign_text s → text ≡ sign_text t → s ≡ t
 same_sign s t text e f =
@@ -76,9 +77,8 @@ either_word (Some v) b w P f g h = f h
 either_word None b w P f g h = g h
 
 pub reserved_sort : (text : List ℕ) (w : Word) → reserved text ≡ Some w → Begins 2 text
-unfolding reserved
 reserved_sort text w h =
-    lettered text (either_word (own_word text) (operator_word text) w _ (looked_up own_words text w refl) (word_found operators text w refl) h)
+    lettered text (either_word (own_word text) (operator_word text) w _ (looked_up own_words text w refl) (word_found operators text w refl) (sym (in_two text) ∙ h))
 
 abbrev pub sort_of : Tok → ℕ
 sort_of (tok.Number n) = 1

@@ -1,13 +1,17 @@
 -- Looking up reserved words.
-use Rattle.std.proofs.Common.{◌≡◌, ℕ, zero, suc, ◌<◌, true, false, List, [], ◌∷◌, Some, None, map, length, get_or, refl, sym, ap, ◌∙◌, arith}
+use Rattle.std.proofs.Common.{◌≡◌, ℕ, zero, suc, ◌<◌, true, false, List, [], ◌∷◌, Option, Some, None, map, length, get_or, refl, sym, ap, ◌∙◌, arith}
+use Rattle.std.specs.Prelude.{find, if◌then◌else◌}
 use Rattle.std.specs.List.{position}
+use Rattle.std.specs.Option.{option_and_then, option_or}
 use Rattle.std.specs.Str.{bytes_eq}
 use Rattle.std.proofs.lemmas.List.Quantifiers.{position-Some}
 use Rattle.std.proofs.Math.ListN.{get_or-map}
 use Rattle.std.proofs.lemmas.Slice.Eq.{bytes_eq-Decides}
-use Rattle.kf_ops.specs.Rows.{Row}
+use Rattle.kf_ops.specs.Rows.{Row, operators}
 use Rattle.kf_ops.specs.Table.{has_word}
-use Rattle.kf_lex.specs.Words.{operator_with}
+use Rattle.kf_ops.specs.declared.row.Op.{Op}
+use Rattle.kf_lex.specs.Words.{reserved}
+use Rattle.kf_lex.specs.Operators.{operator_with, operator_word, own_word, word_of}
 
 -- a text that is not these letters fails the test for them
 pub differs : (letters text : List ℕ) → (text ≡ letters → ⊥) → bytes_eq letters text ≡ false
@@ -32,6 +36,22 @@ module _ (text : List ℕ) where
       → operator_with rows text ≡ None
   unchosen [] fails = refl
   unchosen (row ∷ rows) fails = rw (fails 0 row (omega arith)) (unchosen rows (λ k d below. fails (suc k) d (omega arith)))
+
+  -- what is asked of the first row's operator, by either search
+  asked : {X : Type 0} (f : Op → Option X) (rows : List Row)
+      → option_and_then (λ (row : Row). f row.code) (find (λ (row : Row). bytes_eq row.word text) rows) ≡ option_and_then f (operator_with rows text)
+  asked f [] = refl
+  asked f (row ∷ rows) =
+      elim (bytes_eq row.word text) as (λ b. option_and_then (λ (r : Row). f r.code) (if b then Some row else find (λ (r : Row). bytes_eq r.word text) rows)
+      ≡ option_and_then f (if b then Some row.code else operator_with rows text)) [
+        | true ↦ refl
+        | false ↦ asked f rows
+      ]
+
+  -- a reserved word is one that is no operator, or an operator's
+  pub in_two : reserved text ≡ option_or (own_word text) (operator_word text)
+  unfolding reserved
+  in_two = ap (option_or (own_word text)) (asked word_of operators)
 
 -- the operator of the row that the search finds; f says how a row of the code reads
 pub found : {X : Type 0} (f : X → Row) (text : List ℕ) (table : List X) (i : ℕ) (d : X)

@@ -4,7 +4,7 @@ use Rattle.std.proofs.lemmas.Bool.{cases_Bool, cases_lt, cond-true, cond-false, 
 use Rattle.std.proofs.lemmas.Str.{IsUtf8-from_is_utf8, IsUtf8-nil, is_utf8-from_IsUtf8}
 use Rattle.std.specs.Str.{IsUtf8, IsValidUpTo, is_utf8}
 use Rattle.std.specs.Str.Lossy.{utf8_valid_len, valid_len_up_to}
-use Rattle.kf_lex.specs.Readings.{valid_front}
+use Rattle.kf_lex.specs.Cuts.{valid_front}
 
 -- the front of this length is UTF-8, and none between it and the other length
 record IsGreatest (bs : List ℕ) (n m : ℕ) : Type 0 where

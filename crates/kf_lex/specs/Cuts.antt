@@ -1,9 +1,11 @@
 -- For bodies: what the functions that cut a text promise each other.
-use Rattle.std.specs.Prelude.{◌≡◌, ◌+◌, ◌≤◌, ◌⊎◌, ◌==◌, ℕ, Bool, true, false, not, List, [], ◌∷◌, ◌++◌, Option, Some, None, Result, Ok, Err, if◌then◌else◌, nat_eq, length, take, drop}
+use Rattle.std.specs.Prelude.{◌≡◌, ◌+◌, ◌≤◌, ◌⊎◌, ◌||◌, ◌==◌, ℕ, Bool, true, false, not, List, [], ◌∷◌, ◌++◌, Option, Some, None, Result, Ok, Err, if◌then◌else◌, nat_eq, length, take, drop}
 use Rattle.std.specs.Char.{IsScalar, encode_utf8}
 use Rattle.std.specs.List.{AllByRecursion, starts_with}
 use Rattle.std.specs.Str.{IsUtf8, all_scalars, encode_utf8_all}
+use Rattle.std.specs.Str.Lossy.{utf8_valid_len}
 use Rattle.std.specs.Str.Parse.{IsNumeral}
+use Rattle.unicode_ident.specs.Ident.{is_xid_start}
 use Rattle.kf_lex.specs.declared.cuts.Cut.{Cut}
 use Rattle.kf_lex.specs.declared.cuts.Piece.{Piece}
 use Rattle.kf_lex.specs.declared.cuts.Piece.TheVariants as piece
@@ -16,6 +18,14 @@ use Rattle.kf_lex.specs.Words.{sign_text}
 use Rattle.kf_lex.specs.Lexemes.{IsLongest, IsWord, Spells}
 use Rattle.kf_lex.specs.Pieces.{IsBlank, IsOther}
 use Rattle.kf_lex.specs.Readings.{IsFault, WrongFrom, IsWrong, place}
+
+-- a character that may begin a name: XID start, or `_`
+abbrev pub begins_name : ℕ → Bool
+begins_name c = is_xid_start c || (c == 95)
+
+-- the source up to the first byte that is not UTF-8
+abbrev pub valid_front : List ℕ → List ℕ
+valid_front src = take (utf8_valid_len src) src
 
 -- the first of these signs with which the text begins
 abbrev pub first_sign : List Sign → List ℕ → Option Sign

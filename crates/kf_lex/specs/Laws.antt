@@ -11,9 +11,9 @@ use Rattle.kf_lex.specs.declared.token.Tok.{Tok}
 use Rattle.kf_lex.specs.declared.token.Tok.TheVariants as tok
 use Rattle.kf_lex.specs.declared.token.Token.{Token}
 use Rattle.kf_lex.specs.declared.token.Word.{Word}
-use Rattle.kf_lex.specs.Words.{reserved, word_of}
+use Rattle.kf_lex.specs.Words.{reserved}
 use Rattle.kf_lex.specs.Lexemes.{IsWord, Spells}
-use Rattle.kf_lex.specs.Operators.{operator_of}
+use Rattle.kf_lex.specs.Operators.{operator_of, word_of}
 use Rattle.kf_lex.specs.Readings.{IsFault, IsTokens}
 
 -- Every source has tokens or a first fault, at most one list of tokens, at most one first fault, and never both. That holds of any list of

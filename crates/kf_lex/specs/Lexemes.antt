@@ -1,5 +1,5 @@
 -- Believed: the shapes of tokens, and which texts each kind of token has.
-use Rattle.std.specs.Prelude.{◌≡◌, ◌≤◌, ◌⊎◌, ◌||◌, ◌==◌, ℕ, Bool, true, List, [], ◌∷◌, ◌++◌, Some, None}
+use Rattle.std.specs.Prelude.{◌≡◌, ◌≤◌, ◌⊎◌, ◌||◌, ◌==◌, ℕ, true, List, [], ◌∷◌, ◌++◌, Some, None}
 use Rattle.std.specs.List.{AllByRecursion}
 use Rattle.std.specs.Str.{encode_utf8_all, all_scalars}
 use Rattle.std.specs.Str.Parse.{IsNumeral, digits_value}
@@ -13,13 +13,9 @@ use Rattle.kf_lex.specs.Words.{sign_text, reserved}
 abbrev pub greatest_number : ℕ
 greatest_number = 1000000000
 
--- a character that may begin a name: XID start, or `_`
-abbrev pub begins_name : ℕ → Bool
-begins_name c = is_xid_start c || (c == 95)
-
--- the characters of a word: one that may begin a name, and then any that may continue it
+-- the characters of a word: one that may begin a name (XID start, or `_`), and then any that may continue it
 pub record IsWordOf (c : ℕ) (cs : List ℕ) : Type 0 where
-  pub begins : begins_name c ≡ true
+  pub begins : (is_xid_start c || (c == 95)) ≡ true
   pub continues : AllByRecursion (λ d. is_xid_continue d ≡ true) cs
   pub scalars : all_scalars (c ∷ cs) ≡ true
 

@@ -32,10 +32,6 @@ pub data Reaches : ℕ → List ℕ → ℕ → List ℕ → Type 0 where
       → text ≡ piece ++ rest → IsPiece piece rest
       → Reaches (place + length piece) rest at left → Reaches place text at left
 
--- the source up to the first byte that is not UTF-8
-abbrev pub valid_front : List ℕ → List ℕ
-valid_front src = take (utf8_valid_len src) src
-
 -- where a fault stands
 abbrev pub place : LexError → ℕ
 place (fault.Utf8 at) = at
@@ -47,8 +43,7 @@ place fault.Mem = 0
 abbrev pub IsWrong : LexError → List ℕ → List ℕ → Type 0
 IsWrong (fault.Char at) piece rest = IsOther piece rest
 IsWrong (fault.Number at) piece rest = IsLongest piece rest × IsNumeral 10 piece × (greatest_number < digits_value 10 piece)
-IsWrong (fault.Utf8 at) piece rest = ⊥
-IsWrong fault.Mem piece rest = ⊥
+IsWrong e piece rest = ⊥
 
 -- a wrong piece of the text, which stands at this place of the source
 abbrev pub WrongFrom : ℕ → List ℕ → LexError → Type 0
@@ -57,9 +52,8 @@ WrongFrom start text e = (piece : List ℕ) × (rest : List ℕ) × Reaches star
 -- the first byte of the first sequence that is not UTF-8, or a wrong piece before it
 abbrev pub Fault : List ℕ → LexError → Type 0
 Fault src (fault.Utf8 at) = IsValidUpTo src at
-Fault src (fault.Char at) = WrongFrom 0 (valid_front src) (fault.Char at)
-Fault src (fault.Number at) = WrongFrom 0 (valid_front src) (fault.Number at)
 Fault src fault.Mem = ⊥
+Fault src e = WrongFrom 0 (take (utf8_valid_len src) src) e
 
 -- the first fault of a source
 pub record IsFault (src : List ℕ) (e : LexError) : Type 0 where

@@ -1,10 +1,10 @@
 -- Believed: how signs and reserved words are written. All of it is ASCII.
 use denote.Enum.Bare.{sameb}
-use Rattle.std.specs.Prelude.{ℕ, List, [], ◌∷◌, Option, Some, None, if◌then◌else◌, codes}
+use Rattle.std.specs.Prelude.{ℕ, List, [], ◌∷◌, Option, find, codes}
 use Rattle.std.specs.Map.{lookup}
 use Rattle.std.specs.Option.{option_and_then, option_or}
 use Rattle.std.specs.Str.{bytes_eq}
-use Rattle.kf_ops.specs.Rows.{Row, operators}
+use Rattle.kf_ops.specs.Rows.{operators}
 use Rattle.kf_ops.specs.contracts.row.Op.{the_type}
 use Rattle.kf_ops.specs.declared.row.Op.{Op}
 use Rattle.kf_ops.specs.declared.row.Op.TheVariants as op
@@ -12,7 +12,6 @@ use Rattle.kf_lex.specs.declared.token.Sign.{Sign}
 use Rattle.kf_lex.specs.declared.token.Sign.TheVariants as sign
 use Rattle.kf_lex.specs.declared.token.Word.{Word}
 use Rattle.kf_lex.specs.declared.token.Word.TheVariants as word
-use mathlib.Core.List.{foldr}
 
 -- the bytes of each sign
 abbrev pub sign_text : Sign → List ℕ
@@ -56,14 +55,8 @@ operator_words =
     ∷ (op.Implies, word.ImpliesWord) ∷ (op.Subset, word.SubsetWord) ∷ (op.Min, word.MinWord) ∷ (op.Max, word.MaxWord)
     ∷ (op.Abs, word.AbsWord) ∷ []
 
--- the word of an operator, where it is written with letters
-abbrev pub word_of : Op → Option Word
-word_of o = lookup (λ code. sameb the_type code o) operator_words
-
--- the operator of the first row with these letters
-abbrev pub operator_with : List Row → List ℕ → Option Op
-operator_with rows text = foldr (λ (row : Row) later. if bytes_eq row.word text then Some row.code else later) None rows
-
--- the reserved word with these letters, if there is one
+-- the reserved word with these letters, if there is one: one that is no operator, or that of the operator of the first row with them
 unfoldable pub reserved : List ℕ → Option Word
-reserved text = option_or (lookup (λ letters. bytes_eq letters text) own_words) (option_and_then word_of (operator_with operators text))
+reserved text =
+    option_or (lookup (λ letters. bytes_eq letters text) own_words)
+    (option_and_then (λ row. lookup (λ code. sameb the_type code row.code) operator_words) (find (λ row. bytes_eq row.word text) operators))

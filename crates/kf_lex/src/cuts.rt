@@ -5,8 +5,7 @@ ghost use Rattle.std.specs.Char.{encode_utf8, is_ascii_digit, IsScalar};
 ghost use Rattle.std.specs.List.{starts_with};
 ghost use Rattle.std.specs.Str.{IsCharBoundary};
 ghost use Rattle.unicode_ident.specs.Ident.{is_xid_continue};
-ghost use Rattle.kf_lex.specs.Cuts.{IsBeginning, IsCut, IsRun, first_sign, halves, is_in_line};
-ghost use Rattle.kf_lex.specs.Lexemes.{begins_name};
+ghost use Rattle.kf_lex.specs.Cuts.{IsBeginning, IsCut, IsRun, first_sign, halves, is_in_line, begins_name};
 ghost use Rattle.kf_lex.specs.Pieces.{is_separator};
 ghost use Rattle.kf_lex.specs.Words.{sign_text};
 

@@ -1,11 +1,11 @@
 //! Reads the tokens of a source.
 
 ghost use Rattle.std.specs.Prelude.{◌≡◌, ◌+◌, ◌<◌, ◌≤◌, length, IfErr, IfOk, MatchOption};
-ghost use Rattle.kf_lex.specs.Cuts.{IsAdded, IsFirstWrong, IsOfKind, IsRefused, IsTold, IsFaultOrMem, IsNumber};
+ghost use Rattle.kf_lex.specs.Cuts.{IsAdded, IsFirstWrong, IsOfKind, IsRefused, IsTold, IsFaultOrMem, IsNumber, valid_front};
 ghost use Rattle.std.specs.Str.{IsValidUpTo};
 ghost use Rattle.std.specs.Str.Parse.{digits_value};
 ghost use Rattle.kf_lex.specs.Lexemes.{greatest_number};
-ghost use Rattle.kf_lex.specs.Readings.{IsTokens, Reads, valid_front};
+ghost use Rattle.kf_lex.specs.Readings.{IsTokens, Reads};
 
 use crate::cuts::{Cut, Piece, first_piece};
 use crate::token::{LexError, Tok, Token, Tokens};

@@ -1,8 +1,8 @@
 //! How signs and reserved words are written.
 
 ghost use Rattle.std.specs.Prelude.{◌≡◌, Option};
-ghost use Rattle.kf_lex.specs.Operators.{op_of, operator_of, operator_word, own_word};
-ghost use Rattle.kf_lex.specs.Words.{operator_with, reserved, sign_text, word_of};
+ghost use Rattle.kf_lex.specs.Operators.{op_of, operator_of, operator_word, own_word, operator_with, word_of};
+ghost use Rattle.kf_lex.specs.Words.{reserved, sign_text};
 ghost use Rattle.kf_ops.specs.Rows.{operators};
 
 use crate::token::{Sign, Tok, Word};
@@ -127,7 +127,6 @@ fn operator_word(text: &str) -> Option<Word>
 }
 
 /// The reserved word that has these letters.
-#[tactic(auto, unfolding(crate::specs::Words::reserved))]
 pub fn reserved(text: &str) -> Option<Word>
     ensures { result ≡ reserved text.now }
 {

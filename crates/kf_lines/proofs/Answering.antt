@@ -1,24 +1,20 @@
 -- What is answered about a text, and about the file that a request names.
-use Rattle.std.proofs.Common.{◌≡◌, ℕ, ◌*◌, ◌≤◌, List, [], ◌∷◌, All, le-leb, if◌then◌else◌, codes, Option, Some, Result, Ok, Err, sym, ap, subst, ◌∙◌}
+use Rattle.std.proofs.Common.{◌≡◌, ℕ, ◌*◌, List, [], ◌∷◌, All, Option, Some, Result, Ok, Err, ap, subst, ◌∙◌}
 use Rattle.std.proofs.lemmas.List.Elements.{All-append, All-cons, All-nil}
 use Rattle.kf_ast.specs.Sources.{SourceTree}
 use Rattle.kf_core.specs.Joint.{joint_of}
 use Rattle.kf_core.specs.Programs.{ProgramTree}
-use Rattle.kf_core.specs.Rows.{IsHyperOf}
 use Rattle.kf_core.specs.Scale.{scale_of}
-use Rattle.kf_frac.specs.Fractions.{limit}
 use Rattle.kf_gain.specs.Gains.{GainOf, TableTree, over_of}
 use Rattle.kf_gain.specs.Views.{gain_tree}
-use Rattle.kf_gain.specs.Vulnerabilities.{IsWidth}
 use Rattle.kf_gain.specs.declared.gain.Gain.{Gain}
-use Rattle.kf_column.specs.Hypers.{Inner}
 use Rattle.kf_lines.specs.LineTexts.{lines_text}
-use Rattle.kf_lines.specs.Outcome.{LinesIn, LinesUnder, TaskLines}
+use Rattle.kf_lines.specs.Outcome.{LinesIn, LinesOf, LinesUnder, TaskLines}
 use Rattle.kf_lines.specs.Sites.{program_sites}
 use Rattle.kf_lines.specs.Summaries.{LineTree}
 use Rattle.kf_lines.specs.Views.{AreLines, LinesAfter}
 use Rattle.kf_load.specs.Readings.{WasRead}
-use Rattle.kf_load.specs.Steps.{After, Gives, Step, refusal}
+use Rattle.kf_load.specs.Steps.{After, Gives, Step}
 use Rattle.kf_load.specs.Stops as load
 use Rattle.kf_load.specs.Stops.{Told, file_as}
 use Rattle.kf_load.specs.Texts.{File, Text, TextOf, cleared}
@@ -37,21 +33,12 @@ use Rattle.kf_quiet.specs.Summaries.{SummaryTree, IsSummary}
 
 -- ---- the lines of a program
 
--- where the width fits and everything is there, it is printed
+-- where everything is there, it is printed
 pub lines_print : (turns : ℕ) (bytes : List ℕ) (tree : SourceTree) (p : ProgramTree) (g : GainOf TableTree) (scale : ℕ) → scale ≡ scale_of turns p
-    → (inners : List Inner) → IsHyperOf (joint_of turns p) inners → (m : ℕ) → IsWidth g inners m → scale * m ≤ limit
     → (all : SummaryTree) → IsSummary g (joint_of turns p) all → (lines : List LineTree) → AreLines g turns p (program_sites tree p) lines
-    → (text : List ℕ) → text ≡ lines_text bytes (scale * over_of g) all lines → LinesIn turns bytes tree p g (prints text)
-lines_print turns bytes tree p g scale same inners is m width few all summary lines are text told =
-    let narrow : scale_of turns p * m ≤ limit = subst (λ (n : ℕ). n * m ≤ limit) same few in (
-      m,
-      (
-        m,
-        record { inners = inners; is_hyper = is; is_width = width },
-        ap (λ b. if b then Ok m else Err (refusal 7 [] (codes "gain passes 2^127 - 1"))) (sym (le-leb (scale_of turns p * m) limit narrow)),
-      ),
-      (all, lines, summary, are, ap prints (told ∙ ap (λ (n : ℕ). lines_text bytes (n * over_of g) all lines) same)),
-    )
+    → (text : List ℕ) → text ≡ lines_text bytes (scale * over_of g) all lines → LinesOf turns bytes tree p g (prints text)
+lines_print turns bytes tree p g scale same all summary lines are text told =
+    (all, lines, summary, are, ap prints (told ∙ ap (λ (n : ℕ). lines_text bytes (n * over_of g) all lines) same))
 
 -- ---- a step that reads no file, and then one on what it gave
 

@@ -3,7 +3,8 @@ use Rattle.std.proofs.Common.{◌≡◌, ◌<◌, ◌≤◌, ◌-◌, ℕ, List,
 use Rattle.std.specs.Option.{option_or}
 use Rattle.std.specs.Str.{bytes_eq}
 use Rattle.std.proofs.lemmas.List.{take_rest}
-use Rattle.kf_lines.specs.Words.{leak_of, leak_task, lines_task, under_bayes, under_gain}
+use Rattle.kf_lines.specs.Words.{leak_of, leak_task, lines_task}
+use Rattle.kf_lines.specs.Views.{under_bayes, under_gain}
 use Rattle.kf_value.specs.declared.name.Name.{Name}
 use Rattle.kf_words.specs.Jobs.{task_of_job}
 use Rattle.kf_words.specs.Task.{Task}

@@ -1,17 +1,18 @@
 -- The lines of summaries' own fractions are those of the numbers that they have.
 use Rattle.std.proofs.Common.{◌≡◌, ℕ, List, [], ◌∷◌, ◌++◌, codes, flat_map, refl, ◌∙◌}
 use Rattle.std.specs.Fmt.{decimal}
-use Rattle.kf_lines.specs.LineTexts.{line_text, lines_text, summary_line}
+use Rattle.kf_lines.specs.LineTexts.{line_text, lines_text}
 use Rattle.kf_lines.specs.Summaries.{LineTree}
 use Rattle.kf_lines.specs.Views.{ShowLines, ShowsSummary, own_line, own_lines, own_text_of, place_text}
 use Rattle.kf_lines.specs.declared.summary.Line.{Line}
 use Rattle.kf_lines.specs.declared.summary.Summary.{Summary}
+use Rattle.kf_text.specs.BlameTexts.{summary_line}
 use Rattle.kf_text.specs.Texts.{line}
 use Rattle.kf_text.proofs.Printing.{same_text}
 use Rattle.kf_quiet.specs.Summaries.{SummaryTree}
 
 module _ (bytes : List ℕ) (whole : ℕ) where
-  one_summary : (name : List ℕ) (t : SummaryTree) (s : Summary) → ShowsSummary whole t s → own_line name s ≡ summary_line whole name t
+  one_summary : (name : List ℕ) (t : SummaryTree) (s : Summary) → ShowsSummary whole t s → own_line name s ≡ summary_line (codes " posterior ") whole name t
   one_summary name t s show =
       let inners = show.inners in
       let posterior = same_text s.posterior t.posterior whole show.posterior in

@@ -1,20 +1,15 @@
 -- Believed: printed lines.
 use Rattle.std.specs.Prelude.{ℕ, List, ◌∷◌, ◌++◌, codes, decimal, flat_map}
-use Rattle.kf_frac.specs.Fractions.{fraction_text}
 use Rattle.kf_lines.specs.Summaries.{LineTree}
 use Rattle.kf_load.specs.Place.{line_at, column_at}
-use Rattle.kf_text.specs.Texts.{line}
+use Rattle.kf_text.specs.BlameTexts.{summary_line}
 use Rattle.kf_quiet.specs.Summaries.{SummaryTree}
-
--- what it is a summary of, how many inners there are, and the posterior vulnerability over `whole`
-abbrev pub summary_line : ℕ → List ℕ → SummaryTree → List ℕ
-summary_line whole name s =
-    line (name ++ (codes " inners " ++ (decimal s.inners ++ (codes " posterior " ++ fraction_text s.posterior whole))))
 
 -- what is left where the statement that begins at a byte is silent, with the line and the column of that byte
 abbrev pub line_text : List ℕ → ℕ → LineTree → List ℕ
-line_text bytes whole l = summary_line whole (decimal (line_at bytes l.at) ++ 58 ∷ decimal (column_at bytes l.at)) l.left
+line_text bytes whole l =
+    summary_line (codes " posterior ") whole (decimal (line_at bytes l.at) ++ 58 ∷ decimal (column_at bytes l.at)) l.left
 
 -- the summary of the whole program, then that of each line
 abbrev pub lines_text : List ℕ → ℕ → SummaryTree → List LineTree → List ℕ
-lines_text bytes whole all lines = summary_line whole (codes "all") all ++ flat_map (line_text bytes whole) lines
+lines_text bytes whole all lines = summary_line (codes " posterior ") whole (codes "all") all ++ flat_map (line_text bytes whole) lines

@@ -12,7 +12,7 @@ use Rattle.kf_lines.specs.Summaries.{LineTree, IsLine}
 use Rattle.kf_lines.specs.Words.{lines_task}
 use Rattle.kf_load.specs.Steps.{Step, After, Gives}
 use Rattle.kf_load.specs.Texts.{File, Text, TextOf, cleared}
-use Rattle.kf_top.specs.Answer.{GainIn, NarrowGain, Shown, prints, usage}
+use Rattle.kf_top.specs.Answer.{GainIn, NarrowGain, OnHyper, Shown, prints, usage}
 use Rattle.kf_words.specs.Task.{Command, Leak}
 use Rattle.kf_quiet.specs.Summaries.{SummaryTree, IsSummary}
 
@@ -27,7 +27,7 @@ LinesOf turns bytes tree p g result =
 
 -- no number of it passes 2^127 - 1: where statements are silent, the gain is as wide as on the whole program
 abbrev pub LinesIn : ℕ → List ℕ → SourceTree → ProgramTree → GainOf TableTree → Step Shown
-LinesIn turns bytes tree p g = After (NarrowGain (scale_of turns p) (joint_of turns p) g) (λ m. LinesOf turns bytes tree p g)
+LinesIn turns bytes tree p g = OnHyper turns p (λ h. After (NarrowGain g h) (λ m. LinesOf turns bytes tree p g))
 
 -- a text is cleared, and then the gain's table is read
 abbrev pub LinesUnder : GainOf (List ℕ) → ℕ → List File → Text → Step Shown

@@ -41,9 +41,6 @@ abbrev mutual
   block_sites i (more_stmts x xs) (more_sts s ss) = map (under i) (sites x s) ++ block_sites (i + 1) xs ss
   block_sites i xs ss = []
 
-abbrev pub body_of : SourceTree → List StmtTree
-body_of (source decls items body) = body
-
 -- the sites of a program, by its source
 abbrev pub program_sites : SourceTree → ProgramTree → List Site
-program_sites tree p = block_sites 0 (stmts (body_of tree)) (sts p.body)
+program_sites (source decls items body) p = block_sites 0 (stmts body) (sts p.body)

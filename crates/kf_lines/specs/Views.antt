@@ -2,11 +2,14 @@
 use Rattle.std.specs.Prelude.{◌≡◌, ◌≤◌, ◌*◌, ◌++◌, ℕ, List, codes, decimal, flat_map, ◌∷◌, Option, None, Some, Err}
 use Rattle.std.specs.List.{AllZip}
 use Rattle.kf_ast.specs.Sources.{SourceTree}
-use Rattle.kf_core.specs.Joint.{joint_of}
+use Rattle.kf_column.specs.Hypers.{Inner}
+use Rattle.kf_core.specs.Joint.{Cell, joint_of}
 use Rattle.kf_core.specs.Programs.{ProgramTree}
+use Rattle.kf_core.specs.Rows.{IsHyperOf}
 use Rattle.kf_frac.specs.Fractions.{limit}
 use Rattle.kf_frac.specs.Parts.{IsFraction}
 use Rattle.kf_gain.specs.Gains.{GainOf, TableTree, over_of}
+use Rattle.kf_gain.specs.Vulnerabilities.{IsWidth}
 use Rattle.kf_load.specs.Views.{program_in}
 use Rattle.kf_load.specs.Place.{line_at, column_at}
 use Rattle.kf_load.specs.Steps.{After, Gives, Step}
@@ -16,7 +19,7 @@ use Rattle.kf_support.specs.Cleared.{turns_of, whole_scale}
 use Rattle.kf_support.specs.declared.cleared.Cleared.{Cleared}
 use Rattle.kf_text.specs.Texts.{line}
 use Rattle.kf_text.specs.Views.{own_text}
-use Rattle.kf_top.specs.Answer.{GainIn, HasWidth, Shown, usage}
+use Rattle.kf_top.specs.Answer.{GainIn, Shown, usage}
 use Rattle.kf_words.specs.Jobs.{gain_of}
 use Rattle.kf_words.specs.Task.{Leak, Task}
 use Rattle.kf_words.specs.OfWords.{on_file}
@@ -32,6 +35,14 @@ use Rattle.kf_quiet.specs.Summaries.{SummaryTree}
 -- the task of `leak` that a request is
 abbrev pub task_of_request : Request → Task
 task_of_request r = on_file (Leak (gain_of r.gain)) r.file r.turns
+
+-- words after a program's name and a command's word, as those of `leak`
+abbrev pub under_gain : List ℕ → List (List ℕ) → List (List ℕ)
+under_gain name others = name ∷ codes "leak" ∷ others
+
+-- the same, with one guess at the value as the gain
+abbrev pub under_bayes : List ℕ → List (List ℕ) → List (List ℕ)
+under_bayes name others = under_gain name (codes "--gain" ∷ codes "bayes" ∷ others)
 
 -- ---- sites
 
@@ -64,6 +75,12 @@ IsLineIn cleared g site l =
 -- they are the lines of these sites
 abbrev pub AreLinesIn : Cleared → GainOf TableTree → List spec.Site → List Line → Type 0
 AreLinesIn cleared g sites lines = AllZip (IsLineIn cleared g) sites lines
+
+-- how wide a gain is on the hyper of a joint
+pub record HasWidth (joint : List Cell) (g : GainOf TableTree) (m : ℕ) : Type 0 where
+  pub inners : List Inner
+  pub is_hyper : IsHyperOf joint inners
+  pub is_width : IsWidth g inners m
 
 -- the scale times the gain's width is at most 2^127 - 1
 abbrev pub IsNarrowIn : Cleared → GainOf TableTree → Type 0

@@ -13,17 +13,11 @@ leak_of command task = None
 abbrev pub leak_task : List (List ℕ) → Option Task
 leak_task words = option_and_then (λ task. leak_of task.command task) (task_of words)
 
--- words after a program's name and a command's word, as those of `leak`
-abbrev pub under_gain : List ℕ → List (List ℕ) → List (List ℕ)
-under_gain name others = name ∷ codes "leak" ∷ others
-
--- the same, with one guess at the value as the gain
-abbrev pub under_bayes : List ℕ → List (List ℕ) → List (List ℕ)
-under_bayes name others = under_gain name (codes "--gain" ∷ codes "bayes" ∷ others)
-
 -- what the words of `lines` ask for: what they would ask `leak` for, and where they name no gain, what they would under `bayes`; the first
 -- word, the program's name, isn't looked at
 abbrev pub lines_task : List (List ℕ) → Option Task
 lines_task (name ∷ command ∷ others) =
-    if bytes_eq command (codes "lines") then option_or (leak_task (under_gain name others)) (leak_task (under_bayes name others)) else None
+    if bytes_eq command (codes "lines")
+    then option_or (leak_task (name ∷ codes "leak" ∷ others)) (leak_task (name ∷ codes "leak" ∷ codes "--gain" ∷ codes "bayes" ∷ others))
+    else None
 lines_task words = None

@@ -2,8 +2,8 @@
 
 ghost use Rattle.std.specs.Prelude.{◌≡◌, ◌++◌, IfOk, IfSome, IsErrOf, None, OnOk, Some, map, option_map, string_bytes};
 ghost use Rattle.std.specs.Option.{option_or};
-ghost use Rattle.kf_lines.specs.Views.{task_of_request};
-ghost use Rattle.kf_lines.specs.Words.{leak_of, leak_task, lines_task, under_bayes, under_gain};
+ghost use Rattle.kf_lines.specs.Views.{task_of_request, under_bayes, under_gain};
+ghost use Rattle.kf_lines.specs.Words.{leak_of, leak_task, lines_task};
 ghost use Rattle.kf_words.specs.Jobs.{HasTurns, task_of_job};
 
 use kf_value::{Mem, Name};

@@ -19,8 +19,8 @@ use Rattle.kf_core.specs.Runs.{Halted}
 use Rattle.kf_core.specs.Support.{StoreSet, program_pass}
 use Rattle.kf_core.specs.Scale.{scale_of as run_scale}
 use Rattle.kf_load.specs.Steps.{Refused, refusal}
-use Rattle.kf_load.specs.Texts.{Fault, Text, token_fault, syntax_fault, type_fault, TokensOf, SourceOf, ProgramOf, cleared, long_enough}
-use Rattle.kf_load.specs.Refusals.{bad_text, bad_run, narrow, bytes_read}
+use Rattle.kf_load.specs.Texts.{Text, token_fault, syntax_fault, type_fault, cleared}
+use Rattle.kf_load.specs.Refusals.{bad_text, bad_run, narrow, bytes_read, Fault, TokensOf, SourceOf, ProgramOf, long_enough}
 
 -- ---- bytes
 

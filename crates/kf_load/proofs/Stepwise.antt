@@ -1,6 +1,6 @@
 -- One step and then the next, and what a result is to both.
 use Rattle.std.proofs.Common.{◌≡◌, ℕ, List, [], ◌∷◌, Option, None, Some, Result, Ok, Err, Contains, IfErr, inl, inr, refl, ap, subst}
-use Rattle.kf_load.specs.Steps.{Refused, Step, After, Each, Gives}
+use Rattle.kf_load.specs.Steps.{Step, After, Each, Gives}
 use Rattle.kf_load.specs.Stops.{Answers, Counts, FileAnswers, IsNoRead, PairAnswers, ReadingFor, StopCounts, Stopped, Told, file_as}
 use Rattle.kf_load.specs.Texts.{File}
 use Rattle.kf_load.specs.declared.refusal.Refusal.TheVariants as refusal

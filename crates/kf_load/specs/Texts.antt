@@ -1,9 +1,8 @@
 -- Believed: a file, the text and the program that it holds, and its first refusal.
-use Rattle.std.specs.Prelude.{◌≡◌, ℕ, List, ◌∷◌, ◌++◌, length, nat_le, codes, if◌then◌else◌, Ok, Err, None, Some}
+use Rattle.std.specs.Prelude.{◌≡◌, ℕ, List, ◌∷◌, ◌++◌, length, nat_le, codes, if◌then◌else◌, Ok, Err, MatchResult, None, Some}
 use Rattle.std.specs.Fmt.{decimal}
 use Rattle.std.specs.declared.option.Option.{Option}
 use Rattle.std.specs.declared.result.Result.{Result}
-use Rattle.kf_lex.specs.declared.token.Token.{Token}
 use Rattle.kf_lex.specs.declared.token.LexError.{LexError}
 use Rattle.kf_lex.specs.declared.token.LexError.TheVariants as lexing
 use Rattle.kf_lex.specs.Readings.{IsTokens, IsFault}
@@ -41,63 +40,41 @@ source_of file = elim file.reading [
 abbrev pub placed : List ℕ → ℕ → List ℕ → List ℕ
 placed bytes at word = 58 ∷ decimal (line_at bytes at) ++ 58 ∷ decimal (column_at bytes at) ++ codes ": " ++ word
 
--- a fault of a text: its word, which is that of the cause, and the byte at which it stands
-pub record Fault : Type 0 where
-  pub word : List ℕ
-  pub at : ℕ
-
-abbrev pub fault : List ℕ → ℕ → Fault
-fault word at = record { word = word; at = at }
-
--- faults of characters and numbers; want of memory is none
-abbrev pub token_fault : LexError → Option Fault
-token_fault (lexing.Utf8 at) = Some (fault (codes "Utf8") at)
-token_fault (lexing.Char at) = Some (fault (codes "Char") at)
-token_fault (lexing.Number at) = Some (fault (codes "Number") at)
+-- faults of a text, each as its word and the byte at which it stands: those of characters and numbers; want of memory is none
+abbrev pub token_fault : LexError → Option (List ℕ × ℕ)
+token_fault (lexing.Utf8 at) = Some (codes "Utf8", at)
+token_fault (lexing.Char at) = Some (codes "Char", at)
+token_fault (lexing.Number at) = Some (codes "Number", at)
 token_fault lexing.Mem = None
 
 -- faults of nesting, syntax and length
-abbrev pub syntax_fault : ParseError → Option Fault
-syntax_fault (parsing.Deep at) = Some (fault (codes "Deep") at)
-syntax_fault (parsing.Syntax at) = Some (fault (codes "Syntax") at)
-syntax_fault (parsing.Long at) = Some (fault (codes "Long") at)
+abbrev pub syntax_fault : ParseError → Option (List ℕ × ℕ)
+syntax_fault (parsing.Deep at) = Some (codes "Deep", at)
+syntax_fault (parsing.Syntax at) = Some (codes "Syntax", at)
+syntax_fault (parsing.Long at) = Some (codes "Long", at)
 syntax_fault parsing.Mem = None
 
 -- broken type rules
-abbrev pub type_fault : TypeError → Option Fault
-type_fault (typing.NoVariable at) = Some (fault (codes "NoVariable") at)
-type_fault (typing.Twice at) = Some (fault (codes "Twice") at)
-type_fault (typing.Unknown at) = Some (fault (codes "Unknown") at)
-type_fault (typing.Clash at) = Some (fault (codes "Clash") at)
-type_fault (typing.BadRange at) = Some (fault (codes "BadRange") at)
-type_fault (typing.TypeTooLarge at) = Some (fault (codes "TypeTooLarge") at)
-type_fault (typing.TooManyVariables at) = Some (fault (codes "TooManyVariables") at)
-type_fault (typing.StoreTooWide at) = Some (fault (codes "StoreTooWide") at)
-type_fault (typing.BadFlip at) = Some (fault (codes "BadFlip") at)
+abbrev pub type_fault : TypeError → Option (List ℕ × ℕ)
+type_fault (typing.NoVariable at) = Some (codes "NoVariable", at)
+type_fault (typing.Twice at) = Some (codes "Twice", at)
+type_fault (typing.Unknown at) = Some (codes "Unknown", at)
+type_fault (typing.Clash at) = Some (codes "Clash", at)
+type_fault (typing.BadRange at) = Some (codes "BadRange", at)
+type_fault (typing.TypeTooLarge at) = Some (codes "TypeTooLarge", at)
+type_fault (typing.TooManyVariables at) = Some (codes "TooManyVariables", at)
+type_fault (typing.StoreTooWide at) = Some (codes "StoreTooWide", at)
+type_fault (typing.BadFlip at) = Some (codes "BadFlip", at)
 type_fault typing.Mem = None
 
 -- the refusal is that of an error with a fault
-pub record IsBad {E : Type 0} (IsError : E → Type 0) (fault_of : E → Option Fault) (name bytes : List ℕ) (r : Refused) : Type 0 where
+pub record IsBad {E : Type 0} (IsError : E → Type 0) (fault_of : E → Option (List ℕ × ℕ)) (name bytes : List ℕ) (r : Refused)
+    : Type 0 where
   pub error : E
   pub is_error : IsError error
-  pub fault : Fault
+  pub fault : List ℕ × ℕ
   pub has : fault_of error ≡ Some fault
-  pub is : r ≡ refusal 5 name (placed bytes fault.at fault.word)
-
--- the tokens of a text, or its first bad character or number
-abbrev pub TokensOf : List ℕ → List ℕ → Step (List Token)
-TokensOf name bytes (Ok tokens) = IsTokens bytes tokens
-TokensOf name bytes (Err r) = IsBad (IsFault bytes) token_fault name bytes r
-
--- the source that tokens are, or why they are none
-abbrev pub SourceOf : List ℕ → List ℕ → List Token → Step SourceTree
-SourceOf name bytes tokens (Ok tree) = IsParsed bytes tokens tree
-SourceOf name bytes tokens (Err r) = IsBad (IsRefused bytes tokens) syntax_fault name bytes r
-
--- the checked program that a source is, or its first broken type rule
-abbrev pub ProgramOf : List ℕ → List ℕ → SourceTree → Step ProgramTree
-ProgramOf name bytes tree (Ok p) = Typed tree p
-ProgramOf name bytes tree (Err r) = IsBad (λ e. JudgesSource tree (Some e)) type_fault name bytes r
+  pub is : r ≡ refusal 5 name (placed bytes fault.1 fault.0)
 
 -- a file's name, its bytes, and the source and the program that they are
 pub record Text : Type 0 where
@@ -106,14 +83,18 @@ pub record Text : Type 0 where
   pub source : SourceTree
   pub program : ProgramTree
 
--- a file's text with this source, whose places are those in the file's bytes
+-- a file's text with this source, whose places are those in the file's bytes: the checked program that it is, or its first broken type rule
 abbrev pub TextWith : List ℕ → List ℕ → SourceTree → Step Text
 TextWith name bytes tree =
-    After (ProgramOf name bytes tree) (λ p. Gives (Ok (record { name = name; bytes = bytes; source = tree; program = p })))
+    After (λ r. MatchResult r (Typed tree) (IsBad (λ e. JudgesSource tree (Some e)) type_fault name bytes))
+    (λ p. Gives (Ok (record { name = name; bytes = bytes; source = tree; program = p })))
 
--- the text that bytes are
+-- the text that bytes are: their tokens, or the first bad character or number; the source that these are, or why they are none; its text
 unfoldable pub TypedOf : List ℕ → List ℕ → Step Text
-TypedOf name bytes = After (TokensOf name bytes) (λ tokens. After (SourceOf name bytes tokens) (TextWith name bytes))
+TypedOf name bytes =
+    After (λ r. MatchResult r (IsTokens bytes) (IsBad (IsFault bytes) token_fault name bytes))
+    (λ tokens. After (λ r. MatchResult r (IsParsed bytes tokens) (IsBad (IsRefused bytes tokens) syntax_fault name bytes))
+    (TextWith name bytes))
 
 -- a file's text: its reading, then what its bytes are
 abbrev pub TextOf : File → Step Text
@@ -136,12 +117,8 @@ cleared turns t = elim (program_pass turns t.program) [
   | Err f ↦ Err (refusal 6 t.name (placed t.bytes f.at (cause_word f.cause)))
 ]
 
--- a program of at least so many statements at its top level
-abbrev pub long_enough : List ℕ → ℕ → ProgramTree → Result ProgramTree Refused
-long_enough name least p =
-    if nat_le least (length p.body) then Ok p
-    else Err (refusal 13 name (codes ": " ++ (decimal (length p.body) ++ codes " statements")))
-
--- a text is cleared, and then its statements at the top level are counted
+-- a text is cleared, and must then have at least so many statements at its top level
 abbrev pub LongCleared : ℕ → ℕ → Text → Step ProgramTree
-LongCleared turns least t = After (Gives (cleared turns t)) (λ p. Gives (long_enough t.name least p))
+LongCleared turns least t = After (Gives (cleared turns t)) (λ p. Gives (
+    if nat_le least (length p.body) then Ok p
+    else Err (refusal 13 t.name (codes ": " ++ (decimal (length p.body) ++ codes " statements")))))

@@ -6,11 +6,12 @@ ghost use Rattle.kf_support.specs.Answers.{cause_of};
 ghost use Rattle.kf_support.specs.Cleared.{program_of, turns_of};
 ghost use Rattle.kf_load.specs.Steps.{After, Each, Gives};
 ghost use Rattle.kf_load.specs.Stops.{Answers, Counts, FileAnswers, IsNoRead, IsProper, PairAnswers};
-ghost use Rattle.kf_load.specs.Texts.{LongCleared, TextOf, cause_word, cleared as whether_cleared, long_enough as whether_long};
+ghost use Rattle.kf_load.specs.Texts.{LongCleared, TextOf, cause_word, cleared as whether_cleared};
+ghost use Rattle.kf_load.specs.Refusals.{long_enough as whether_long};
 ghost use Rattle.kf_load.specs.Views.{program_in, programs_in, text_of, texts_in};
 
 use crate::position::place;
-use crate::refusal::{Refusal, Stop};
+use crate::refusal::{Refusal, Stop, beside};
 use crate::text::{Text, text_of_file};
 use kf_core::Program;
 use kf_io::Files;
@@ -88,6 +89,7 @@ fn long_enough<'a>(name: &'a str, cleared: Cleared, least: u32) -> Result<Cleare
     if least as usize <= statements {
         Ok(cleared)
     } else {
+        drop(cleared);
         Err(Stop::Refused(Refusal::FewStatements(name, statements)))
     }
 }
@@ -155,11 +157,8 @@ pub fn two_texts<'a, F: Files>(
     ensures second_proper { IfOk result (λ texts. IsProper texts.second) }
 {
     let first_text = text_of_file(alloc, files, first)?;
-    let second_text = text_of_file(alloc, files, second)?;
-    Ok(Texts {
-        first: first_text,
-        second: second_text,
-    })
+    let (first, second) = beside(first_text, text_of_file(alloc, files, second))?;
+    Ok(Texts { first, second })
 }
 
 /// Two cleared programs.
@@ -189,12 +188,10 @@ pub fn cleared_pair<'a>(
     ensures second_turns { IfOk result (λ pair. turns_of pair.second ≡ turns) }
     ensures read { IfErr result IsNoRead }
 {
-    let first_cleared = cleared(alloc, first, texts.first, turns)?;
-    let second_cleared = cleared(alloc, second, texts.second, turns)?;
-    Ok(Pair {
-        first: first_cleared,
-        second: second_cleared,
-    })
+    let first_cleared = cleared(alloc, first, texts.first, turns);
+    let (text, first_cleared) = beside(texts.second, first_cleared)?;
+    let (first, second) = beside(first_cleared, cleared(alloc, second, text, turns))?;
+    Ok(Pair { first, second })
 }
 
 /// The cleared programs of two files: both are read and typed before the first is cleared.

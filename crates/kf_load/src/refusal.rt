@@ -1,3 +1,5 @@
+ghost use Rattle.std.specs.Prelude.{◌≡◌, Ok, Err, IfOk, IfErr};
+
 use kf_value::Mem;
 use std::alloc::{AllocError, AllocFailed};
 
@@ -25,4 +27,13 @@ pub enum Stop<'a> {
     Refused(Refusal<'a>),
     /// Out of memory.
     Mem,
+}
+
+/// What there was first, beside what came then, where that didn't fail.
+pub(crate) fn beside<A: Drop, B, E>(first: A, second: Result<B, E>) -> Result<(A, B), E>
+    ensures both { IfOk result (λ both. (both.0 ≡ first) × (second ≡ Ok both.1)) }
+    ensures err { IfErr result (λ e. second ≡ Err e) }
+{
+    let second = second?;
+    Ok((first, second))
 }

@@ -19,8 +19,8 @@ use Rattle.kf_parse.specs.Grammar.{IsName, IsNumber, IsWord, E, Operand}
 use Rattle.kf_parse.specs.Grammar as g
 use Rattle.kf_parse.specs.Programs.{Declaration, IsProgram, Statement, Statements}
 use Rattle.kf_parse.specs.Programs as p
-use Rattle.kf_make.specs.Making.{make_head, make_line, make_source}
-use Rattle.kf_make.specs.Made.{made_cases, made_declaration, made_statement, made_statements, made_tree, number_at, parity_at, make_lines}
+use Rattle.kf_make.specs.Making.{make_source}
+use Rattle.kf_make.specs.Made.{made_cases, made_declaration, made_statement, made_statements, made_tree, number_at, parity_at, make_lines, make_head, make_line}
 use Rattle.kf_make.proofs.Fragments.{token_at, tokens_of}
 use Rattle.kf_make.proofs.Tokens.{head_fragments, line_tokens, lines_tokens, made_tokens}
 
@@ -88,7 +88,7 @@ module _ (src : List ℕ) where
       (number (token_at (t.Number 3) (at + 27) (at + 28)) refl) refl in
       let light = g.weighted (token_at (t.Sign s.Colon) (at + 42) (at + 43)) (from_five other) refl
       (number (token_at (t.Number 1) (at + 44) (at + 45)) refl) refl in
-      let others = g.other_case (token_at (t.Sign s.Comma) (at + 28) (at + 29)) g.no_other_case refl light refl in
+      let others = g.one_more (token_at (t.Sign s.Comma) (at + 28) (at + 29)) g.no_more refl light refl in
       let choice = g.choose (token_at (t.Word w.ChooseWord) (at + 8) (at + 14)) (token_at (t.Sign s.BraceOpen) (at + 15) (at + 16))
       (token_at (t.Sign s.BraceClose) (at + 46) (at + 47)) refl refl heavy others refl refl in
       subst (λ q. Statement src (line_tokens at []) (stmt_at q (Observe (dist_at (at + 8) (Choose (made_cases at)))))) here

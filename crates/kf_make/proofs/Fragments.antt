@@ -15,8 +15,8 @@ use Rattle.kf_lex.specs.declared.token.Tok.{Tok}
 use Rattle.kf_lex.specs.declared.token.Tok.TheVariants as tok
 use Rattle.kf_lex.specs.declared.token.Token.{Token}
 use Rattle.kf_lex.specs.declared.token.Word.{Word}
-use Rattle.kf_lex.specs.Cuts.{IsBeginning, IsRun, IsNumber}
-use Rattle.kf_lex.specs.Lexemes.{IsLongest, IsWord, begins_name, greatest_number}
+use Rattle.kf_lex.specs.Cuts.{IsBeginning, IsRun, IsNumber, begins_name}
+use Rattle.kf_lex.specs.Lexemes.{IsLongest, IsWord, greatest_number}
 use Rattle.kf_lex.specs.Pieces.{is_separator}
 use Rattle.kf_lex.specs.Readings.{Reads}
 use Rattle.kf_lex.specs.Readings as r

@@ -1,7 +1,7 @@
 -- A line may be added in front of lines or behind them.
 use Rattle.std.proofs.Common.{◌≡◌, ◌+◌, ℕ, zero, suc, List, ◌++◌, append-nil, append_assoc, add-one, sym, ap, ◌∙◌}
-use Rattle.kf_make.specs.Making.{make_head, make_line, make_source}
-use Rattle.kf_make.specs.Made.{make_lines}
+use Rattle.kf_make.specs.Making.{make_source}
+use Rattle.kf_make.specs.Made.{make_lines, make_head, make_line}
 
 line_behind : (k : ℕ) → make_lines k ++ make_line ≡ make_lines (suc k)
 line_behind zero = sym (append-nil make_line)

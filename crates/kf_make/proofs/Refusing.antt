@@ -15,11 +15,12 @@ use Rattle.kf_core.specs.Programs.{ProgramTree}
 use Rattle.kf_core.specs.Scale.{scale_of}
 use Rattle.kf_core.specs.Support.{program_pass}
 use Rattle.kf_load.specs.Steps.{Refused, After}
-use Rattle.kf_load.specs.Texts.{ProgramOf, SourceOf, Text, TextWith, TokensOf, TypedOf, cleared}
+use Rattle.kf_load.specs.Texts.{Text, TextWith, TypedOf, cleared}
+use Rattle.kf_load.specs.Refusals.{ProgramOf, SourceOf, TokensOf}
 use Rattle.kf_load.proofs.Faults.{fits, some_syntax}
 use Rattle.kf_make.specs.Laws.{MadeIsClear, MadeIsParsed, MadeIsTyped, MadeScale}
-use Rattle.kf_make.specs.Made.{made_program, made_tree, make_lines}
-use Rattle.kf_make.specs.Making.{make_head, make_line, make_source}
+use Rattle.kf_make.specs.Made.{made_program, made_tree, make_lines, make_head, make_line}
+use Rattle.kf_make.specs.Making.{make_source}
 
 lines_long : (k : ℕ) → length (make_lines k) ≡ 49 * k
 lines_long zero = refl

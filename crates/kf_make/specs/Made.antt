@@ -1,5 +1,5 @@
--- For bodies: the source and the program that the made text is.
-use Rattle.std.specs.Prelude.{◌≡◌, ◌≤◌, ℕ, zero, suc, ◌+◌, pos, false, List, [], ◌∷◌, codes}
+-- For bodies: the lines of the made text, and the source and the program that it is.
+use Rattle.std.specs.Prelude.{◌≡◌, ◌≤◌, ℕ, zero, suc, ◌+◌, pos, false, List, [], ◌∷◌, ◌++◌, codes}
 use Rattle.std.specs.List.{repeat}
 use Rattle.kf_value.specs.Types.{Range as number_range}
 use Rattle.kf_value.specs.Values.{Whole}
@@ -16,7 +16,15 @@ use Rattle.kf_core.specs.Sts as st
 use Rattle.kf_core.specs.Programs.{ProgramTree}
 use Rattle.kf_ops.specs.declared.row.Op.TheVariants as op
 use Rattle.kf_ops.specs.Places.{number_of}
-use Rattle.kf_make.specs.Making.{make_source, make_line}
+use Rattle.kf_make.specs.Making.{make_source}
+
+-- 64 values, each alike
+abbrev pub make_head : List ℕ
+make_head = codes "var x : 0..63 := uniform 0..63;" ++ 10 ∷ []
+
+-- their parity, turned round once in four times
+abbrev pub make_line : List ℕ
+make_line = codes "observe choose { x mod 2 : 3, 1 - x mod 2 : 1 };" ++ 10 ∷ []
 
 abbrev pub number_at : ℕ → ℕ → ExprTree
 number_at at n = expr_at at (Number n)

@@ -1,10 +1,12 @@
 -- Whatever task words ask for is one that can be asked for by words of its own.
-use Rattle.std.proofs.Common.{◌≡◌, ℕ, suc, ◌+◌, ◌<◌, ◌≤◌, ◌^◌, ◌==◌, ◌&&◌, nat_le, leb-true, Bool, true, false, List, [], ◌∷◌, length, drop, find, nat_eq, codes, Option, None, Some, refl, subst, arith, if◌then◌else◌, option_map, option_and_then}
+use Rattle.std.proofs.Common.{◌≡◌, ℕ, suc, ◌+◌, ◌-◌, ◌<◌, ◌≤◌, ◌^◌, ◌==◌, ◌&&◌, nat_le, leb-true, Bool, true, false, List, [], ◌∷◌, length, drop, take, nat_eq, codes, Option, None, Some, refl, subst, arith, if◌then◌else◌, option_map, option_and_then}
 use Rattle.std.specs.Char.{is_ascii_digit, digit_value}
 use Rattle.std.specs.List.{list_all, starts_with, AllByRecursion as Every}
+use Rattle.std.specs.Map.{lookup}
 use Rattle.std.specs.Str.{bytes_eq}
 use Rattle.std.specs.Str.Parse.{AllDigits, digits_value}
 use Rattle.std.proofs.lemmas.Bool.Decides.{Decides-eqb}
+use Rattle.std.proofs.lemmas.List.{length-take-le}
 use Rattle.std.proofs.lemmas.Str.{digit_value_digit}
 use Rattle.std.proofs.lemmas.Str.Parse.{IsNumeralModel, numerals_by_value, tells_digits, digits_value_short}
 use Rattle.kf_gain.specs.Gains.{GainOf, Bayes, Tries, Guessing, Table}
@@ -12,9 +14,9 @@ use Rattle.kf_words.specs.Arguments.{Arguments, arguments_of}
 use Rattle.kf_words.specs.GainWords.{gain_named}
 use Rattle.kf_words.specs.Jobs.{HasTurns}
 use Rattle.kf_words.specs.Laws.{TasksInRange}
-use Rattle.kf_words.specs.Numbers.{around, block_of, in_range, is_numeral, number_of, numeral_of, pair_of, probability_of, ratio_of, threshold_of}
-use Rattle.kf_words.specs.Task.{Command, Cascade, Parallel, Choice, Hyper, Traces, Channel, Trail, Capacity, Compose, Leak, Attack, Reach, Make, Refine, Check, Covers, Quiet, Blame, Task, CommandRow, but_last, check_row, commands, files_only, make_row, observations_of, on_files, options_fit, refine_row, row_of, row_task, task_of_values, turns_of, with_gain, with_pair}
-use Rattle.kf_words.specs.OfWords.{first_of, others_of, last_of, task_of_arguments, tries_of, table_of}
+use Rattle.kf_words.specs.Numbers.{around, block_of, is_numeral, number_of, numeral_of, pair_of, probability_of, ratio_of, threshold_of}
+use Rattle.kf_words.specs.Task.{Command, Cascade, Parallel, Choice, Hyper, Traces, Channel, Trail, Capacity, Compose, Leak, Attack, Reach, Make, Refine, Check, Covers, Quiet, Blame, Task, CommandRow, commands, files_only, observations_of, on_files, options_fit, row_task, task_of_values, with_gain, with_pair}
+use Rattle.kf_words.specs.OfWords.{first_of, others_of, last_of, task_of_arguments, tries_of, table_of, check_row, make_row, refine_row, row_of, turns_of, in_range}
 use Rattle.kf_words.proofs.Numerals.{both}
 use Rattle.kf_words.proofs.TaskRanges.{given, mapped, passed, tested}
 use Rattle.kf_meaning.specs.Tasks.{EachTaskCanBeAsked, IsFor, IsGain}
@@ -43,11 +45,10 @@ numeral_below most word n is =
 
 number_in : (word : List ℕ) (n : ℕ) → number_of word ≡ Some n → (1 ≤ n) × (n ≤ 65535)
 number_in word n is =
-    let value = digits_value 10 word in
-    let numeral = tested (is_numeral 5 word) (in_range value) n is in
-    passed (nat_le 1 value && nat_le value 65535) value n (λ m. (1 ≤ m) × (m ≤ 65535)) numeral.1
-    (λ holds. let tests = both (nat_le 1 value) (nat_le value 65535) holds in
-    (leb-true 1 value tests.0, leb-true value 65535 tests.1))
+    let value = given in_range (numeral_of 5 word) n is in
+    passed (nat_le 1 value.0 && nat_le value.0 65535) value.0 n (λ m. (1 ≤ m) × (m ≤ 65535)) value.2
+    (λ holds. let tests = both (nat_le 1 value.0) (nat_le value.0 65535) holds in
+    (leb-true 1 value.0 tests.0, leb-true value.0 65535 tests.1))
 
 observations_in : (word : List ℕ) (n : ℕ) → observations_of word ≡ Some n → (1 ≤ n) × (n ≤ 60)
 observations_in word n is =
@@ -152,19 +153,15 @@ check_keeps values arguments ask turns long is =
     let cert = mapped (λ cert. on_files (Check cert) (others_of values)) (first_of values) ask is in
     asked_keeps (Check cert.0) (others_of values) ask turns cert.2 (others_long values long)
 
-but_last_long : (values : List (List ℕ)) (k : ℕ) → length values ≡ suc k → length (but_last values) ≡ k
-but_last_long [] k long = absurd (omega (arith, long))
-but_last_long (word ∷ []) k long = omega (arith, long)
-but_last_long (word ∷ next ∷ words) k long =
-    let rest = but_last_long (next ∷ words) (length words) refl in
-    omega (arith, rest, long)
+files_long : (values : List (List ℕ)) (k : ℕ) → length values ≡ suc k → length (take (suc k - 1) values) ≡ k
+files_long values k long = let fewer = length-take-le (suc k - 1) values (omega (arith, long)) in omega (arith, fewer)
 
 pair_keeps : (pair : List ℕ → Option (ℕ × ℕ)) (command : ℕ → ℕ → Command) (files : ℕ)
     → ((word : List ℕ) (p : ℕ × ℕ) (k : ℕ) → k ≡ files → pair word ≡ Some p → IsFor (command p.0 p.1) k) → Keeps (with_pair pair command (suc files))
 pair_keeps pair command files has values arguments ask turns long is =
-    let p = mapped (λ (p : ℕ × ℕ). on_files (command p.0 p.1) (but_last values)) (option_and_then pair (last_of values)) ask is in
+    let p = mapped (λ (p : ℕ × ℕ). on_files (command p.0 p.1) (take (suc files - 1) values)) (option_and_then pair (last_of values)) ask is in
     let word = given pair (last_of values) p.0 p.1 in
-    asked_keeps (command p.0.0 p.0.1) (but_last values) ask turns p.2 (has word.0 p.0 (length (but_last values)) (but_last_long values files long) word.2)
+    asked_keeps (command p.0.0 p.0.1) (take (suc files - 1) values) ask turns p.2 (has word.0 p.0 (length (take (suc files - 1) values)) (files_long values files long) word.2)
 
 choice_keeps : Keeps (with_pair probability_of (λ num den. Compose (Choice num den)) 3)
 choice_keeps = pair_keeps probability_of (λ num den. Compose (Choice num den)) 2
@@ -232,16 +229,16 @@ all_keep = (
   ),
 )
 
-first_or_later : (b : Bool) (r : List ℕ × CommandRow) (later : Option (List ℕ × CommandRow)) (row : CommandRow) → Keeps r.1
-    → (option_map (λ r. r.1) later ≡ Some row → Keeps row) → option_map (λ r. r.1) (if b then Some r else later) ≡ Some row → Keeps row
+first_or_later : (b : Bool) (r : List ℕ × CommandRow) (later : Option CommandRow) (row : CommandRow) → Keeps r.1
+    → (later ≡ Some row → Keeps row) → (if b then Some r.1 else later) ≡ Some row → Keeps row
 first_or_later true r later row here there is = let same : r.1 ≡ row = cc in subst Keeps same here
 first_or_later false r later row here there is = there is
 
 found_keeps : (word : List ℕ) (rows : List (List ℕ × CommandRow)) → Every (λ (r : List ℕ × CommandRow). Keeps r.1) rows → (row : CommandRow)
-    → option_map (λ r. r.1) (find (λ r. bytes_eq word r.0) rows) ≡ Some row → Keeps row
+    → lookup (bytes_eq word) rows ≡ Some row → Keeps row
 found_keeps word [] all row is = absurd (cc)
 found_keeps word (r ∷ rows) all row is =
-    first_or_later (bytes_eq word r.0) r (find (λ r. bytes_eq word r.0) rows) row all.0 (found_keeps word rows all.1 row) is
+    first_or_later (bytes_eq word r.0) r (lookup (bytes_eq word) rows) row all.0 (found_keeps word rows all.1 row) is
 
 -- ---- the words
 

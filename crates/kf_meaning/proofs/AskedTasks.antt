@@ -5,7 +5,8 @@ use Rattle.std.specs.Fmt.{decimal}
 use Rattle.std.proofs.lemmas.Bool.{le-leb}
 use Rattle.kf_gain.specs.Gains.{GainOf}
 use Rattle.kf_words.specs.Numbers.{block_of, probability_of, threshold_of}
-use Rattle.kf_words.specs.Task.{Command, Cascade, Parallel, Choice, Hyper, Traces, Channel, Trail, Capacity, Compose, Leak, Attack, Reach, Make, Refine, Check, Covers, Quiet, Blame, check_row, files_only, make_row, observations_of, on_files, refine_row, row_of, task_of, with_gain, with_pair}
+use Rattle.kf_words.specs.Task.{Command, Cascade, Parallel, Choice, Hyper, Traces, Channel, Trail, Capacity, Compose, Leak, Attack, Reach, Make, Refine, Check, Covers, Quiet, Blame, files_only, observations_of, on_files, task_of, with_gain, with_pair}
+use Rattle.kf_words.specs.OfWords.{check_row, make_row, refine_row, row_of}
 use Rattle.kf_meaning.specs.Tasks.{IsFor, WordsAskForTheirTask, DifferentWords, gain_word, IsGain, pair_word, words_of}
 use Rattle.kf_meaning.proofs.Numerals.{number_read, pair_read}
 use Rattle.kf_meaning.proofs.Reading.{asked, four_values, gain_read, three_values, two_values, under_gain, with_json}

@@ -5,7 +5,8 @@ use Rattle.std.proofs.Math.ListN.{length-map}
 use Rattle.std.proofs.lemmas.List.{get_or-append-add, get_or_append_left, length-append}
 use Rattle.std.proofs.lemmas.List.FromFn.{get_or-map-range_with_len}
 use Rattle.std.proofs.lemmas.List.Sums.{sum_by-cons}
-use Rattle.kf_capacity.specs.Compositions.{products, through}
+use Rattle.kf_capacity.specs.Compositions.{through}
+use Rattle.kf_capacity.specs.Composing.{products}
 use Rattle.kf_capacity.specs.Vulnerabilities.{sum_to}
 use Rattle.kf_meaning.specs.Channels.{CascadeIsProduct, FirstMarginal, ParallelHasPairs, ParallelIsIndependent, SecondMarginal, entry}
 

@@ -9,7 +9,8 @@ use Rattle.std.specs.Str.Parse.{AllDigits, IsNumeral, digits_value}
 use Rattle.std.proofs.lemmas.Bool.{le-leb, ne_eqb}
 use Rattle.std.proofs.lemmas.Fmt.{decimal_is_IsNumeral, length-decimal-le}
 use Rattle.std.proofs.lemmas.Str.Parse.{digit_from_value}
-use Rattle.kf_words.specs.Numbers.{around, in_range, is_numeral, number_of, numeral_of, pair_of}
+use Rattle.kf_words.specs.Numbers.{around, is_numeral, number_of, numeral_of, pair_of}
+use Rattle.kf_words.specs.OfWords.{in_range}
 
 -- ---- digits
 
@@ -44,7 +45,7 @@ number_read n some few =
     let value = (numeral n wide).1 in
     let low = le-leb 1 n some in
     let high = le-leb n 65535 few in
-    (λ i. if passes i then in_range (value i) else None) ∙ (λ i. if low i && high i then Some n else None)
+    (λ i. option_and_then in_range (if passes i then Some (value i) else None)) ∙ (λ i. if low i && high i then Some n else None)
 
 -- ---- two numbers around a mark
 

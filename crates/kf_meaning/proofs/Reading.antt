@@ -7,8 +7,8 @@ use Rattle.clap.specs.Faults.{defaults_fault, flags_fault, walk_fault}
 use Rattle.kf_gain.specs.Gains.{GainOf, Bayes, Tries, Guessing, Table}
 use Rattle.kf_words.specs.Arguments.{Arguments, arguments_of}
 use Rattle.kf_words.specs.GainWords.{gain_named}
-use Rattle.kf_words.specs.Task.{CommandRow, Task, options_fit, row_of, row_task, task_of}
-use Rattle.kf_words.specs.OfWords.{task_of_arguments}
+use Rattle.kf_words.specs.Task.{CommandRow, Task, options_fit, row_task, task_of}
+use Rattle.kf_words.specs.OfWords.{task_of_arguments, row_of}
 use Rattle.kf_meaning.specs.Tasks.{gain_word, IsGain}
 use Rattle.kf_meaning.proofs.Numerals.{number_read}
 

@@ -15,7 +15,7 @@ use Rattle.kf_column.proofs.Proportions.{all_proportional, proportional_all}
 use Rattle.kf_column.proofs.Scaling.{two_ways}
 use Rattle.kf_column.proofs.Weights.{weight_at-cons, weight_at_other}
 use Rattle.kf_core.specs.Joint.{weight_of}
-use Rattle.kf_core.specs.Pushing.{carried_cells}
+use Rattle.kf_core.specs.Ready.{carried_cells}
 use Rattle.kf_core.specs.Rows.{AreRowsOf}
 use Rattle.kf_core.specs.Runs.{stay}
 use Rattle.kf_core.proofs.Sums.{adds, sum_is}

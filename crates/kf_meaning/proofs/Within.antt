@@ -18,7 +18,7 @@ use Rattle.kf_column.proofs.Weights.{weight_at-cons, weight_at_head}
 use Rattle.kf_core.specs.Choices.{total}
 use Rattle.kf_core.specs.Dxs.{DxTree}
 use Rattle.kf_core.specs.Joint.{Cell, cell_of, cells, weight_of}
-use Rattle.kf_core.specs.Pushing.{carried_cells}
+use Rattle.kf_core.specs.Ready.{carried_cells}
 use Rattle.kf_core.specs.Rows.{AreRowsOf}
 use Rattle.kf_core.specs.Runs.{Halted, LoopBound, Run, Tried, all_runs, assigned, branched, chain, choice_run, declared, guarded, joined, leaks, looped, place, replaced, runs, stay, stopped, store_number, tried}
 use Rattle.kf_core.specs.Sts.{StTree, StTrees, Skip, Assign, Observe, If, While, no_sts, more_sts}

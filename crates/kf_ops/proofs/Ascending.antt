@@ -8,7 +8,8 @@ use Rattle.std.specs.List.{AllByRecursion as Each, filter}
 use Rattle.kf_value.specs.Values.{ValueTree, order}
 use Rattle.kf_value.proofs.ListLemmas.{each_weaker}
 use Rattle.kf_value.proofs.Orders.{flip, goes_on, same}
-use Rattle.kf_ops.specs.Values.{either, inserted, is_in}
+use Rattle.kf_ops.specs.Values.{inserted, is_in}
+use Rattle.kf_ops.specs.Sets.{either}
 
 -- each of the list comes after the value
 abbrev pub Below : ValueTree → List ValueTree → Type 0

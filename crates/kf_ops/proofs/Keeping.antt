@@ -13,7 +13,8 @@ use Rattle.kf_value.proofs.ListLemmas.{each_weaker}
 use Rattle.kf_ops.specs.Rows.{operators}
 use Rattle.kf_ops.specs.Fitting.{EachFits, FitsWell}
 use Rattle.kf_ops.specs.Laws.{KeepsKinds}
-use Rattle.kf_ops.specs.Values.{applied, row_value, either, narrow, is_i64, is_in, Fault, DivZero, ArithWide}
+use Rattle.kf_ops.specs.Values.{applied, row_value, narrow, is_i64, is_in, Fault, DivZero, ArithWide}
+use Rattle.kf_ops.specs.Sets.{either}
 use Rattle.kf_ops.specs.declared.row.Op.{Op}
 use Rattle.kf_ops.specs.declared.row.Op.TheVariants as op
 use Rattle.kf_ops.specs.declared.row.Pat.{Pat}

@@ -11,12 +11,12 @@ use Rattle.kf_value.specs.Values.{ValueTree, Truth, Whole, Set, parts, parts_lis
 use Rattle.kf_value.specs.Laws.{IsIn}
 use Rattle.kf_value.proofs.Trees.{parts_list-parts}
 use Rattle.kf_ops.specs.Laws.{Gives, GivesOfTwo, IsNarrow, IsPicked, MakesSets, PicksOfTwo, Tells}
-use Rattle.kf_ops.specs.Values.{Fault, DivZero, ArithWide, applied, either, is_i64, is_in, narrow}
+use Rattle.kf_ops.specs.Values.{Fault, DivZero, ArithWide, applied, is_i64, is_in, narrow}
 use Rattle.kf_ops.specs.declared.row.Op.{Op}
 use Rattle.kf_ops.specs.declared.row.Op.TheVariants as op
 use Rattle.kf_ops.proofs.SetLaws.{equal_values, holds, not_both, not_from, union_law, without_law, both_law}
 use Rattle.kf_ops.proofs.Subsets.{all_in}
-use Rattle.kf_ops.specs.Sets.{are_in, without, both}
+use Rattle.kf_ops.specs.Sets.{are_in, without, both, either}
 
 -- ---- Booleans
 

@@ -26,11 +26,8 @@ pub elements_sorted : (v : Value) (xs : List Value) → map value_tree xs ≡ el
     → IsStrictlySortedBy order (map value_tree xs)
 elements_sorted v xs is h = subst (IsStrictlySortedBy order) (sym is) (elements_ascend (value_tree v) h)
 
--- neither a value nor a wide result is want of memory
+-- a value is no want of memory
 pub value_stays : {X : Type 0} (v : Value) → ◌≡◌ {A = Result Value OpFault} (Ok v) (Err fault.Mem) → X
 value_stays v h = absurd (cc)
-
-pub wide_stays : {X : Type 0} → ◌≡◌ {A = Result Value OpFault} (Err fault.ArithWide) (Err fault.Mem) → X
-wide_stays h = absurd (cc)
 
 pub ruleset readings = (constructors, elements-Set)

@@ -12,9 +12,9 @@ use Rattle.kf_value.specs.Laws.{IsIn}
 use Rattle.kf_value.proofs.Orders.{order-itself, same}
 use Rattle.kf_value.proofs.Sorting.{sorted-cons, sorted-head, sorted-tail}
 use Rattle.kf_ops.specs.Laws.{IsSetOf}
-use Rattle.kf_ops.specs.Values.{either, inserted, is_in}
+use Rattle.kf_ops.specs.Values.{inserted, is_in}
 use Rattle.kf_ops.proofs.Ascending.{Below, below_lower, turned_greater, each_inserted, placed}
-use Rattle.kf_ops.specs.Sets.{without, both}
+use Rattle.kf_ops.specs.Sets.{without, both, either}
 
 abbrev Ascends : List ValueTree → Type 0
 Ascends vs = IsStrictlySortedBy order vs

@@ -4,10 +4,9 @@ use Rattle.std.specs.declared.cmp.Ordering.{Ordering}
 use Rattle.std.specs.declared.cmp.Ordering.TheVariants.{Less, Equal, Greater}
 use Rattle.std.specs.Ordering.{is_eq, is_lt}
 use Rattle.kf_value.specs.Values.{ValueTree, order}
-use Rattle.kf_ops.specs.Values.{either}
 use Rattle.kf_ops.specs.declared.sets.Kept.{Kept}
 use Rattle.kf_ops.specs.declared.sets.Kept.TheVariants as kept
-use Rattle.kf_ops.specs.Sets.{without, both}
+use Rattle.kf_ops.specs.Sets.{without, both, either}
 
 -- the operation of the values that are kept
 abbrev pub kept_of : Kept → List ValueTree → List ValueTree → List ValueTree

@@ -22,10 +22,6 @@ abbrev pub inserted : ValueTree → List ValueTree → List ValueTree
 inserted v [] = v ∷ []
 inserted v (w ∷ ws) = match_ordering (order v w) (v ∷ w ∷ ws) (w ∷ ws) (w ∷ inserted v ws)
 
--- the elements of either set
-abbrev pub either : List ValueTree → List ValueTree → List ValueTree
-either vs ws = foldr inserted ws vs
-
 -- the number lies from -2^63 up to 2^63 - 1
 abbrev pub is_i64 : ℤ → Bool
 is_i64 (pos n) = nat_lt n (2 ^ 63)
@@ -53,7 +49,7 @@ row_value op.AtLeast a b c = Ok (Truth (int_le (whole b) (whole a)))
 row_value op.Elem a b c = Ok (Truth (is_in a (elements b)))
 row_value op.Add a b c = narrow (whole a +ℤ whole b)
 row_value op.Subtract a b c = narrow (whole a -ℤ whole b)
-row_value op.Union a b c = Ok (Set (parts (either (elements a) (elements b))))
+row_value op.Union a b c = Ok (Set (parts (foldr inserted (elements b) (elements a))))
 row_value op.Without a b c = Ok (Set (parts (filter (λ v. not (is_in v (elements b))) (elements a))))
 row_value op.Multiply a b c = narrow (whole a *ℤ whole b)
 row_value op.Div a b c = divided_by (whole b) (narrow (int_div_euclid (whole a) (whole b)))

@@ -6,13 +6,13 @@ ghost use Rattle.kf_ops.specs.Views.{row_of, rows_of};
 ghost use Rattle.kf_ops.specs.Table.{HasArity, HasDistinctCodes, HasDistinctWords, HasLevel, HasRowAtNumber};
 
 use crate::row::{Op, OpRow};
-use crate::table::{CODES, OPS};
+use crate::table::{CODES, TABLE};
 
 /// The table by value, for a caller whose contract speaks of its rows: in a body, one call in place of all rows written out.
 pub fn operators() -> [OpRow; 27]
     ensures { rows_of result ≡ operator_rows }
 {
-    OPS
+    *TABLE
 }
 
 /// The operator of a row, counted from 0.

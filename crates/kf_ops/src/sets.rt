@@ -1,15 +1,17 @@
 //! Sets as ascending lists.
 
-ghost use Rattle.std.specs.Prelude.{◌≡◌, ◌++◌, ◌∷◌, [], map, if◌then◌else◌, IfOk, OnOk, MatchOption};
+ghost use Rattle.std.specs.Prelude.{◌≡◌, ◌++◌, ◌∷◌, [], map, if◌then◌else◌, Ok, IfOk, OnOk, MatchOption};
 ghost use Rattle.std.specs.List.Sorted.{IsStrictlySortedBy};
-ghost use Rattle.kf_value.specs.Values.{order, elements as elements_in};
+ghost use Rattle.kf_value.specs.Values.{Set, order, parts, elements as elements_in};
 ghost use Rattle.kf_value.specs.Forms.{IsWellFormed};
-ghost use Rattle.kf_value.specs.Views.{value_tree, value_trees};
+ghost use Rattle.kf_value.specs.Views.{value_tree};
+ghost use Rattle.kf_ops.specs.Answers.{Answers};
 ghost use Rattle.kf_ops.specs.Values.{is_in};
 ghost use Rattle.kf_ops.specs.Merging.{IsNext, is_kept, kept_of};
 ghost use Rattle.kf_ops.specs.Sets.{are_in};
 
 use crate::arguments::elements;
+use crate::fault::OpFault;
 use kf_value::{Mem, Value, ValueList, compare};
 use std::alloc::Global;
 use std::cmp::Ordering;
@@ -125,13 +127,14 @@ fn merge(alloc: Global, xs: &[Value], ys: &[Value], kept: Kept) -> Result<Vec<Va
     Ok(merged)
 }
 
-/// The kept elements of two sets.
-pub fn combined(alloc: Global, a: &Value, b: &Value, kept: Kept) -> Result<ValueList, Mem>
+/// The set of the kept elements of two sets.
+pub fn combined(alloc: Global, a: &Value, b: &Value, kept: Kept) -> Result<Value, OpFault>
     requires first { IsWellFormed (value_tree a.now) }
     requires second { IsWellFormed (value_tree b.now) }
-    ensures { IfOk result (λ m. value_trees m ≡ kept_of kept (elements_in (value_tree a.now)) (elements_in (value_tree b.now))) }
+    ensures { Answers result (Ok (Set (parts (kept_of kept (elements_in (value_tree a.now)) (elements_in (value_tree b.now)))))) }
 {
-    Ok(ValueList::new(merge(alloc, elements(a), elements(b), kept)?))
+    let merged = merge(alloc, elements(a), elements(b), kept)?;
+    Ok(Value::Set(ValueList::new(merged)))
 }
 
 /// Whether no element of the first ascending list is missing in the second, in one pass over both.

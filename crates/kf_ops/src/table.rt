@@ -275,6 +275,9 @@ pub const OPS: [OpRow; 27] = [
     },
 ];
 
+/// The same rows behind a reference, which a body reads as one copy in place of all rows written out.
+pub(crate) const TABLE: &[OpRow; 27] = &OPS;
+
 /// The operators alone, row by row.
 pub(crate) const CODES: [Op; 27] = [
     Op::Or,

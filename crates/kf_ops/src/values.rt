@@ -1,6 +1,6 @@
 //! What each operator gives.
 
-ghost use Rattle.std.specs.Prelude.{◌≡◌, ◌≢◌, ◌≤◌, true, map, length, pos, Ok, Err, IfOk};
+ghost use Rattle.std.specs.Prelude.{◌≡◌, ◌≢◌, ◌≤◌, true, map, length, pos, if◌then◌else◌, Ok, Err, IfOk, MatchOption};
 ghost use Rattle.std.specs.List.{All};
 ghost use Rattle.kf_value.specs.Kinds.{KindTree};
 ghost use Rattle.kf_ops.specs.Rows.{Row};
@@ -35,19 +35,23 @@ macro_rules! comparison {
     };
 }
 
-macro_rules! arithmetic {
-    ($whole:expr) => {
-        match $whole {
-            Some(whole) => Ok(Value::Int(whole)),
-            None => Err(OpFault::ArithWide),
-        }
-    };
+/// The number as a value, or the fault where the result is no i64, so that there is none.
+fn narrowed(whole: Option<i64>) -> Result<Value, OpFault>
+    ensures value { MatchOption whole (result ≡ Err OpFault.ArithWide) (λ n. result ≡ Ok (Value.Int n)) }
+    ensures memory { result ≢ Err fault.Mem }
+{
+    match whole {
+        Some(whole) => Ok(Value::Int(whole)),
+        None => Err(OpFault::ArithWide),
+    }
 }
 
-macro_rules! sets {
-    ($alloc:ident, $a:ident, $b:ident, $kept:expr) => {
-        Ok(Value::Set(combined($alloc, $a, $b, $kept)?))
-    };
+/// A copy of one of two values.
+fn chosen(alloc: Global, first: bool, a: &Value, b: &Value) -> Result<Value, OpFault>
+    ensures { Answers result (Ok (if first then value_tree a.now else value_tree b.now)) }
+{
+    let value = if first { a } else { b };
+    Ok(value.copy(alloc)?)
 }
 
 /// The value of the operator at up to three arguments; a row of fewer leaves the others aside.
@@ -69,27 +73,23 @@ fn value_of(alloc: Global, code: Op, a: &Value, b: &Value, c: &Value) -> Result<
         Op::Greater => comparison!(a > b),
         Op::AtLeast => comparison!(a >= b),
         Op::Elem => logic!(contains(elements(b), a)),
-        Op::Add => arithmetic!(whole(a).checked_add(whole(b))),
-        Op::Subtract => arithmetic!(whole(a).checked_sub(whole(b))),
-        Op::Union => sets!(alloc, a, b, Kept::Either),
-        Op::Without => sets!(alloc, a, b, Kept::First),
-        Op::Multiply => arithmetic!(whole(a).checked_mul(whole(b))),
+        Op::Add => narrowed(whole(a).checked_add(whole(b))),
+        Op::Subtract => narrowed(whole(a).checked_sub(whole(b))),
+        Op::Union => combined(alloc, a, b, Kept::Either),
+        Op::Without => combined(alloc, a, b, Kept::First),
+        Op::Multiply => narrowed(whole(a).checked_mul(whole(b))),
         Op::Div => quotient(whole(a), whole(b)),
         Op::Mod => remainder(whole(a), whole(b)),
-        Op::Inter => sets!(alloc, a, b, Kept::Both),
-        Op::Negate => arithmetic!(whole(a).checked_neg()),
+        Op::Inter => combined(alloc, a, b, Kept::Both),
+        Op::Negate => narrowed(whole(a).checked_neg()),
         Op::Size => Ok(Value::Int(size(elements(a)))),
-        Op::Cond => Ok(if truth(a) {
-            b.copy(alloc)?
-        } else {
-            c.copy(alloc)?
-        }),
+        Op::Cond => chosen(alloc, truth(a), b, c),
         Op::Xor => logic!(truth(a) != truth(b)),
         Op::Implies => logic!(truth(b) | !truth(a)),
         Op::Subset => logic!(is_subset(a, b)),
         Op::Min => Ok(Value::Int(whole(a).min(whole(b)))),
         Op::Max => Ok(Value::Int(whole(a).max(whole(b)))),
-        Op::Abs => arithmetic!(whole(a).checked_abs()),
+        Op::Abs => narrowed(whole(a).checked_abs()),
     }
 }
 
@@ -102,7 +102,7 @@ fn quotient(a: i64, b: i64) -> Result<Value, OpFault>
     if b == 0 {
         return Err(OpFault::DivZero);
     }
-    arithmetic!(a.checked_div_euclid(b))
+    narrowed(a.checked_div_euclid(b))
 }
 
 /// The Euclidean remainder, which an i64 always holds.

@@ -13,7 +13,7 @@ use Rattle.kf_ast.specs.Sources.{DeclTree, declared}
 use Rattle.kf_ast.specs.Built.{type_count, IsTypeBuilt, AreTypesBuilt, expr_count, IsBuilt, AreBuilt, AreCasesBuilt, IsDistBuilt, IsStmtBuilt, AreStmtsBuilt, AreDeclsBuilt, AreListedBuilt}
 use Rattle.kf_parse.specs.Operators.{IsBetween, IsBefore, arity_of}
 use Rattle.kf_parse.specs.Grammar as g
-use Rattle.kf_parse.specs.Grammar.{Parts, E, Chain, Operand, Others, TypeOf, OtherTypes, Case, OtherCases, Dist}
+use Rattle.kf_parse.specs.Grammar.{Parts, E, Chain, Operand, Others, TypeOf, OtherTypes, Case, Listed, Dist}
 use Rattle.kf_parse.specs.Programs as p
 use Rattle.kf_parse.specs.Programs.{Statement, Block, Statements, Declaration, Declarations}
 use Rattle.kf_parse.specs.Laws.{OnlyBuilt}
@@ -131,13 +131,13 @@ module _ (src : List ℕ) where
   case_built : {ts : List Token} {x : CaseTree} → Case src ts x → IsCaseBuilt x
   case_built (g.weighted c e i f w) = (e_built src e, e_built src f)
 
-  other_cases_built : {xs ys : List CaseTree} {ts : List Token} → OtherCases src xs ts ys → AreCasesBuilt Takes xs → AreCasesBuilt Takes ys
-  other_cases_built g.no_other_case b = b
-  other_cases_built (g.other_case c {ys = ys} {y = y} l i e w) b = push_cases ys y (other_cases_built l b) (case_built e)
+  other_cases_built : {xs ys : List CaseTree} {ts : List Token} → Listed (Case src) xs ts ys → AreCasesBuilt Takes xs → AreCasesBuilt Takes ys
+  other_cases_built g.no_more b = b
+  other_cases_built (g.one_more c {ys = ys} {y = y} l i e w) b = push_cases ys y (other_cases_built l b) (case_built e)
 
-  other_cases_long : {xs ys : List CaseTree} {ts : List Token} → OtherCases src xs ts ys → length xs ≤ length ys
-  other_cases_long g.no_other_case = omega arith
-  other_cases_long (g.other_case c {ys = ys} {y = y} l i e w) = let rest = other_cases_long l in let more = length-append ys (y ∷ []) in omega arith
+  other_cases_long : {xs ys : List CaseTree} {ts : List Token} → Listed (Case src) xs ts ys → length xs ≤ length ys
+  other_cases_long g.no_more = omega arith
+  other_cases_long (g.one_more c {ys = ys} {y = y} l i e w) = let rest = other_cases_long l in let more = length-append ys (y ∷ []) in omega arith
 
   dist_built : {ts : List Token} {d : DistTree} → Dist src ts d → IsDistBuilt Takes d
   dist_built (g.sure e) = e_built src e

@@ -8,7 +8,7 @@ use Rattle.kf_ops.specs.declared.row.Op.{Op}
 use Rattle.kf_parse.specs.declared.stop.Stop.{Stop}
 use Rattle.kf_parse.specs.declared.stop.Stop.TheVariants as stop
 use Rattle.kf_parse.specs.Operators.{arity_of}
-use Rattle.kf_parse.specs.OperatorTokens.{infix_op, row_of}
+use Rattle.kf_parse.specs.OperatorTokens.{infix_op, prefix_op, row_of}
 use Rattle.kf_parse.specs.Tokens.{is}
 use Rattle.kf_parse.specs.Outcomes.{got, Parser, and_then, ◌>>=◌, pure, refuse, behind, where_true, first, expect, repeat}
 use Rattle.kf_parse.specs.Reading as r
@@ -102,6 +102,29 @@ module _ (src : List ℕ) (d h l : ℕ) (x : Cut) (o : Token) (ts us : List Toke
 pub climb_ends : (src : List ℕ) (d h l : ℕ) (x : Cut) (ts : List Token) → ts ≡ [] → r.climb trimmed src (r.level trimmed src (r.expr trimmed src d) h) l x ts ≡ got x ts
 unfolding r.climb
 climb_ends src d h l x ts e = rw e (repeat_end (r.operation trimmed src (r.level trimmed src (r.expr trimmed src d) h) l) x)
+
+-- a comparison, and an operator before its operand, with one token ahead
+module _ (src : List ℕ) (d h l : ℕ) (o : Token) (ts us : List Token) (whole : ts ≡ o ∷ us) where
+  abbrev operand : Parser Cut
+  operand = r.level trimmed src (r.expr trimmed src d) h
+
+  pub compared_goes : (x : Cut) → r.binds_at 4 (infix_op o.kind) ≡ true → r.compared trimmed src operand x ts ≡ and_then (operand us)
+      (λ y. pure (trimmed.join (r.row_in (infix_op o.kind)) x y))
+  unfolding r.compared
+  compared_goes x b = rw (whole, b) refl
+
+  pub compared_stops : (x : Cut) → r.binds_at 4 (infix_op o.kind) ≡ false → r.compared trimmed src operand x ts ≡ got x ts
+  unfolding r.compared
+  compared_stops x b = rw (whole, b) refl
+
+  pub prefix_goes : r.binds_at l (prefix_op o.kind) ≡ true → r.prefixed trimmed src operand l ts ≡ and_then (operand us)
+      (λ x. pure (trimmed.apply o.start (r.row_in (prefix_op o.kind)) (trimmed.one x)))
+  unfolding r.prefixed
+  prefix_goes b = rw (whole, b) refl
+
+  pub prefix_passes : r.binds_at l (prefix_op o.kind) ≡ false → r.prefixed trimmed src operand l ts ≡ r.infixed trimmed src operand l ts
+  unfolding r.prefixed
+  prefix_passes b = rw (whole, b) refl
 
 -- arguments of an operator
 module _ (src : List ℕ) (d n : ℕ) (xs : Cuts) (ts : List Token) where

@@ -32,6 +32,13 @@ made_of view o v (Err stop.Syntax) rest e g = absurd (cc)
 made_of view o v (Err stop.Deep) rest e g = absurd (cc)
 made_of view o v (Err stop.Mem) rest e g = tt
 
+-- where nothing is read, only memory can be wanting
+pub only_memory : {B C X Y : Type 0} (view : X → B) (v : B) (view' : Y → C) (o : Outcome C) (e : Stop) (left : List Token) → Reads view (pure v [])
+    (Err e) [] → Reads view' o (Err e) left
+only_memory view v view' o stop.Syntax left g = absurd (cc)
+only_memory view v view' o stop.Deep left g = absurd (cc)
+only_memory view v view' o stop.Mem left g = tt
+
 -- a token that is expected is read first
 pub expected : {A : Type 0} (test : Tok → Bool) (f : Token → Parser A) (ts : List Token) → expect test f ts ≡ and_then (expect test pure ts) f
 expected test f [] = refl

@@ -6,7 +6,7 @@ use Rattle.kf_parse.specs.declared.stop.Stop.{Stop}
 use Rattle.kf_parse.specs.declared.stop.Stop.TheVariants as stop
 use Rattle.kf_parse.specs.Outcomes.{Outcome, got, Parser, and_then, pure, refuse, behind, where_true, expect}
 use Rattle.kf_parse.specs.Reads.{Reads}
-use Rattle.kf_parse.proofs.Failing.{fails}
+use Rattle.kf_parse.proofs.Failing.{fails, expected}
 
 -- what is read behind what was read
 pub read_on : {A B X : Type 0} (view : X → B) (o : Outcome A) (f : A → Parser B) (a : A) (us : List Token) (r : Result X Stop) (left : List Token) → o ≡ got a us → Reads view (f a us) r left → Reads view (and_then o f) r left
@@ -15,6 +15,17 @@ read_on view o f a us r left e h = let P : Outcome _ → Type 0 = λ z. Reads vi
 -- what is read of the same
 pub read_same : {B X : Type 0} (view : X → B) (o o' : Outcome B) (r : Result X Stop) (left : List Token) → o ≡ o' → Reads view o' r left → Reads view o r left
 read_same view o o' r left e h = let P : Outcome _ → Type 0 = λ z. Reads view z r left in subst P (sym e) h
+
+-- what is read behind a token that is expected first, and where that token doesn't come
+pub read_behind : {B X : Type 0} (view : X → B) (test : Tok → Bool) (f : Token → Parser B) (ts us : List Token) (o : Token) (r : Result X Stop)
+    (left : List Token) → expect test pure ts ≡ got o us → Reads view (f o us) r left → Reads view (expect test f ts) r left
+read_behind view test f ts us o r left e h = read_same view (expect test f ts) (and_then (expect test pure ts) f) r left (expected test f ts)
+    (read_on view (expect test pure ts) f o us r left e h)
+
+pub not_there : {B X : Type 0} (view : X → B) (test : Tok → Bool) (f : Token → Parser B) (ts : List Token) (e : Stop) (left : List Token)
+    → Reads (λ o. o) (expect test pure ts) (Err e) left → Reads view (expect test f ts) (Err e) left
+not_there view test f ts e left h = read_same view (expect test f ts) (and_then (expect test pure ts) f) (Err e) left (expected test f ts)
+    (fails (λ o. o) view (expect test pure ts) f e left h)
 
 -- what fails in its second part fails
 pub fails_behind : {A B C X Z : Type 0} (view : X → A) (view' : Z → C) (o : Outcome B) (p : Parser A) (f : B → A → Parser C) (b : B) (us : List Token) (e : Stop) (left : List Token) → o ≡ got b us → Reads view (p us) (Err e) left

@@ -8,7 +8,7 @@ use Rattle.kf_ast.specs.TypeForms as of_type
 use Rattle.kf_ast.specs.Dists.{CaseTree, case_of, DistTree, dist_at, Sure, UniformSet, UniformRange, Choose, Flip}
 use Rattle.kf_parse.specs.Operators.{IsBetween, IsBefore, IsCalling}
 use Rattle.kf_parse.specs.Grammar as g
-use Rattle.kf_parse.specs.Grammar.{IsInfix, named, joined, Parts, E, Chain, Operand, Others, Whole, TypeOf, OtherTypes, Case, OtherCases, Dist}
+use Rattle.kf_parse.specs.Grammar.{IsInfix, named, joined, Parts, E, Chain, Operand, Others, Whole, TypeOf, OtherTypes, Case, Listed, Dist}
 use Rattle.kf_parse.proofs.KindsSame.{Same, none_same, more_same, split, pieces, last, last_of_two, Made, kind_of}
 use Rattle.kf_parse.specs.OperatorTokens.{row_of, IsPrefix, IsCalled, prefixed, part_of}
 
@@ -106,9 +106,9 @@ module _ (src src' : List ℕ) where
   same_case : {ts us : List Token} {x : CaseTree} → Case src ts x → Same ts us → Made (Case src') us
   same_case (g.weighted {a = a} {b = b} c e i f w) s = let p = pieces a c b w s in let m = same_e src src' e p.same_left in let n = same_e src src' f p.same_right in record { value = case_of m.value n.value; tells = g.weighted p.at m.tells (kind_of p.same_at i) n.tells p.whole }
 
-  same_cases : {xs ys : List CaseTree} {ts us : List Token} → OtherCases src xs ts ys → (zs : List CaseTree) → Same ts us → Made (OtherCases src' zs) us
-  same_cases g.no_other_case zs none_same = record { value = zs; tells = g.no_other_case }
-  same_cases (g.other_case {a = a} {b = b} c l i e w) zs s = let p = pieces a c b w s in let m = same_cases l zs p.same_left in let n = same_case e p.same_right in record { value = m.value ++ n.value ∷ []; tells = g.other_case p.at m.tells (kind_of p.same_at i) n.tells p.whole }
+  same_cases : {xs ys : List CaseTree} {ts us : List Token} → Listed (Case src) xs ts ys → (zs : List CaseTree) → Same ts us → Made (Listed (Case src') zs) us
+  same_cases g.no_more zs none_same = record { value = zs; tells = g.no_more }
+  same_cases (g.one_more {a = a} {b = b} c l i e w) zs s = let p = pieces a c b w s in let m = same_cases l zs p.same_left in let n = same_case e p.same_right in record { value = m.value ++ n.value ∷ []; tells = g.one_more p.at m.tells (kind_of p.same_at i) n.tells p.whole }
 
   pub same_dist : {ts us : List Token} {x : DistTree} → Dist src ts x → Same ts us → Made (Dist src') us
   same_dist (g.sure e) s = let m = same_e src src' e s in record { value = dist_at (place m.value) (Sure m.value); tells = g.sure m.tells }

@@ -3,9 +3,10 @@ use Rattle.std.proofs.Common.{◌≡◌, List, [], ◌∷◌, ◌++◌, ℕ, tru
 use Rattle.kf_lex.specs.declared.token.Token.{Token}
 use Rattle.kf_ast.specs.Stmts.{StmtTree, stmt_at, Skip, Assign, Observe, If, While, stmts}
 use Rattle.kf_ast.specs.Sources.{DeclTree, declared, ItemTree, item, SourceTree, source}
-use Rattle.kf_parse.specs.Grammar.{named}
+use Rattle.kf_parse.specs.Grammar as grammar
+use Rattle.kf_parse.specs.Grammar.{named, Listed}
 use Rattle.kf_parse.specs.Programs as g
-use Rattle.kf_parse.specs.Programs.{Statement, Block, Statements, DeclarationWord, Declaration, Declarations, Item, OtherItems, Target, IsProgram}
+use Rattle.kf_parse.specs.Programs.{Statement, Block, Statements, DeclarationWord, Declaration, Declarations, Item, Target, IsProgram}
 use Rattle.kf_parse.specs.Laws.{KindsAlone}
 use Rattle.kf_parse.proofs.KindsSame.{Same, none_same, more_same, same_of, split, pieces, last, last_of_two, Made, kind_of}
 use Rattle.kf_parse.proofs.KindsExprs.{same_type, same_dist}
@@ -62,9 +63,9 @@ module _ (src src' : List ℕ) where
   same_item (g.last n i) (more_same n' u h none_same) = record { value = item false (named src' u); tells = g.last u (kind_of h i) }
   same_item (g.first o n i j) (more_same o' u h (more_same n' v m none_same)) = record { value = item true (named src' v); tells = g.first u v (kind_of h i) (kind_of m j) }
 
-  same_items : {xs ys : List ItemTree} {ts us : List Token} → OtherItems src xs ts ys → (zs : List ItemTree) → Same ts us → Made (OtherItems src' zs) us
-  same_items g.no_other_item zs none_same = record { value = zs; tells = g.no_other_item }
-  same_items (g.other_item {a = a} {b = b} c f i e w) zs s = let p = pieces a c b w s in let m = same_items f zs p.same_left in let n = same_item e p.same_right in record { value = m.value ++ n.value ∷ []; tells = g.other_item p.at m.tells (kind_of p.same_at i) n.tells p.whole }
+  same_items : {xs ys : List ItemTree} {ts us : List Token} → Listed (Item src) xs ts ys → (zs : List ItemTree) → Same ts us → Made (Listed (Item src') zs) us
+  same_items grammar.no_more zs none_same = record { value = zs; tells = grammar.no_more }
+  same_items (grammar.one_more {a = a} {b = b} c f i e w) zs s = let p = pieces a c b w s in let m = same_items f zs p.same_left in let n = same_item e p.same_right in record { value = m.value ++ n.value ∷ []; tells = grammar.one_more p.at m.tells (kind_of p.same_at i) n.tells p.whole }
 
   same_target : {ts us : List Token} {xs : List ItemTree} → Target src ts xs → Same ts us → Made (Target src') us
   same_target g.no_target none_same = record { value = []; tells = g.no_target }

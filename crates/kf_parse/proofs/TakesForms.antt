@@ -10,7 +10,7 @@ use Rattle.kf_ast.specs.TypeForms as of_type
 use Rattle.kf_ast.specs.Dists.{CaseTree, case_of, DistTree, dist_at, Sure, UniformSet, UniformRange, Choose, Flip}
 use Rattle.kf_parse.specs.Tokens.{is}
 use Rattle.kf_parse.specs.Grammar as g
-use Rattle.kf_parse.specs.Grammar.{IsSign, IsWord, IsNumber, E, Whole, TypeOf, OtherTypes, Case, OtherCases, Dist}
+use Rattle.kf_parse.specs.Grammar.{IsSign, IsWord, IsNumber, E, Whole, TypeOf, OtherTypes, Case, Listed, Dist}
 use Rattle.kf_parse.specs.Outcomes.{got, Parser, and_then, behind, where_true, pure, ◌>>=◌, repeat}
 use Rattle.kf_parse.specs.Plain.{whole_trees}
 use Rattle.kf_parse.specs.Reading as r
@@ -198,9 +198,9 @@ module _ (src : List ℕ) where
         (h.takes d (omega arith) (c ∷ (b ++ rest)) (stops_at 1 c (t.Sign s.Colon) (b ++ rest) (omega arith) i refl refl)) i (k.takes d (omega arith) rest st);
   }
 
-  cases_run : {cs ds : List CaseTree} {ts : List Token} → OtherCases src cs ts ds → Cases cs ts ds
-  cases_run (g.no_other_case {xs = cs}) = runs_nowhere (λ d. case_step (r.expr whole_trees src d)) (Stops 1) cs
-  cases_run (g.other_case {a = a} {b = b} {ts = ts} c {xs = cs} {ys = ds} {y = y} l i e w) = runs_on (λ d. case_step (r.expr whole_trees src d)) (Stops 1) cs ds (ds ++ y ∷ []) a b ts c (λ d. r.weighted whole_trees src (r.expr whole_trees src d) ds) (cases_run l)
+  cases_run : {cs ds : List CaseTree} {ts : List Token} → Listed (Case src) cs ts ds → Cases cs ts ds
+  cases_run (g.no_more {xs = cs}) = runs_nowhere (λ d. case_step (r.expr whole_trees src d)) (Stops 1) cs
+  cases_run (g.one_more {a = a} {b = b} {ts = ts} c {xs = cs} {ys = ds} {y = y} l i e w) = runs_on (λ d. case_step (r.expr whole_trees src d)) (Stops 1) cs ds (ds ++ y ∷ []) a b ts c (λ d. r.weighted whole_trees src (r.expr whole_trees src d) ds) (cases_run l)
       (λ us. stops_at 1 c (t.Sign s.Comma) us (omega arith) i refl refl) (λ d. rw i refl) (case_reads e ds) w
 
   choose_reads : (a b ts : List Token) (c p q : Token) (x : CaseTree) (cs : List CaseTree) → IsWord w.ChooseWord c → IsSign s.BraceOpen p → Reads (λ d. r.weighted whole_trees src (r.expr whole_trees src d) []) (Stops 1) a (x ∷ []) → Cases (x ∷ []) b cs → IsSign s.BraceClose q

@@ -13,9 +13,10 @@ use Rattle.kf_ast.specs.Sources.{DeclTree, declared, ItemTree, SourceTree, sourc
 use Rattle.kf_parse.specs.OperatorTokens.{infix_op}
 use Rattle.kf_parse.specs.Begins.{begins_declaration}
 use Rattle.kf_parse.specs.Tokens.{is}
-use Rattle.kf_parse.specs.Grammar.{IsSign, IsWord, IsName, named}
+use Rattle.kf_parse.specs.Grammar as grammar
+use Rattle.kf_parse.specs.Grammar.{IsSign, IsWord, IsName, named, Listed}
 use Rattle.kf_parse.specs.Programs as g
-use Rattle.kf_parse.specs.Programs.{Statement, Block, Statements, DeclarationWord, Declaration, Declarations, Item, OtherItems, Target, IsProgram}
+use Rattle.kf_parse.specs.Programs.{Statement, Block, Statements, DeclarationWord, Declaration, Declarations, Item, Target, IsProgram}
 use Rattle.kf_parse.specs.Outcomes.{got, Parser, and_then, where_true, expect, pure, ◌>>=◌, repeat}
 use Rattle.kf_parse.specs.Plain.{whole_trees}
 use Rattle.kf_parse.specs.Reading as r
@@ -254,9 +255,9 @@ module _ (src : List ℕ) where
   item_reads (g.last n i) = record { depth = 0; takes = λ d de rest u. rw i refl }
   item_reads (g.first o n i j) = record { depth = 0; takes = λ d de rest u. rw (i, j) refl }
 
-  items_run : {ts : List Token} {xs ys : List ItemTree} → OtherItems src xs ts ys → Runs (λ d. item_step) Anything xs ts ys
-  items_run (g.no_other_item {xs = xs}) = runs_nowhere (λ d. item_step) Anything xs
-  items_run (g.other_item {a = a} {b = b} {ts = ts} c {xs = xs} {ys = ys} {y = y} f i e split) = let h = item_reads e in
+  items_run : {ts : List Token} {xs ys : List ItemTree} → Listed (Item src) xs ts ys → Runs (λ d. item_step) Anything xs ts ys
+  items_run (grammar.no_more {xs = xs}) = runs_nowhere (λ d. item_step) Anything xs
+  items_run (grammar.one_more {a = a} {b = b} {ts = ts} c {xs = xs} {ys = ys} {y = y} f i e split) = let h = item_reads e in
       runs_on (λ d. item_step) Anything xs ys (ys ++ y ∷ []) a b ts c (λ d. r.one_item whole_trees src >>= (λ y'. pure (ys ++ y' ∷ []))) (items_run f) (λ us. tt) (λ d. rw i refl)
       (record { depth = h.depth; takes = λ d de rest u. ap (λ v. and_then v (λ y'. pure (ys ++ y' ∷ []))) (h.takes d de rest u) }) split
 

@@ -8,7 +8,7 @@ use Rattle.kf_lex.specs.declared.token.Sign.TheVariants as s
 use Rattle.kf_ast.specs.Exprs.{ExprTree, place}
 use Rattle.kf_ast.specs.Dists.{CaseTree, case_of, dist_at, Sure, UniformSet, UniformRange, Choose, Flip}
 use Rattle.kf_parse.specs.Grammar as g
-use Rattle.kf_parse.specs.Grammar.{IsSign, IsWord, IsNumber, E, Case, OtherCases, Dist}
+use Rattle.kf_parse.specs.Grammar.{IsSign, IsWord, IsNumber, E, Case, Listed, Dist}
 use Rattle.kf_parse.specs.Tokens.{is}
 use Rattle.kf_parse.specs.Outcomes.{Parser, pure}
 use Rattle.kf_parse.specs.Plain.{whole_trees}
@@ -28,12 +28,12 @@ module _ (src : List ℕ) where
         then_reads (E src 1) (After (c ∷ []) (After a G)) e (λ y. pure (cs ++ case_of x y ∷ [])) reads (λ b y eb.
         done_reads (After (c ∷ []) (After a G)) b (cs ++ case_of x y ∷ []) (made (a ++ c ∷ b) (case_of x y) (g.weighted c ea (is_same (t.Sign s.Colon) c.kind h) eb refl)))))
 
-    cases_reads : (cs : List CaseTree) → Reader (OtherCases src cs) (r.cases whole_trees src e cs)
+    cases_reads : (cs : List CaseTree) → Reader (Listed (Case src) cs) (r.cases whole_trees src e cs)
     unfolding r.cases
-    cases_reads cs = repeat_reads (OtherCases src cs) _
+    cases_reads cs = repeat_reads (Listed (Case src) cs) _
         (λ front ds h c. where_true_some (is (t.Sign s.Comma) c.kind) _ _
-        (λ k. weighted_reads (After (c ∷ []) (After front (OtherCases src cs))) ds (λ us x hx. g.other_case c h (is_same (t.Sign s.Comma) c.kind k) hx refl)))
-        cs g.no_other_case
+        (λ k. weighted_reads (After (c ∷ []) (After front (Listed (Case src) cs))) ds (λ us x hx. g.one_more c h (is_same (t.Sign s.Comma) c.kind k) hx refl)))
+        cs g.no_more
 
     -- a case alone in its list
     abbrev FirstCase : List Token → List CaseTree → Type 0
@@ -44,10 +44,10 @@ module _ (src : List ℕ) where
     choose_reads c word =
         expect_reads _ (is (t.Sign s.BraceOpen)) _ (t.Sign s.BraceOpen) refl (λ p op.
         then_reads FirstCase (After (p ∷ []) (After (c ∷ []) (Dist src))) (r.weighted whole_trees src e []) _ (weighted_reads FirstCase [] (λ us x h. (x, h, refl))) (λ a cs f.
-        then_reads (OtherCases src cs) _ (r.cases whole_trees src e cs) _ (cases_reads cs) (λ b ds h.
+        then_reads (Listed (Case src) cs) _ (r.cases whole_trees src e cs) _ (cases_reads cs) (λ b ds h.
         expect_reads _ (is (t.Sign s.BraceClose)) (λ q. pure (dist_at c.start (Choose ds))) (t.Sign s.BraceClose) refl (λ q cl.
         pure_reads _ (dist_at c.start (Choose ds))
-        (g.choose c p q word (is_same (t.Sign s.BraceOpen) p.kind op) f.1 (subst (λ z. OtherCases src z b ds) f.2 h) (is_same (t.Sign s.BraceClose) q.kind cl) refl)))))
+        (g.choose c p q word (is_same (t.Sign s.BraceOpen) p.kind op) f.1 (subst (λ z. Listed (Case src) z b ds) f.2 h) (is_same (t.Sign s.BraceClose) q.kind cl) refl)))))
 
     uniform_reads : (u : Token) → IsWord w.UniformWord u → Reader (After (u ∷ []) (Dist src)) (r.uniform whole_trees src e u)
     unfolding r.uniform

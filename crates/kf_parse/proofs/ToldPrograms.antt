@@ -7,9 +7,10 @@ use Rattle.kf_lex.specs.declared.token.Word.TheVariants as w
 use Rattle.kf_lex.specs.declared.token.Sign.TheVariants as s
 use Rattle.kf_ast.specs.Stmts.{StmtTree, stmt_at, Skip, Assign, Observe, If, While, stmts}
 use Rattle.kf_ast.specs.Sources.{DeclTree, declared, ItemTree, item, source}
-use Rattle.kf_parse.specs.Grammar.{IsWord, IsName, named, TypeOf, Dist}
+use Rattle.kf_parse.specs.Grammar as grammar
+use Rattle.kf_parse.specs.Grammar.{IsWord, IsName, named, TypeOf, Dist, Listed}
 use Rattle.kf_parse.specs.Programs as g
-use Rattle.kf_parse.specs.Programs.{Statement, Block, Statements, DeclarationWord, Declaration, Declarations, Item, OtherItems, Target, IsProgram}
+use Rattle.kf_parse.specs.Programs.{Statement, Block, Statements, DeclarationWord, Declaration, Declarations, Item, Target, IsProgram}
 use Rattle.kf_parse.specs.Begins.{begins_declaration}
 use Rattle.kf_parse.specs.Tokens.{is}
 use Rattle.kf_parse.specs.Outcomes.{Parser, pure, where_true}
@@ -122,19 +123,19 @@ module _ (src : List ℕ) where
           pure_reads _ (item true (named src n)) (g.first o n e (is_same t.Name n.kind hn)))
       by_kind o _ e = tt
 
-  other_items_reads : (xs : List ItemTree) → Reader (OtherItems src xs) (r.other_items whole_trees src xs)
+  other_items_reads : (xs : List ItemTree) → Reader (Listed (Item src) xs) (r.other_items whole_trees src xs)
   unfolding r.other_items
-  other_items_reads xs = repeat_reads (OtherItems src xs) _
+  other_items_reads xs = repeat_reads (Listed (Item src) xs) _
       (λ front ys h c. where_true_some (is (t.Sign s.Comma) c.kind) _ _
-      (λ e. then_reads (Item src) (After (c ∷ []) (After front (OtherItems src xs))) (r.one_item whole_trees src) (λ y. pure (ys ++ y ∷ [])) one_item_reads
-      (λ b y k. done_reads (After (c ∷ []) (After front (OtherItems src xs))) b (ys ++ y ∷ []) (g.other_item c h (is_same (t.Sign s.Comma) c.kind e) k refl))))
-      xs g.no_other_item
+      (λ e. then_reads (Item src) (After (c ∷ []) (After front (Listed (Item src) xs))) (r.one_item whole_trees src) (λ y. pure (ys ++ y ∷ [])) one_item_reads
+      (λ b y k. done_reads (After (c ∷ []) (After front (Listed (Item src) xs))) b (ys ++ y ∷ []) (grammar.one_more c h (is_same (t.Sign s.Comma) c.kind e) k refl))))
+      xs grammar.no_more
 
   items_reads : (o : Token) → IsWord w.AboutWord o → Reader (After (o ∷ []) (Target src)) (r.items whole_trees src)
   unfolding r.items
   items_reads o word =
       then_reads (Item src) (After (o ∷ []) (Target src)) (r.one_item whole_trees src) _ one_item_reads (λ a x hx.
-      then_reads (OtherItems src (x ∷ [])) (After (o ∷ a) (Target src)) (r.other_items whole_trees src (x ∷ [])) _ (other_items_reads (x ∷ [])) (λ b xs h.
+      then_reads (Listed (Item src) (x ∷ [])) (After (o ∷ a) (Target src)) (r.other_items whole_trees src (x ∷ [])) _ (other_items_reads (x ∷ [])) (λ b xs h.
       expect_reads (After b (After (o ∷ a) (Target src))) (is (t.Sign s.Semi)) (λ e. pure xs) (t.Sign s.Semi) refl (λ e he.
       pure_reads _ xs (g.about o e word hx h (is_same (t.Sign s.Semi) e.kind he) refl))))
 

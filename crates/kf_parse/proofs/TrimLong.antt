@@ -5,7 +5,7 @@ use Rattle.kf_ast.specs.Exprs.{ExprTree, place}
 use Rattle.kf_ast.specs.Dists.{CaseTree, case_of, DistTree, DistShape, dist_at, Sure, UniformSet, UniformRange, Choose, Flip}
 use Rattle.kf_ast.specs.Stmts.{StmtTree, StmtShape, StmtTrees, stmt_at, Skip, Assign, Observe, If, While, no_stmts, more_stmts, stmts}
 use Rattle.kf_ast.specs.Sources.{DeclTree, declared, SourceTree, source}
-use Rattle.kf_parse.specs.Sizes.{nodes, first_long, case_exprs, shape_exprs, dist_exprs, stmt_exprs, stmt_shape_exprs, stmts_exprs, decl_exprs, source_exprs}
+use Rattle.kf_parse.specs.Sizes.{nodes, first_long, case_exprs, dist_exprs, stmt_exprs, stmt_shape_exprs, stmts_exprs, decl_exprs, source_exprs}
 use Rattle.kf_parse.specs.Trimmed.{Trimmed, trim, within, together, earlier, place_unless, expr_or_number}
 use Rattle.kf_parse.proofs.TrimCuts.{cut}
 use Rattle.kf_parse.proofs.TrimTrees.{trim_case, trim_each, trim_dist_shape, trim_dist, trim_stmt, trim_shape, trim_stmts, trim_decl, trim_source}
@@ -39,15 +39,12 @@ names_each f g h (x ∷ xs) = names_both ◌∷◌ (f x) (trim_each f xs) (g x) 
 names_case : (c : CaseTree) → Names (trim_case c) (case_exprs c)
 names_case (case_of x y) = names_both case_of (trim (cut x)) (trim (cut y)) (x ∷ []) (y ∷ []) (names_expr x) (names_expr y)
 
-names_dist_shape : (d : DistShape) → Names (trim_dist_shape d) (shape_exprs d)
-names_dist_shape (Sure x) = names_expr x
-names_dist_shape (UniformSet x) = names_expr x
-names_dist_shape (UniformRange x y) = names_both UniformRange (trim (cut x)) (trim (cut y)) (x ∷ []) (y ∷ []) (names_expr x) (names_expr y)
-names_dist_shape (Choose cs) = names_each trim_case case_exprs names_case cs
-names_dist_shape (Flip j k) = refl
-
 names_dist : (d : DistTree) → Names (trim_dist d) (dist_exprs d)
-names_dist (dist_at at shape) = names_dist_shape shape
+names_dist (dist_at at (Sure x)) = names_expr x
+names_dist (dist_at at (UniformSet x)) = names_expr x
+names_dist (dist_at at (UniformRange x y)) = names_both UniformRange (trim (cut x)) (trim (cut y)) (x ∷ []) (y ∷ []) (names_expr x) (names_expr y)
+names_dist (dist_at at (Choose cs)) = names_each trim_case case_exprs names_case cs
+names_dist (dist_at at (Flip j k)) = refl
 
 abbrev pair : {A : Type 0} → A → A → A × A
 pair a b = (a, b)

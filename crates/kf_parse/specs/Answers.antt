@@ -16,37 +16,39 @@ pub record Begins (ts : List Token) : Type 0 where
   pub tree : SourceTree
   pub program : IsProgram src (ts ++ more) tree
 
--- tokens up to this place, which may be the end of the source, begin a program, and with the token that stands there they begin none
-pub record IsSyntaxPlace (src : List ℕ) (ts : List Token) (at : ℕ) : Type 0 where
-  pub front : List Token
-  pub rest : List Token
-  pub whole : ts ≡ front ++ rest
-  pub begins : Begins front
-  pub ends : (o : Token) (us : List Token) → rest ≡ o ∷ us → Begins (front ++ o ∷ []) → ⊥
-  pub stands : option_map_or (λ (o : Token). o.start) (slice_get rest 0) (length src) ≡ at
+-- of these tokens of a source
+module _ (src : List ℕ) (ts : List Token) where
+  -- tokens up to this place, which may be the end of the source, begin a program, and with the token that stands there they begin none
+  pub record IsSyntaxPlace (at : ℕ) : Type 0 where
+    pub front : List Token
+    pub rest : List Token
+    pub whole : ts ≡ front ++ rest
+    pub begins : Begins front
+    pub ends : (o : Token) (us : List Token) → rest ≡ o ∷ us → Begins (front ++ o ∷ []) → ⊥
+    pub stands : option_map_or (λ (o : Token). o.start) (slice_get rest 0) (length src) ≡ at
 
--- the tokens are those of this program, with brackets and expressions within their limits
-pub record IsParsed (src : List ℕ) (ts : List Token) (tree : SourceTree) : Type 0 where
-  pub shallow : IsShallow ts
-  pub program : IsProgram src ts tree
-  pub short : first_long (source_exprs tree) ≡ None
+  -- the tokens are those of this program, with brackets and expressions within their limits
+  pub record IsParsed (tree : SourceTree) : Type 0 where
+    pub shallow : IsShallow ts
+    pub program : IsProgram src ts tree
+    pub short : first_long (source_exprs tree) ≡ None
 
--- brackets within their limit, and no program: the place is the first at which none goes on
-pub record IsSyntax (src : List ℕ) (ts : List Token) (at : ℕ) : Type 0 where
-  pub shallow : IsShallow ts
-  pub none : (tree : SourceTree) → IsProgram src ts tree → ⊥
-  pub place : IsSyntaxPlace src ts at
+  -- brackets within their limit, and no program: the place is the first at which none goes on
+  pub record IsSyntax (at : ℕ) : Type 0 where
+    pub shallow : IsShallow ts
+    pub none : (tree : SourceTree) → IsProgram src ts tree → ⊥
+    pub place : IsSyntaxPlace at
 
--- a program with an expression of too many nodes: the place is the first one's
-pub record IsLong (src : List ℕ) (ts : List Token) (at : ℕ) : Type 0 where
-  pub shallow : IsShallow ts
-  pub tree : SourceTree
-  pub program : IsProgram src ts tree
-  pub long : first_long (source_exprs tree) ≡ Some at
+  -- a program with an expression of too many nodes: the place is the first one's
+  pub record IsLong (at : ℕ) : Type 0 where
+    pub shallow : IsShallow ts
+    pub tree : SourceTree
+    pub program : IsProgram src ts tree
+    pub long : first_long (source_exprs tree) ≡ Some at
 
--- why the tokens are refused; nothing is said of want of memory
-abbrev pub IsRefused : List ℕ → List Token → ParseError → Type 0
-IsRefused src ts (errors.Deep at) = IsDeep ts at
-IsRefused src ts (errors.Syntax at) = IsSyntax src ts at
-IsRefused src ts (errors.Long at) = IsLong src ts at
-IsRefused src ts errors.Mem = Unit {0}
+  -- why the tokens are refused; nothing is said of want of memory
+  abbrev pub IsRefused : ParseError → Type 0
+  IsRefused (errors.Deep at) = IsDeep ts at
+  IsRefused (errors.Syntax at) = IsSyntax at
+  IsRefused (errors.Long at) = IsLong at
+  IsRefused errors.Mem = Unit {0}

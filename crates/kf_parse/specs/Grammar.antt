@@ -46,52 +46,11 @@ pub data Parts : ExprTree → List Token → ExprTree → Type 0 where
   part : {a ts : List Token} (d n : Token) {k : ℕ} {x y : ExprTree}
       → Parts x a y → IsSign s.Dot d → IsNumber k n → ts ≡ a ++ d ∷ n ∷ [] → Parts x ts (expr_at (place y) (Part y k))
 
-mutual
-  -- an expression of a level from 1 to 8
-  pub data E (src : List ℕ) : ℕ → List Token → ExprTree → Type 0 where
-    -- an operand of the next level, and operators of this level after it
-    chain : {l : ℕ} {a b ts : List Token} {x z : ExprTree} → (l ≡ 4 → ⊥)
-        → E src (suc l) a x → Chain src l x b z → ts ≡ a ++ b → E src l ts z
-    -- a comparison doesn't go on
-    alone : {ts : List Token} {x : ExprTree} → E src 5 ts x → E src 4 ts x
-    compare : {a b ts : List Token} (o : Token) (op : Op) {x y : ExprTree}
-        → E src 5 a x → IsInfix 4 op o → E src 5 b y → ts ≡ a ++ o ∷ b → E src 4 ts (joined op x y)
-    prefix : {l : ℕ} {ts : List Token} (o : Token) (op : Op) {x : ExprTree}
-        → IsBefore o.kind op × (level_of op ≡ l) → E src (suc l) ts x
-        → E src l (o ∷ ts) (expr_at o.start (Apply (number_of op) (exprs (x ∷ []))))
-    -- an operand, and parts of it
-    parts : {a b ts : List Token} {x z : ExprTree} → Operand src a x → Parts x b z → ts ≡ a ++ b → E src 8 ts z
-
-  -- operators of a level with their right sides, which group to the left behind an expression
-  pub data Chain (src : List ℕ) : ℕ → ExprTree → List Token → ExprTree → Type 0 where
-    unchained : {l : ℕ} {x : ExprTree} → Chain src l x [] x
-    chained : {l : ℕ} {a b ts : List Token} (o : Token) (op : Op) {x y z : ExprTree}
-        → Chain src l x a y → IsInfix l op o → E src (suc l) b z → ts ≡ a ++ o ∷ b → Chain src l x ts (joined op y z)
-
-  pub data Operand (src : List ℕ) : List Token → ExprTree → Type 0 where
-    number : (n : Token) {k : ℕ} → IsNumber k n → Operand src (n ∷ []) (expr_at n.start (Number k))
-    truth : (o : Token) → IsWord w.TrueWord o → Operand src (o ∷ []) (expr_at o.start (Truth true))
-    untruth : (o : Token) → IsWord w.FalseWord o → Operand src (o ∷ []) (expr_at o.start (Truth false))
-    variable : (n : Token) → IsName n → Operand src (n ∷ []) (expr_at n.start (Name (named src n)))
-    parens : {a ts : List Token} (p q : Token) {x : ExprTree}
-        → IsSign s.ParenOpen p → E src 1 a x → IsSign s.ParenClose q
-        → ts ≡ a ++ q ∷ [] → Operand src (p ∷ ts) (placed p.start x)
-    tuple : {a b d ts : List Token} (p c q : Token) {x y : ExprTree} {xs : List ExprTree}
-        → IsSign s.ParenOpen p → E src 1 a x → IsSign s.Comma c → E src 1 b y → Others src (x ∷ y ∷ []) d xs → IsSign s.ParenClose q
-        → ts ≡ a ++ c ∷ (b ++ (d ++ q ∷ [])) → Operand src (p ∷ ts) (expr_at p.start (Tuple (exprs xs)))
-    set : {a b ts : List Token} (p q : Token) {x : ExprTree} {xs : List ExprTree}
-        → IsSign s.BraceOpen p → E src 1 a x → Others src (x ∷ []) b xs → IsSign s.BraceClose q
-        → ts ≡ a ++ (b ++ q ∷ []) → Operand src (p ∷ ts) (expr_at p.start (SetOf (exprs xs)))
-    call : {a b ts : List Token} (f p q : Token) {arity : ℕ} (op : Op) {x : ExprTree} {xs : List ExprTree}
-        → IsCalling f.kind op × (arity_of op ≡ arity) → IsSign s.ParenOpen p
-        → E src 1 a x → Others src (x ∷ []) b xs → length xs ≡ arity → IsSign s.ParenClose q
-        → ts ≡ a ++ (b ++ q ∷ []) → Operand src (f ∷ p ∷ ts) (expr_at f.start (Apply (number_of op) (exprs xs)))
-
-  -- expressions, each behind a comma, that go on with a list
-  pub data Others (src : List ℕ) : List ExprTree → List Token → List ExprTree → Type 0 where
-    no_other : {xs : List ExprTree} → Others src xs [] xs
-    other : {a b ts : List Token} (c : Token) {xs ys : List ExprTree} {y : ExprTree}
-        → Others src xs a ys → IsSign s.Comma c → E src 1 b y → ts ≡ a ++ c ∷ b → Others src xs ts (ys ++ y ∷ [])
+-- members, each behind a comma, that go on with a list
+pub data Listed {A : Type 0} (One : List Token → A → Type 0) : List A → List Token → List A → Type 0 where
+  no_more : {xs : List A} → Listed One xs [] xs
+  one_more : {a b ts : List Token} (c : Token) {xs ys : List A} {y : A}
+      → Listed One xs a ys → IsSign s.Comma c → One b y → ts ≡ a ++ c ∷ b → Listed One xs ts (ys ++ y ∷ [])
 
 -- a whole number and its place
 pub data Whole : List Token → ℕ → ℤ → Type 0 where
@@ -115,27 +74,70 @@ mutual
     other_type : {a b ts : List Token} (c : Token) {xs ys : List TypeForm} {y : TypeForm}
         → OtherTypes xs a ys → IsSign s.Comma c → TypeOf b y → ts ≡ a ++ c ∷ b → OtherTypes xs ts (ys ++ y ∷ [])
 
--- a value and its weight
-pub data Case (src : List ℕ) : List Token → CaseTree → Type 0 where
-  weighted : {a b ts : List Token} (c : Token) {x y : ExprTree}
-      → E src 1 a x → IsSign s.Colon c → E src 1 b y → ts ≡ a ++ c ∷ b → Case src ts (case_of x y)
+-- in the tokens of this source
+module _ (src : List ℕ) where
+  mutual
+    -- an expression of a level from 1 to 8
+    pub data E : ℕ → List Token → ExprTree → Type 0 where
+      -- an operand of the next level, and operators of this level after it
+      chain : {l : ℕ} {a b ts : List Token} {x z : ExprTree} → (l ≡ 4 → ⊥)
+          → E (suc l) a x → Chain l x b z → ts ≡ a ++ b → E l ts z
+      -- a comparison doesn't go on
+      alone : {ts : List Token} {x : ExprTree} → E 5 ts x → E 4 ts x
+      compare : {a b ts : List Token} (o : Token) (op : Op) {x y : ExprTree}
+          → E 5 a x → IsInfix 4 op o → E 5 b y → ts ≡ a ++ o ∷ b → E 4 ts (joined op x y)
+      prefix : {l : ℕ} {ts : List Token} (o : Token) (op : Op) {x : ExprTree}
+          → IsBefore o.kind op × (level_of op ≡ l) → E (suc l) ts x
+          → E l (o ∷ ts) (expr_at o.start (Apply (number_of op) (exprs (x ∷ []))))
+      -- an operand, and parts of it
+      parts : {a b ts : List Token} {x z : ExprTree} → Operand a x → Parts x b z → ts ≡ a ++ b → E 8 ts z
 
--- cases, each behind a comma, that go on with a list
-pub data OtherCases (src : List ℕ) : List CaseTree → List Token → List CaseTree → Type 0 where
-  no_other_case : {xs : List CaseTree} → OtherCases src xs [] xs
-  other_case : {a b ts : List Token} (c : Token) {xs ys : List CaseTree} {y : CaseTree}
-      → OtherCases src xs a ys → IsSign s.Comma c → Case src b y → ts ≡ a ++ c ∷ b → OtherCases src xs ts (ys ++ y ∷ [])
+    -- operators of a level with their right sides, which group to the left behind an expression
+    pub data Chain : ℕ → ExprTree → List Token → ExprTree → Type 0 where
+      unchained : {l : ℕ} {x : ExprTree} → Chain l x [] x
+      chained : {l : ℕ} {a b ts : List Token} (o : Token) (op : Op) {x y z : ExprTree}
+          → Chain l x a y → IsInfix l op o → E (suc l) b z → ts ≡ a ++ o ∷ b → Chain l x ts (joined op y z)
 
-pub data Dist (src : List ℕ) : List Token → DistTree → Type 0 where
-  sure : {ts : List Token} {x : ExprTree} → E src 1 ts x → Dist src ts (dist_at (place x) (Sure x))
-  uniform_set : {ts : List Token} (u : Token) {x : ExprTree}
-      → IsWord w.UniformWord u → E src 1 ts x → Dist src (u ∷ ts) (dist_at u.start (UniformSet x))
-  uniform_range : {a b ts : List Token} (u r : Token) {x y : ExprTree}
-      → IsWord w.UniformWord u → E src 1 a x → IsSign s.Range r → E src 1 b y
-      → ts ≡ a ++ r ∷ b → Dist src (u ∷ ts) (dist_at u.start (UniformRange x y))
-  choose : {a b ts : List Token} (c p q : Token) {x : CaseTree} {xs : List CaseTree}
-      → IsWord w.ChooseWord c → IsSign s.BraceOpen p → Case src a x → OtherCases src (x ∷ []) b xs → IsSign s.BraceClose q
-      → ts ≡ a ++ (b ++ q ∷ []) → Dist src (c ∷ p ∷ ts) (dist_at c.start (Choose xs))
-  flip : (f n d m : Token) {j k : ℕ}
-      → IsWord w.FlipWord f → IsNumber j n → IsSign s.Slash d → IsNumber k m
-      → Dist src (f ∷ n ∷ d ∷ m ∷ []) (dist_at f.start (Flip j k))
+    pub data Operand : List Token → ExprTree → Type 0 where
+      number : (n : Token) {k : ℕ} → IsNumber k n → Operand (n ∷ []) (expr_at n.start (Number k))
+      truth : (o : Token) → IsWord w.TrueWord o → Operand (o ∷ []) (expr_at o.start (Truth true))
+      untruth : (o : Token) → IsWord w.FalseWord o → Operand (o ∷ []) (expr_at o.start (Truth false))
+      variable : (n : Token) → IsName n → Operand (n ∷ []) (expr_at n.start (Name (named src n)))
+      parens : {a ts : List Token} (p q : Token) {x : ExprTree}
+          → IsSign s.ParenOpen p → E 1 a x → IsSign s.ParenClose q
+          → ts ≡ a ++ q ∷ [] → Operand (p ∷ ts) (placed p.start x)
+      tuple : {a b d ts : List Token} (p c q : Token) {x y : ExprTree} {xs : List ExprTree}
+          → IsSign s.ParenOpen p → E 1 a x → IsSign s.Comma c → E 1 b y → Others (x ∷ y ∷ []) d xs → IsSign s.ParenClose q
+          → ts ≡ a ++ c ∷ (b ++ (d ++ q ∷ [])) → Operand (p ∷ ts) (expr_at p.start (Tuple (exprs xs)))
+      set : {a b ts : List Token} (p q : Token) {x : ExprTree} {xs : List ExprTree}
+          → IsSign s.BraceOpen p → E 1 a x → Others (x ∷ []) b xs → IsSign s.BraceClose q
+          → ts ≡ a ++ (b ++ q ∷ []) → Operand (p ∷ ts) (expr_at p.start (SetOf (exprs xs)))
+      call : {a b ts : List Token} (f p q : Token) {arity : ℕ} (op : Op) {x : ExprTree} {xs : List ExprTree}
+          → IsCalling f.kind op × (arity_of op ≡ arity) → IsSign s.ParenOpen p
+          → E 1 a x → Others (x ∷ []) b xs → length xs ≡ arity → IsSign s.ParenClose q
+          → ts ≡ a ++ (b ++ q ∷ []) → Operand (f ∷ p ∷ ts) (expr_at f.start (Apply (number_of op) (exprs xs)))
+
+    -- expressions, each behind a comma, that go on with a list
+    pub data Others : List ExprTree → List Token → List ExprTree → Type 0 where
+      no_other : {xs : List ExprTree} → Others xs [] xs
+      other : {a b ts : List Token} (c : Token) {xs ys : List ExprTree} {y : ExprTree}
+          → Others xs a ys → IsSign s.Comma c → E 1 b y → ts ≡ a ++ c ∷ b → Others xs ts (ys ++ y ∷ [])
+
+  -- a value and its weight
+  pub data Case : List Token → CaseTree → Type 0 where
+    weighted : {a b ts : List Token} (c : Token) {x y : ExprTree}
+        → E 1 a x → IsSign s.Colon c → E 1 b y → ts ≡ a ++ c ∷ b → Case ts (case_of x y)
+
+  pub data Dist : List Token → DistTree → Type 0 where
+    sure : {ts : List Token} {x : ExprTree} → E 1 ts x → Dist ts (dist_at (place x) (Sure x))
+    uniform_set : {ts : List Token} (u : Token) {x : ExprTree}
+        → IsWord w.UniformWord u → E 1 ts x → Dist (u ∷ ts) (dist_at u.start (UniformSet x))
+    uniform_range : {a b ts : List Token} (u r : Token) {x y : ExprTree}
+        → IsWord w.UniformWord u → E 1 a x → IsSign s.Range r → E 1 b y
+        → ts ≡ a ++ r ∷ b → Dist (u ∷ ts) (dist_at u.start (UniformRange x y))
+    choose : {a b ts : List Token} (c p q : Token) {x : CaseTree} {xs : List CaseTree}
+        → IsWord w.ChooseWord c → IsSign s.BraceOpen p → Case a x → Listed Case (x ∷ []) b xs → IsSign s.BraceClose q
+        → ts ≡ a ++ (b ++ q ∷ []) → Dist (c ∷ p ∷ ts) (dist_at c.start (Choose xs))
+    flip : (f n d m : Token) {j k : ℕ}
+        → IsWord w.FlipWord f → IsNumber j n → IsSign s.Slash d → IsNumber k m
+        → Dist (f ∷ n ∷ d ∷ m ∷ []) (dist_at f.start (Flip j k))

@@ -2,7 +2,7 @@
 use Rattle.std.specs.Prelude.{ℕ, ◌+◌, nat_le, if◌then◌else◌, Option, Some, None, List, [], ◌∷◌, ◌++◌}
 use Rattle.std.specs.List.{flat_map}
 use Rattle.kf_ast.specs.Exprs.{ExprTree, ExprShape, ExprTrees, expr_at, Apply, Tuple, SetOf, Part, no_exprs, more_exprs, place}
-use Rattle.kf_ast.specs.Dists.{CaseTree, case_of, DistTree, DistShape, dist_at, Sure, UniformSet, UniformRange, Choose, Flip}
+use Rattle.kf_ast.specs.Dists.{CaseTree, case_of, DistTree, dist_at, Sure, UniformSet, UniformRange, Choose, Flip}
 use Rattle.kf_ast.specs.Stmts.{StmtTree, StmtShape, StmtTrees, stmt_at, Skip, Assign, Observe, If, While, no_stmts, more_stmts}
 use Rattle.kf_ast.specs.Sources.{DeclTree, declared, SourceTree, source}
 
@@ -26,15 +26,12 @@ abbrev mutual
 abbrev pub case_exprs : CaseTree → List ExprTree
 case_exprs (case_of x y) = x ∷ y ∷ []
 
-abbrev pub shape_exprs : DistShape → List ExprTree
-shape_exprs (Sure x) = x ∷ []
-shape_exprs (UniformSet x) = x ∷ []
-shape_exprs (UniformRange x y) = x ∷ y ∷ []
-shape_exprs (Choose cs) = flat_map case_exprs cs
-shape_exprs (Flip j k) = []
-
 abbrev pub dist_exprs : DistTree → List ExprTree
-dist_exprs (dist_at at shape) = shape_exprs shape
+dist_exprs (dist_at at (Sure x)) = x ∷ []
+dist_exprs (dist_at at (UniformSet x)) = x ∷ []
+dist_exprs (dist_at at (UniformRange x y)) = x ∷ y ∷ []
+dist_exprs (dist_at at (Choose cs)) = flat_map case_exprs cs
+dist_exprs (dist_at at (Flip j k)) = []
 
 -- those of statements and of a whole source
 abbrev mutual

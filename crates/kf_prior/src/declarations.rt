@@ -10,7 +10,7 @@ ghost use Rattle.kf_ast.specs.Views.{decl_items, decl_tree, dist_tree, expr_tree
 ghost use Rattle.kf_prior.specs.FullSources.{full_decl as decl_of, item_for, literal as literal_of, uniform_over as uniform_of};
 ghost use Rattle.kf_prior.specs.Literals.{full_decls as decls_of};
 
-use crate::literals::{literal, set, whole_literal};
+use crate::literals::{both, literal, set, whole_literal};
 use kf_ast::{Decl, DeclList, Dist, DistNode, Expr, Item, ItemList};
 use kf_value::{Mem, Shape, Ty, value_at};
 use std::alloc::Global;
@@ -34,11 +34,13 @@ fn full_decl(alloc: Global, decl: &Decl, ty: &Ty, size: u32) -> Result<Decl, Mem
     requires size { size ≡ count (type_tree ty.now) }
     ensures { IfOk result (λ d. decl_tree d ≡ decl_of (type_tree ty.now) (decl_tree decl.now)) }
 {
+    let dist = uniform_over(alloc, decl.dist.at, ty, size);
+    let (name, (ty, dist)) = both(decl.name.copy(alloc), both(decl.ty.copy(alloc), dist))?;
     Ok(Decl {
         visible: decl.visible,
-        name: decl.name.copy(alloc)?,
-        ty: decl.ty.copy(alloc)?,
-        dist: uniform_over(alloc, decl.dist.at, ty, size)?,
+        name,
+        ty,
+        dist,
     })
 }
 
@@ -51,10 +53,9 @@ fn uniform_over(alloc: Global, at: u32, ty: &Ty, size: u32) -> Result<Dist, Mem>
 {
     let node = match ty {
         Ty::Int { lo, hi } => {
-            DistNode::UniformRange(
-                whole_literal(alloc, at, *lo)?,
-                whole_literal(alloc, at, *hi)?,
-            )
+            let least = whole_literal(alloc, at, *lo);
+            let (least, greatest) = both(least, whole_literal(alloc, at, *hi))?;
+            DistNode::UniformRange(least, greatest)
         }
         Ty::Bool | Ty::Tuple(_) | Ty::Set(_) => {
             DistNode::UniformSet(set(at, all_literals(alloc, at, ty, size)?))

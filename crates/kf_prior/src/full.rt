@@ -12,6 +12,7 @@ ghost use Rattle.kf_prior.specs.declared.error.FullError.TheVariants as error;
 
 use crate::FullError;
 use crate::declarations::{full_decls, full_target};
+use crate::literals::both;
 use kf_ast::Source;
 use kf_check::type_laws;
 use kf_core::Program;
@@ -41,10 +42,12 @@ pub fn full_source(alloc: Global, src: &Source, program: &Program) -> Result<Sou
         });
     }
     let decls = src.decls.as_slice();
+    let rest = both(full_target(alloc, decls), src.body.copy(alloc));
+    let (decls, (target, body)) = both(full_decls(alloc, decls, &program.shape), rest)?;
     Ok(Source {
-        decls: full_decls(alloc, decls, &program.shape)?,
-        target: full_target(alloc, decls)?,
-        body: src.body.copy(alloc)?,
+        decls,
+        target,
+        body,
     })
 }
 

@@ -1,6 +1,6 @@
 //! Values as they are written in a source.
 
-ghost use Rattle.std.specs.Prelude.{◌≡◌, ◌≤ℤ◌, pos, unsigned_abs, map, IfOk};
+ghost use Rattle.std.specs.Prelude.{◌≡◌, ◌≤ℤ◌, pos, unsigned_abs, map, Ok, IfOk, IsOkAnd};
 ghost use Rattle.std.specs.List.{AllByRecursion as Each};
 ghost use Rattle.kf_value.specs.Types.{type_parts};
 ghost use Rattle.kf_value.specs.TypeViews.{type_tree};
@@ -61,8 +61,10 @@ fn set_literal(alloc: Global, at: u32, base: &Ty, values: &[Value]) -> Result<Ex
 {
     if values.is_empty() {
         let least = value_at(alloc, base, 0)?;
-        let first = only(alloc, at, literal(alloc, at, base, &least)?)?;
-        let second = only(alloc, at, literal(alloc, at, base, &least)?)?;
+        let first = only(alloc, at, literal(alloc, at, base, &least));
+        let second = only(alloc, at, literal(alloc, at, base, &least));
+        drop(least);
+        let (first, second) = both(first, second)?;
         return Ok(applied(at, Op::Without, vec![in alloc; first, second]?));
     }
     let mut members = Vec::new(alloc);
@@ -116,10 +118,24 @@ pub(crate) fn set(at: u32, members: Vec<Expr>) -> Expr
     }
 }
 
-fn only(alloc: Global, at: u32, member: Expr) -> Result<Expr, Mem>
-    ensures { IfOk result (λ x. expr_tree x ≡ only_of at (expr_tree member)) }
+/// The set of one expression, if there was memory for this.
+fn only(alloc: Global, at: u32, member: Result<Expr, Mem>) -> Result<Expr, Mem>
+    ensures { IfOk result (λ x. IsOkAnd member (λ m. expr_tree x ≡ only_of at (expr_tree m))) }
 {
+    let member = member?;
     Ok(set(at, vec![in alloc; member]?))
+}
+
+/// Both, if there was memory for both.
+pub(crate) fn both<A: Drop, B: Drop>(
+    first: Result<A, Mem>,
+    second: Result<B, Mem>,
+) -> Result<(A, B), Mem>
+    ensures { IfOk result (λ both. (first ≡ Ok both.0) × (second ≡ Ok both.1)) }
+{
+    let first = first?;
+    let second = second?;
+    Ok((first, second))
 }
 
 /// The whole number, or 0.

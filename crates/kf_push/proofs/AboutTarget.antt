@@ -14,7 +14,8 @@ use Rattle.kf_column.specs.Shapes.{IsBelow}
 use Rattle.kf_core.specs.Checked.{IsChecked}
 use Rattle.kf_core.specs.Joint.{Cell, target_number, weight_of}
 use Rattle.kf_core.specs.Programs.{ProgramTree}
-use Rattle.kf_core.specs.Pushing.{AreBehind, carried_cells}
+use Rattle.kf_core.specs.Pushing.{AreBehind}
+use Rattle.kf_core.specs.Ready.{carried_cells}
 use Rattle.kf_core.specs.Rows.{AreRowsOf}
 use Rattle.kf_core.specs.Runs.{stay}
 use Rattle.kf_core.proofs.Sums.{adds, sum_filtered, sum_is}

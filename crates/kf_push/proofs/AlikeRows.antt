@@ -12,7 +12,8 @@ use Rattle.kf_column.specs.Traces.{Row, trace_order}
 use Rattle.kf_column.proofs.AtMostOne.{In}
 use Rattle.kf_column.proofs.Scaling.{total_positive}
 use Rattle.kf_core.specs.Joint.{Cell, cells, weight_of}
-use Rattle.kf_core.specs.Pushing.{carried_cells, AreBehind}
+use Rattle.kf_core.specs.Pushing.{AreBehind}
+use Rattle.kf_core.specs.Ready.{carried_cells}
 use Rattle.kf_core.specs.Rows.{AreRowsOf}
 use Rattle.kf_core.specs.Runs.{Run, stay}
 use Rattle.kf_core.proofs.OneTable.{in_from_contains, contains_from_in}

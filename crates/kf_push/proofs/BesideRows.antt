@@ -19,7 +19,7 @@ use Rattle.kf_column.specs.Hypers.{class_total}
 use Rattle.kf_column.specs.Traces.{Row, trace_order}
 use Rattle.kf_column.proofs.AtMostOne.{In}
 use Rattle.kf_core.specs.Joint.{Cell, cell_of, cells, weight_of, trace_weight}
-use Rattle.kf_core.specs.Pushing.{carried_cells}
+use Rattle.kf_core.specs.Ready.{carried_cells}
 use Rattle.kf_core.specs.Rows.{AreRowsOf}
 use Rattle.kf_core.specs.Runs.{Run}
 use Rattle.kf_core.proofs.OneTable.{in_from_contains, not_both_traces}

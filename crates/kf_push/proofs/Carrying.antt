@@ -17,8 +17,8 @@ use Rattle.kf_column.specs.Merged.{SameBeliefs, AreMerged}
 use Rattle.kf_column.specs.Traces.{Row, trace_order}
 use Rattle.kf_column.proofs.Weights.{above_column}
 use Rattle.kf_core.specs.Joint.{cells, weight_of}
-use Rattle.kf_core.specs.Pushing.{carried_cells, AreBehind}
-use Rattle.kf_core.specs.Ready.{DivideAlong, IsPushed}
+use Rattle.kf_core.specs.Pushing.{AreBehind}
+use Rattle.kf_core.specs.Ready.{DivideAlong, IsPushed, carried_cells}
 use Rattle.kf_core.specs.Runs.{Run, chain, stay}
 use Rattle.kf_core.proofs.Measures.{Measure}
 use Rattle.kf_core.specs.Each.{HasTrace}

@@ -9,7 +9,7 @@ use Rattle.kf_value.specs.Values.{ValueTree, is_equal}
 use Rattle.kf_column.specs.declared.entry.Entry.{Entry}
 use Rattle.kf_column.specs.Averages.{scaled}
 use Rattle.kf_core.specs.Joint.{Cell, cell_of, cells, weight_of, trace_weight}
-use Rattle.kf_core.specs.Pushing.{carried_cells}
+use Rattle.kf_core.specs.Ready.{carried_cells}
 use Rattle.kf_core.specs.Runs.{Run, Halted}
 use Rattle.kf_core.proofs.Sums.{adds, adds_flat, adds_joined, adds_both, each_is, sum_filtered, divides_sum}
 use Rattle.kf_core.specs.Each.{is_cell_at}

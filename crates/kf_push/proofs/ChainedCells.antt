@@ -7,7 +7,7 @@ use Rattle.std.proofs.lemmas.Nat.Gcd.{dvd_trans}
 use Rattle.kf_value.proofs.ListLemmas.{each_append}
 use Rattle.kf_column.specs.declared.entry.Entry.{Entry}
 use Rattle.kf_core.specs.Joint.{Cell, cell_of, cells}
-use Rattle.kf_core.specs.Pushing.{carried_cells}
+use Rattle.kf_core.specs.Ready.{carried_cells}
 use Rattle.kf_core.specs.Runs.{Run, Halted, chain, joined}
 use Rattle.kf_core.proofs.Measures.{each_left, each_right}
 use Rattle.kf_core.proofs.Sums.{adds, adds_joined, share_divides, share_of_share, first_positive, second_positive}

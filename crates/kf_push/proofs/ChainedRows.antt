@@ -19,7 +19,7 @@ use Rattle.kf_column.proofs.AtMostOne.{In}
 use Rattle.kf_column.proofs.Scaling.{two_ways}
 use Rattle.kf_column.proofs.Weights.{above_column}
 use Rattle.kf_core.specs.Joint.{Cell, cells, weight_of, trace_weight}
-use Rattle.kf_core.specs.Pushing.{carried_cells}
+use Rattle.kf_core.specs.Ready.{carried_cells}
 use Rattle.kf_core.specs.Rows.{AreRowsOf}
 use Rattle.kf_core.specs.Runs.{Run, chain}
 use Rattle.kf_core.proofs.Measures.{Measure}

@@ -19,8 +19,8 @@ use Rattle.kf_core.specs.ChoiceLaws.{ChoicesAreShares}
 use Rattle.kf_core.specs.Dxs.{DxTree}
 use Rattle.kf_core.specs.Joint.{Cell, cells, joint_of, target_number, weight_of}
 use Rattle.kf_core.specs.Programs.{ProgramTree}
-use Rattle.kf_core.specs.Pushing.{AreBehind, carried_cells}
-use Rattle.kf_core.specs.Ready.{DivideAlong, IsPushed, IsStart}
+use Rattle.kf_core.specs.Pushing.{AreBehind}
+use Rattle.kf_core.specs.Ready.{DivideAlong, IsPushed, IsStart, carried_cells}
 use Rattle.kf_core.specs.Rows.{AreRowsOf, IsHyperOf}
 use Rattle.kf_core.specs.Runs.{Run, all_runs, assigned, chain, copied, declared, program_runs, stay}
 use Rattle.kf_core.specs.Scale.{scale_of}

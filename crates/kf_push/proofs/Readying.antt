@@ -15,8 +15,7 @@ use Rattle.kf_column.specs.Columns.{IsColumn, values, total}
 use Rattle.kf_column.specs.Joint.{mass}
 use Rattle.kf_column.proofs.AtMostOne.{In}
 use Rattle.kf_core.specs.Joint.{Cell, cell_of, cells}
-use Rattle.kf_core.specs.Pushing.{carried_cells}
-use Rattle.kf_core.specs.Ready.{IsPushed, IsReady}
+use Rattle.kf_core.specs.Ready.{IsPushed, IsReady, carried_cells}
 use Rattle.kf_core.specs.Runs.{Run, Halted, all_runs}
 use Rattle.kf_core.specs.Sts.{StTree, sts}
 use Rattle.kf_core.specs.Support.{StoreSet}

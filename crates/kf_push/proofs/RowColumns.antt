@@ -7,7 +7,8 @@ use Rattle.kf_value.proofs.ListLemmas.{each_append, each_map}
 use Rattle.kf_column.specs.declared.entry.Entry.{Entry}
 use Rattle.kf_column.specs.Columns.{IsColumn}
 use Rattle.kf_column.specs.Traces.{Row}
-use Rattle.kf_core.specs.Pushing.{carried_cells, AreBehind}
+use Rattle.kf_core.specs.Pushing.{AreBehind}
+use Rattle.kf_core.specs.Ready.{carried_cells}
 use Rattle.kf_core.specs.Rows.{AreRowsOf}
 use Rattle.kf_core.specs.Runs.{Run}
 use Rattle.kf_core.proofs.RowsFound.{rows_exist}

@@ -15,7 +15,7 @@ use Rattle.kf_column.specs.Traces.{Row, trace_order}
 use Rattle.kf_column.proofs.Scaling.{product_positive, weight_at-scaled, total-scaled, proportional-scaled, times_if}
 use Rattle.kf_column.proofs.Weights.{Above, above_column, column_above}
 use Rattle.kf_core.specs.Joint.{weight_of, trace_weight}
-use Rattle.kf_core.specs.Pushing.{carried_cells}
+use Rattle.kf_core.specs.Ready.{carried_cells}
 use Rattle.kf_core.specs.Rows.{AreRowsOf}
 use Rattle.kf_core.specs.Runs.{Run}
 use Rattle.kf_core.proofs.OneTable.{one_table}

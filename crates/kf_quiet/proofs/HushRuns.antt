@@ -17,7 +17,8 @@ use Rattle.kf_core.specs.Sts.{StTree, sts}
 use Rattle.kf_core.specs.SupportLaws.{RunsChain}
 use Rattle.kf_core.proofs.Stores.{lists_decide}
 use Rattle.kf_core.specs.Each.{onward}
-use Rattle.kf_silent.specs.Quiet.{hushed, quiet_runs, quiet_joint}
+use Rattle.kf_silent.specs.Quiet.{hushed, quiet_joint}
+use Rattle.kf_silent.specs.Paths.{quiet_runs}
 use Rattle.kf_push.proofs.CellWeights.{Trace}
 use Rattle.kf_push.proofs.CellsFrom.{each_in}
 use Rattle.kf_push.proofs.Declaring.{declared_silent}

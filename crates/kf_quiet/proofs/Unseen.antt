@@ -14,7 +14,8 @@ use Rattle.kf_core.specs.declared.st.St.{St}
 use Rattle.kf_core.specs.SupportLaws.{RunsChain}
 use Rattle.kf_push.specs.Blocks.{block_runs}
 use Rattle.kf_push.proofs.Declaring.{Silent, declared_silent}
-use Rattle.kf_silent.specs.Quiet.{hushed, quiet_joint, quiet_runs}
+use Rattle.kf_silent.specs.Quiet.{hushed, quiet_joint}
+use Rattle.kf_silent.specs.Paths.{quiet_runs}
 use Rattle.kf_silent.proofs.QuietBlock.{block_rest}
 use Rattle.kf_quiet.specs.Unseen.{ShowsNothing}
 

@@ -15,7 +15,8 @@ use Rattle.kf_gain.specs.Gains.{TableTree}
 use Rattle.kf_simplex.specs.Base.{at}
 use Rattle.kf_simplex.proofs.Signs.{cancel}
 use Rattle.kf_refine.specs.Refinements.{Fraction, IsShaped, entry}
-use Rattle.kf_refine.specs.Verdicts.{IsMatrixOf, IsShift, IsActionOf, action_at, IsTableOf}
+use Rattle.kf_refine.specs.Verdicts.{IsMatrixOf, IsShift, IsActionOf, IsTableOf}
+use Rattle.kf_refine.specs.Views.{action_at}
 use Rattle.kf_refine.proofs.OneSystem.{shared, all_of}
 use Rattle.kf_refine.specs.Built.{multiplier}
 

@@ -36,8 +36,8 @@ use Rattle.kf_simplex.proofs.Signs.{cancel_lt, product_monotone, product_positiv
 use Rattle.kf_simplex.proofs.Sums.{total-ext, total-add, total-scale, total-swap, total_all_zero}
 use Rattle.kf_refine.specs.Refinements.{HyperTree, count, joint, Separates}
 use Rattle.kf_refine.specs.Equations.{AreEquations}
-use Rattle.kf_refine.specs.Verdicts.{IsTableOf, action_at, Runs, Proves, No}
-use Rattle.kf_refine.specs.Views.{IsProper}
+use Rattle.kf_refine.specs.Verdicts.{IsTableOf, Runs, Proves, No}
+use Rattle.kf_refine.specs.Views.{IsProper, action_at}
 use Rattle.kf_refine.proofs.Spreading.{total-front, total-append, total-rows, total-pick, total-sums, total-differences, total-list, pair_below}
 
 -- ---- what an action gains

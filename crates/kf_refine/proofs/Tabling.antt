@@ -19,7 +19,8 @@ use Rattle.kf_gain.specs.declared.table.GainEntry.{GainEntry}
 use Rattle.kf_gain.specs.Gains.{TableTree}
 use Rattle.kf_gain.specs.Shapes.{IsTableShape}
 use Rattle.kf_simplex.specs.Base.{at}
-use Rattle.kf_refine.specs.Verdicts.{IsActionOf, IsTableOf, action_at}
+use Rattle.kf_refine.specs.Verdicts.{IsActionOf, IsTableOf}
+use Rattle.kf_refine.specs.Views.{action_at}
 use Rattle.kf_refine.specs.Built.{multiplier}
 
 -- ---- the shift

@@ -43,10 +43,6 @@ pub record IsShift (kept n : ℕ) (multipliers : List ℤ) (shift : ℕ) : Type 
   pub enough : (q j : ℕ) → q < kept → j < n → pos 0 ≤ℤ (at multipliers (q * n + j) +ℤ pos shift)
   pub least : (k : ℕ) → ((q j : ℕ) → q < kept → j < n → pos 0 ≤ℤ (at multipliers (q * n + j) +ℤ pos k)) → shift ≤ k
 
--- the j-th action, from 0
-abbrev pub action_at : List Action → ℕ → Action
-action_at actions j = slice_index_or actions j (record { name = []; gains = [] })
-
 -- the action of inner j of b is named after it; at each kept value it gains the multiplier and the shift, over `factor`
 pub record IsActionOf (kept : List ℕ) (n : ℕ) (multipliers : List ℤ) (shift factor j : ℕ) (a : Action) : Type 0 where
   pub name : a.name ≡ codes "b" ++ decimal j
@@ -64,20 +60,13 @@ pub record IsTableOf (values : List ℕ) (n : ℕ) (multipliers : List ℤ) (t :
   pub over : t.over ≡ 1
   pub rest : pos factor *ℤ t.rest ≡ pos shift
   pub many : length t.actions ≡ n
-  pub actions : (j : ℕ) → j < n → IsActionOf values n multipliers shift factor j (action_at t.actions j)
+  pub actions : (j : ℕ) → j < n
+      → IsActionOf values n multipliers shift factor j (slice_index_or t.actions j (record { name = []; gains = [] }))
   pub no_common_factor : (d : ℕ) → (d * factor) ∣ shift
       → ((q j : ℕ) → q < length values → j < n → (d * factor) ∣ unsigned_abs (at multipliers (q * n + j) +ℤ pos shift))
       → d ≡ 1
 
--- the tableau has at most 4,000,000 cells, and the run on the equations, with so many pivots, answers this
-pub record Runs (a b : HyperTree) (pivots : ℕ) (answer : Result Outcome SimplexError) : Type 0 where
-  pub targets : a.target ≡ b.target
-  pub system : LinearSystem
-  pub equations : AreEquations a b system
-  pub few : cells_of (length equations.values) (count a) (count b) ≤ 4000000
-  pub is_answer : IsAnswer system pivots answer
-
--- more cells than that
+-- the tableau has more than 4,000,000 cells
 pub record HasManyCells (a b : HyperTree) (cells : ℕ) : Type 0 where
   pub targets : a.target ≡ b.target
   pub values : List ℕ
@@ -85,15 +74,25 @@ pub record HasManyCells (a b : HyperTree) (cells : ℕ) : Type 0 where
   pub many : 4000000 < cells_of (length values) (count a) (count b)
   pub is : cells ≡ min limit (cells_of (length values) (count a) (count b))
 
--- the verdict, or why there is none; want of memory is none of the causes
-abbrev pub IsVerdict : HyperTree → HyperTree → ℕ → Result VerdictTree RefineError → Type 0
-IsVerdict a b pivots (Ok (Yes rows)) =
-    (solution : List Frac) × Runs a b pivots (Ok (outcome.Solution solution)) × IsMatrixOf (count a) (count b) solution rows
-IsVerdict a b pivots (Ok (No t)) =
-    (multipliers : List ℤ) × (run : Runs a b pivots (Ok (outcome.Multipliers multipliers)))
-    × IsTableOf run.equations.values (count b) multipliers t
-IsVerdict a b pivots (Err error.Targets) = a.target ≢ b.target
-IsVerdict a b pivots (Err (error.Cells cells)) = HasManyCells a b cells
-IsVerdict a b pivots (Err (error.Wide p)) = Runs a b pivots (Err (simplex.Wide p))
-IsVerdict a b pivots (Err error.Budget) = Runs a b pivots (Err simplex.Budget)
-IsVerdict a b pivots (Err error.Mem) = ⊥
+-- on these two hypers, with so many pivots
+module _ (a b : HyperTree) (pivots : ℕ) where
+  -- the tableau has at most 4,000,000 cells, and the run on the equations answers this
+  pub record Runs (answer : Result Outcome SimplexError) : Type 0 where
+    pub targets : a.target ≡ b.target
+    pub system : LinearSystem
+    pub equations : AreEquations a b system
+    pub few : cells_of (length equations.values) (count a) (count b) ≤ 4000000
+    pub is_answer : IsAnswer system pivots answer
+
+  -- the verdict, or why there is none; want of memory is none of the causes
+  abbrev pub IsVerdict : Result VerdictTree RefineError → Type 0
+  IsVerdict (Ok (Yes rows)) =
+      (solution : List Frac) × Runs (Ok (outcome.Solution solution)) × IsMatrixOf (count a) (count b) solution rows
+  IsVerdict (Ok (No t)) =
+      (multipliers : List ℤ) × (run : Runs (Ok (outcome.Multipliers multipliers)))
+      × IsTableOf run.equations.values (count b) multipliers t
+  IsVerdict (Err error.Targets) = a.target ≢ b.target
+  IsVerdict (Err (error.Cells cells)) = HasManyCells a b cells
+  IsVerdict (Err (error.Wide p)) = Runs (Err (simplex.Wide p))
+  IsVerdict (Err error.Budget) = Runs (Err simplex.Budget)
+  IsVerdict (Err error.Mem) = ⊥

@@ -12,9 +12,8 @@ use Rattle.kf_column.specs.Joint.{mass}
 use Rattle.kf_column.specs.Columns as column
 use Rattle.kf_core.specs.Choices.{Weighted, total}
 use Rattle.kf_core.specs.Joint.{Cell, cell_of}
-use Rattle.kf_core.specs.Pushing.{carried_cells}
 use Rattle.kf_core.specs.Runs.{Run, Tried, joined, branched, choice_run, stay}
-use Rattle.kf_core.specs.Ready.{IsPushed}
+use Rattle.kf_core.specs.Ready.{IsPushed, carried_cells}
 use Rattle.kf_core.proofs.Filled.{Filled}
 use Rattle.kf_core.proofs.Sums.{adds, adds_joined, sum_is, each_is}
 use Rattle.kf_core.specs.Leaks.{shown}

@@ -24,7 +24,7 @@ use Rattle.kf_column.specs.Joint.{mass}
 use Rattle.kf_column.specs.Shapes.{IsBelow}
 use Rattle.kf_column.specs.Traces.{Row, trace_order}
 use Rattle.kf_column.proofs.Weights.{above_column}
-use Rattle.kf_core.specs.Pushing.{carried_cells}
+use Rattle.kf_core.specs.Ready.{carried_cells}
 use Rattle.kf_core.specs.Runs.{Run}
 use Rattle.kf_core.proofs.Measures.{Full}
 use Rattle.kf_core.proofs.Sums.{adds, adds_mapped, sum_is}

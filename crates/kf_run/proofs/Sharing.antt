@@ -22,7 +22,7 @@ use Rattle.kf_core.specs.Choices.{Weighted, total}
 use Rattle.kf_core.specs.Dxs.{DxTree}
 use Rattle.kf_core.specs.Joint.{Cell, cells, cell_of, weight_of}
 use Rattle.kf_core.specs.Programs.{ProgramTree}
-use Rattle.kf_core.specs.Pushing.{carried_cells}
+use Rattle.kf_core.specs.Ready.{carried_cells}
 use Rattle.kf_core.specs.Runs.{Run, Tried, assigned, copied, joined, branched, choice_run, place as stop_place, replaced, stay, tried}
 use Rattle.kf_core.proofs.Filled.{moved_some}
 use Rattle.kf_core.proofs.Measures.{Full}

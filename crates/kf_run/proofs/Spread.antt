@@ -15,8 +15,7 @@ use Rattle.kf_column.specs.Merged.{AreMerged}
 use Rattle.kf_column.specs.Shapes.{IsBelow}
 use Rattle.kf_column.specs.Traces.{Row}
 use Rattle.kf_column.proofs.Beliefs.{merged_below}
-use Rattle.kf_core.specs.Pushing.{carried_cells}
-use Rattle.kf_core.specs.Ready.{IsPushed}
+use Rattle.kf_core.specs.Ready.{IsPushed, carried_cells}
 use Rattle.kf_core.specs.Rows.{AreRowsOf}
 use Rattle.kf_core.specs.Runs.{Run}
 use Rattle.kf_push.proofs.Carrying.{behind_columns}

@@ -12,7 +12,7 @@ use Rattle.kf_column.specs.Shapes.{IsBelow}
 use Rattle.kf_column.specs.Traces.{Row}
 use Rattle.kf_core.specs.Choices.{Weighted}
 use Rattle.kf_core.specs.Joint.{weight_of}
-use Rattle.kf_core.specs.Pushing.{carried_cells}
+use Rattle.kf_core.specs.Ready.{carried_cells}
 use Rattle.kf_core.specs.Rows.{AreRowsOf}
 use Rattle.kf_core.specs.Runs.{Run, replaced}
 use Rattle.kf_support.specs.Moves.{store_behind}

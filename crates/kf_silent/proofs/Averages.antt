@@ -18,9 +18,9 @@ use Rattle.kf_core.proofs.Sums.{adds, adds_flat, adds_mapped, each_is, sum_is}
 use Rattle.kf_silent.specs.Quiet.{hushed}
 use Rattle.kf_push.proofs.RowMass.{rows_at}
 use Rattle.kf_silent.specs.Laws.{OneSilent, SilentSameAverage, SomeSilent}
-use Rattle.kf_silent.specs.Silent.{Path, all_silent_runs, silent_joint, silent_program_runs}
+use Rattle.kf_silent.specs.Silent.{Path, all_silent_runs, silent_joint}
 use Rattle.kf_silent.proofs.Hushing.{block_hushed, chain_hushed}
-use Rattle.kf_silent.specs.Paths.{hush}
+use Rattle.kf_silent.specs.Paths.{hush, silent_program_runs}
 
 abbrev given : ℕ → Cell → ℕ
 given x c = cond (c.value == x) c.weight 0

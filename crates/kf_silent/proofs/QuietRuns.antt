@@ -12,8 +12,8 @@ use Rattle.kf_column.specs.Traces.{Row}
 use Rattle.kf_column.proofs.AtMostOne.{In}
 use Rattle.kf_column.proofs.Weighing.{averages_weigh, joint_column_weighs}
 use Rattle.kf_core.specs.Joint.{Cell, cell_of, cells, weight_of}
-use Rattle.kf_core.specs.Pushing.{AreBehind, carried_cells}
-use Rattle.kf_core.specs.Ready.{IsPushed}
+use Rattle.kf_core.specs.Pushing.{AreBehind}
+use Rattle.kf_core.specs.Ready.{IsPushed, carried_cells}
 use Rattle.kf_core.specs.Runs.{Run, Halted, chain, joined}
 use Rattle.kf_core.proofs.Measures.{Full}
 use Rattle.kf_core.proofs.Sums.{adds, adds_mapped, each_is, sum_is}

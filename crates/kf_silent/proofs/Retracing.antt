@@ -11,7 +11,8 @@ use Rattle.kf_core.proofs.Stores.{lists_decide}
 use Rattle.kf_push.proofs.CellWeights.{Trace}
 use Rattle.kf_push.proofs.Members.{ending}
 use Rattle.kf_silent.specs.Laws.{LeftOfTraces, retraced}
-use Rattle.kf_silent.specs.Silent.{silent_joint, silent_program_runs}
+use Rattle.kf_silent.specs.Silent.{silent_joint}
+use Rattle.kf_silent.specs.Paths.{silent_program_runs}
 use Rattle.kf_silent.proofs.Leaving.{AreLike, Decides, Left, zip_append}
 use Rattle.kf_silent.proofs.SilentLeads.{program_leads}
 

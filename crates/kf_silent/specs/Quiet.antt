@@ -11,14 +11,10 @@ use Rattle.kf_push.specs.Blocks.{block_runs}
 abbrev pub hushed : List Run → List Run
 hushed rs = map (λ (r : Run). record r { trace = [] }) rs
 
--- the runs of a program in which this block is quiet
-abbrev pub quiet_runs : ℕ → ProgramTree → ℕ → ℕ → List Run
-quiet_runs turns p from to =
+-- the joint of a program in which this block is quiet, over the scale of all runs
+abbrev pub quiet_joint : ℕ → ProgramTree → ℕ → ℕ → List Cell
+quiet_joint turns p from to = cells (target_number p) (scale_of turns p) (
     chain (declared p.types 0 p.decls 0) (λ n.
     chain (block_runs turns p 0 from (copied p n)) (λ m.
     chain (hushed (block_runs turns p from to m))
-    (all_runs p.types turns (sts (drop to p.body)))))
-
--- their joint, over the scale of all runs
-abbrev pub quiet_joint : ℕ → ProgramTree → ℕ → ℕ → List Cell
-quiet_joint turns p from to = cells (target_number p) (scale_of turns p) (quiet_runs turns p from to)
+    (all_runs p.types turns (sts (drop to p.body))))))

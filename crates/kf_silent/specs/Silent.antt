@@ -39,11 +39,7 @@ abbrev mutual
   all_silent_runs silent ts turns i (more_sts x xs) n =
       chain (silent_runs (within silent i) ts turns x n) (all_silent_runs silent ts turns (suc i) xs)
 
--- the runs of a program in which the statements at these paths are silent
-abbrev pub silent_program_runs : (Path → Bool) → ℕ → ProgramTree → List Run
-silent_program_runs silent turns p =
-    chain (declared p.types 0 p.decls 0) (λ n. all_silent_runs silent p.types turns 0 (sts p.body) (copied p n))
-
--- their joint, over the scale of all runs
+-- the joint of a program in which the statements at these paths are silent, over the scale of all runs
 abbrev pub silent_joint : (Path → Bool) → ℕ → ProgramTree → List Cell
-silent_joint silent turns p = cells (target_number p) (scale_of turns p) (silent_program_runs silent turns p)
+silent_joint silent turns p = cells (target_number p) (scale_of turns p) (
+    chain (declared p.types 0 p.decls 0) (λ n. all_silent_runs silent p.types turns 0 (sts p.body) (copied p n)))

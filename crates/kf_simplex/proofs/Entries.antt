@@ -82,6 +82,12 @@ least_of_second (e ∷ es) [] after_x after_y column x y lx ly up up' l ec ey ex
 least_of_second (e ∷ es) (d ∷ ds) after_x after_y column x y lx ly up up' l ec ey ex ay ax =
     rw (ec, ex, ey, ax, ay ∙ rest_of d ds) (least_second e d es ds up up' l)
 
+pub least_of_both : (xs ys : List Entry) → 1 ≤ length xs → 1 ≤ length ys → Ascends 0 xs → Ascends 0 ys → (get_or ys 0 no_entry).column ≡ (get_or xs 0 no_entry).column
+    → IsLeast xs ys (get_or xs 0 no_entry).column (get_or xs 0 no_entry).number (get_or ys 0 no_entry).number (take (length xs - 1) (drop 1 xs)) (take (length ys - 1) (drop 1 ys))
+least_of_both [] ys lx ly up up' same = absurd (omega arith)
+least_of_both (e ∷ es) [] lx ly up up' same = absurd (omega arith)
+least_of_both (e ∷ es) (d ∷ ds) lx ly up up' same = rw (rest_of e es, rest_of d ds) (least_both e d es ds up up' same)
+
 -- ---- a list that grows
 
 -- the columns ascend from low on and before high

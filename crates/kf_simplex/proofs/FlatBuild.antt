@@ -3,7 +3,7 @@ use Rattle.std.proofs.Common.{◌≡◌, ℕ, zero, suc, ◌+◌, ◌*◌, ◌^�
 use Rattle.std.proofs.Math.IntN.{ℤ, pos, ◌+ℤ◌}
 use Rattle.std.proofs.Math.Nat.{mul-le-mul_left}
 use Rattle.std.proofs.lemmas.Int.{ints}
-use Rattle.std.proofs.lemmas.List.{take-append-le, take_all, get_or_past}
+use Rattle.std.proofs.lemmas.List.{take-append-le, take_all, get_or_append_left, get_or_past, get_or_push}
 use Rattle.std.proofs.lemmas.Bool.{cases_lt}
 use mir.Syntax.{w128}
 use Rattle.kf_simplex.specs.declared.system.Equation.{Equation}
@@ -126,3 +126,11 @@ module _ (v : ℕ) (eqs : List Equation) (rows new : List Row) (sums : List ℤ)
         );
         pivots = refl;
       }
+
+-- the artificial columns, one after the other
+pub basis_more : (basis news : List ℕ) (v k : ℕ) → length basis ≡ k → ((j : ℕ) → j < k → get_or basis j 0 ≡ v + j) → news ≡ basis ++ (v + k) ∷ []
+    → (j : ℕ) → j < k + 1 → get_or news j 0 ≡ v + j
+basis_more basis news v k len so_far pushed j l = ap (λ (xs : List ℕ). get_or xs j 0) pushed ∙ ⊎_elim
+    (λ (m : j < k). get_or_append_left basis ((v + k) ∷ []) 0 j (omega (arith, len)) ∙ so_far j m)
+    (λ (m : k ≤ j). let e : k ≡ j = omega arith in get_or_push basis (v + k) 0 j (len ∙ e) ∙ ap (λ z. v + z) e)
+    (cases_lt j k)

@@ -1,8 +1,8 @@
 -- Rows in flat lists: their common factors, cross products and places.
-use Rattle.std.proofs.Common.{◌≡◌, ℕ, zero, suc, ◌+◌, ◌*◌, ◌/◌, ◌<◌, ◌≤◌, ◌^◌, sym, ap, ◌∙◌, subst, arith, ⊎_elim, ◌⊎◌, inl, inr, unsigned_abs, List, FitsSigned}
+use Rattle.std.proofs.Common.{◌≡◌, ℕ, zero, suc, ◌+◌, ◌*◌, ◌/◌, ◌<◌, ◌≤◌, ◌^◌, sym, ap, ◌∙◌, subst, arith, ⊎_elim, ◌⊎◌, inl, inr, unsigned_abs, List, FitsSigned, to_z, of_z}
 use Rattle.std.proofs.Math.IntN.{ℤ, pos, negsuc, ◌*ℤ◌, neg_ℤ}
 use Rattle.std.proofs.Math.Nat.{mul-div_cancel', mul-le-mul, mul-le-mul_left, eq-zero_of_zero-dvd, one-dvd, mul-dvd-mul_left}
-use Rattle.std.proofs.lemmas.Int.{ints, fits_signed_mul, unsigned_abs-mul}
+use Rattle.std.proofs.lemmas.Int.{ints, fits_signed_mul, to_z-of_z, unsigned_abs-mul}
 use Rattle.std.proofs.lemmas.Bool.{cases_lt}
 use Rattle.std.proofs.lemmas.Nat.Gcd.{dvd_trans, dvd-zero, le_of_dvd}
 use Rattle.std.specs.Int.{IsGcd, ◌∣◌}
@@ -14,6 +14,15 @@ use Rattle.kf_simplex.specs.Base.{at}
 
 pub narrow_product_fits : (a b : ℤ) → IsNarrowNumber a → IsNarrowNumber b → FitsSigned w128 (a *ℤ b)
 narrow_product_fits a b h k = fits_signed_mul w128 a b 4611686018427387904 4611686018427387904 h k (omega arith)
+
+-- A narrow number is narrow as a call is given it.
+pub passed_narrow : (x : ℤ) → FitsSigned w128 x → IsNarrowNumber x → IsNarrowNumber (to_z w128 (of_z w128 x))
+passed_narrow x fits is = subst IsNarrowNumber (sym (to_z-of_z w128 x fits)) is
+
+-- What holds of products as a call is given their factors holds of the products.
+pub passed_products : (P : ℤ → ℤ → Type 0) (a b c d : ℤ) → FitsSigned w128 a → FitsSigned w128 b → FitsSigned w128 c → FitsSigned w128 d
+    → P (to_z w128 (of_z w128 a) *ℤ to_z w128 (of_z w128 b)) (to_z w128 (of_z w128 c) *ℤ to_z w128 (of_z w128 d)) → P (a *ℤ b) (c *ℤ d)
+passed_products P a b c d fits_a fits_b fits_c fits_d holds = simp to_z-of_z at holds
 
 pub narrow_product_below : (a b : ℤ) → IsNarrowNumber a → IsNarrowNumber b → unsigned_abs (a *ℤ b) ≤ 2 ^ 124
 narrow_product_below a b h k = rw (unsigned_abs-mul a b) (omega (arith, mul-le-mul h k))

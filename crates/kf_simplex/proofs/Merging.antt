@@ -84,6 +84,14 @@ none_before row items k low same l h none j m =
     (λ (u : low ≤ j). rw (left_gap row (drop k row) low (get_or items k no_entry).column (get_or items k no_entry).number (drop (k + 1) row) h t.1 j u m) (omega (arith, ints)))
     (cases_lt j low)
 
+pub none_at_all : (row items : List Entry) (k low : ℕ) → items ≡ row → length items ≤ k → IsLeft row (drop k row) low → ((j : ℕ) → j < low → number_in row j ≤ℤ pos 0)
+    → (j : ℕ) → number_in row j ≤ℤ pos 0
+none_at_all row items k low same l h none j =
+    ⊎_elim
+    (λ (u : j < low). none j u)
+    (λ (u : low ≤ j). rw (left_end row items k low same l h j u) (omega (arith, ints)))
+    (cases_lt j low)
+
 pub none_more : (row items : List Entry) (k low : ℕ) → items ≡ row → k < length items → (get_or items k no_entry).number ≤ℤ pos 0 → IsLeft row (drop k row) low → ((j : ℕ) → j < low → number_in row j ≤ℤ pos 0)
     → (next : ℕ) × IsLeft row (drop (k + 1) row) next × ((j : ℕ) → j < next → number_in row j ≤ℤ pos 0)
 none_more row items k low same l here h none =

@@ -137,6 +137,9 @@ pub narrow_read : (b : Bool) (rows : List Row) (i : ℕ) (row : Row) → i < len
     → (IsTrue b → AllNarrow (number_in row.entries.items)) × (AllNarrow (number_in row.entries.items) → IsTrue b) → (IsTrue b → AllNarrow (cell rows i)) × (AllNarrow (cell rows i) → IsTrue b)
 narrow_read b rows i row l e h = rw (entries_read rows i row l e) at h
 
+pub narrow_row : (rows : List Row) (i : ℕ) (row : Row) → i < length rows → row ≡ get_or rows i row → AllNarrow (cell rows i) → AllNarrow (number_in row.entries.items)
+narrow_row rows i row lt is = subst (λ entries. AllNarrow (number_in entries)) (sym (entries_read rows i row lt is))
+
 pub narrow_more : (cells : ℕ → ℕ → ℤ) (i : ℕ) → AllNarrow (cells i) → ((k : ℕ) → k < i → AllNarrow (cells k)) → (k : ℕ) → k < i + 1 → AllNarrow (cells k)
 narrow_more cells i here h k l x = ⊎_elim (λ (m : k < i). h k m x) (λ (m : i ≤ k). let e : i ≡ k = omega arith in subst (λ (j : ℕ). unsigned_abs (cells j x) ≤ 2 ^ 62) e (here x)) (cases_lt k i)
 

@@ -1,5 +1,5 @@
 -- Assignments, observations and carried copies, of one store each.
-use Rattle.std.proofs.Common.{◌≡◌, ℕ, ◌*◌, ◌<◌, List, [], ◌∷◌, map, Option, Some, None, Ok, Err, inl, inr, refl, sym, ap, subst, ◌∙◌, arith, ◌↔◌, false, nat_eq}
+use Rattle.std.proofs.Common.{◌≡◌, ℕ, ◌*◌, ◌<◌, List, [], ◌∷◌, ◌++◌, map, Option, Some, None, Ok, Err, inl, inr, refl, sym, ap, subst, ◌∙◌, arith, ◌↔◌, false, nat_eq}
 use Rattle.std.specs.List.{AllByRecursion as Each}
 use Rattle.std.specs.FinSet.{from_list, items}
 use Rattle.std.specs.Map.{keys_of}
@@ -10,11 +10,11 @@ use Rattle.kf_value.specs.Values.{ValueTree}
 use Rattle.kf_core.specs.Choices.{Weighted, total}
 use Rattle.kf_core.specs.Dxs.{DxTree}
 use Rattle.kf_core.specs.Runs.{Run, Tried, tried, place, replaced, stay, branched, assigned, chain}
-use Rattle.kf_core.specs.Results.{then_ok}
-use Rattle.kf_core.specs.Support.{StoreSet, Passed, each_moved, step, same, assign_pass}
+use Rattle.kf_core.specs.Results.{then_ok, each_ok}
+use Rattle.kf_core.specs.Support.{StoreSet, Passed, step, same, assign_pass}
 use Rattle.kf_core.proofs.PassTells.{Lists, holds_listed, items_hold}
 use Rattle.kf_core.proofs.Scales.{Weighty}
-use Rattle.kf_core.specs.Each.{moved, each_pass}
+use Rattle.kf_core.specs.Each.{moved, moved_pass, each_pass, each_moved}
 use Rattle.kf_core.specs.Leaks.{shown}
 use Rattle.kf_support.specs.Carried.{Reached, Lead, carry_step, assign_lead, observe_lead, staying}
 use Rattle.kf_support.proofs.Placing.{through, back, beside, each_same, Good, Led, Works, Positive, Lands}
@@ -28,11 +28,16 @@ some_total w ws head = omega (arith, head, sum_by-cons (λ (u : Weighted). u.wei
 -- ---- assignments
 
 module _ (at : ℕ) (go : ValueTree → Option ℕ) where
+  moves_each : (ws : List Weighted) → each_moved at (map (λ w. go w.value) ws) ≡ each_ok (λ (w : Weighted). moved_pass at (go w.value)) ws
+  moves_each [] = refl
+  moves_each (w ∷ ws) = ap (λ r. then_ok (moved_pass at (go w.value)) (λ ns. then_ok r (λ others. Ok (ns ++ others)))) (moves_each ws)
+
+module _ (at : ℕ) (go : ValueTree → Option ℕ) where
   abbrev assign_to : Tried → Led
   assign_to g = then_ok g (λ ws. then_ok (each_moved at (map (λ w. go w.value) ws)) (λ ms. Ok (ms, total ws)))
 
   abbrev move_to : Tried → Passed (List ℕ)
-  move_to g = then_ok g (λ ws. each_moved at (map (λ w. go w.value) ws))
+  move_to g = then_ok g (each_ok (λ w. moved_pass at (go w.value)))
 
   positive_any : (s : ℕ) → 0 < s → (r : Passed (List ℕ)) → Positive (then_ok r (λ ms. Ok (ms, s)))
   positive_any s p (Ok ms) = each_any (λ n. 0 < s) (λ n. p) ms
@@ -48,7 +53,9 @@ module _ (at : ℕ) (go : ValueTree → Option ℕ) where
   faults_any s (Err f) = refl
 
   assign_faults : (g : Tried) → SameFault (assign_to g) (move_to g)
-  assign_faults (Ok ws) = faults_any (total ws) (each_moved at (map (λ w. go w.value) ws))
+  assign_faults (Ok ws) =
+      let moves = each_moved at (map (λ (w : Weighted). go w.value) ws) in
+      subst (SameFault {A = List ℕ × ℕ} (then_ok moves (λ ms. Ok (ms, total ws)))) (moves_each at go ws) (faults_any (total ws) moves)
   assign_faults (Err f) = refl
 
   alike_any : (m s : ℕ) (r : Passed (List ℕ)) → Alike m (then_ok r (λ ms. Ok (ms, s))) r
@@ -56,7 +63,9 @@ module _ (at : ℕ) (go : ValueTree → Option ℕ) where
   alike_any m s (Err f) = tt
 
   assign_alike : (m : ℕ) (g : Tried) → Alike m (assign_to g) (move_to g)
-  assign_alike m (Ok ws) = alike_any m (total ws) (each_moved at (map (λ w. go w.value) ws))
+  assign_alike m (Ok ws) =
+      let moves = each_moved at (map (λ (w : Weighted). go w.value) ws) in
+      subst (Alike m (then_ok moves (λ ms. Ok (ms, total ws)))) (moves_each at go ws) (alike_any m (total ws) moves)
   assign_alike m (Err f) = tt
 
   module _ (k : ℕ) (Q : ℕ → ℕ → Type 0) (s : ℕ) where

@@ -10,7 +10,8 @@ use Rattle.std.specs.FinMap.{nat_cmp-IsAntisymmetric}
 use Rattle.std.specs.Map.{keys_of}
 use Rattle.std.proofs.lemmas.Cmp.{nat_cmp_total, ranked}
 use Rattle.kf_value.proofs.ListLemmas.{each_weaker}
-use Rattle.kf_core.specs.Support.{StoreSet, ascending}
+use Rattle.kf_core.specs.Support.{StoreSet}
+use Rattle.kf_core.specs.Each.{ascending}
 use Rattle.kf_core.proofs.PassTells.{Lists, holds_listed, order_holds}
 use Rattle.kf_support.specs.Carried.{Reached}
 use Rattle.kf_support.proofs.Placing.{through, back, beside, Post, Good, Nice, Fits}

@@ -5,7 +5,8 @@ use Rattle.kf_value.specs.Types.{TypeTree}
 use Rattle.kf_core.specs.Choices.{Weighted, total}
 use Rattle.kf_core.specs.Runs.{LoopBound, Tried, tried, place, replaced}
 use Rattle.kf_core.specs.Results.{then_ok}
-use Rattle.kf_core.specs.Support.{Passed, each_moved, can_be, bounded}
+use Rattle.kf_core.specs.Support.{Passed, can_be, bounded}
+use Rattle.kf_core.specs.Each.{each_moved}
 use Rattle.kf_core.specs.Dxs.{DxTree}
 use Rattle.kf_support.specs.declared.faults.Halt.{Halt}
 use Rattle.kf_support.specs.declared.faults.Halt.TheVariants as halt

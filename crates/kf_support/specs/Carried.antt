@@ -11,7 +11,8 @@ use Rattle.kf_core.specs.Sts.{StTree, StTrees, Skip, Assign, Observe, If, While,
 use Rattle.kf_core.specs.Programs.{ProgramTree}
 use Rattle.kf_core.specs.Runs.{Tried, tried, place, replaced, copied}
 use Rattle.kf_core.specs.Results.{then_ok}
-use Rattle.kf_core.specs.Support.{Passed, each_moved, can_be, bounded, program_pass}
+use Rattle.kf_core.specs.Support.{Passed, can_be, bounded, program_pass}
+use Rattle.kf_core.specs.Each.{each_moved}
 use Rattle.kf_core.specs.Scale.{scale_of}
 
 -- a scale, where 2^127 stands for all that pass 2^127 - 1

@@ -18,11 +18,11 @@ use Rattle.kf_attack.specs.declared.attack.Best.{Best}
 use Rattle.kf_attack.specs.declared.attack.Best.TheVariants as best
 use Rattle.kf_attack.specs.declared.attack.Score.{Score}
 use Rattle.kf_attack.specs.declared.attack.WeighedValue.{WeighedValue}
-use Rattle.kf_text.specs.AttackTexts.{score_line, best_lines, attack_lines}
+use Rattle.kf_text.specs.AttackTexts.{best_lines, attack_lines}
 use Rattle.kf_text.specs.AttackViews.{own_value_line, own_score_line, own_best_lines, own_attack_lines, IsPrintable}
 use Rattle.kf_text.specs.Texts.{line, entry_line}
 use Rattle.kf_text.proofs.Printing.{same_text}
-use Rattle.kf_text.specs.Parts.{all_lines}
+use Rattle.kf_text.specs.Parts.{all_lines, score_line}
 
 -- ---- what is shown can be printed
 

@@ -6,7 +6,8 @@ use Rattle.std.specs.List.{flat_map, enumerate_from}
 use Rattle.kf_quiet.specs.Views.{ShowBlames, ShowsBlame}
 use Rattle.kf_quiet.specs.declared.blame.Blame.{Blame}
 use Rattle.kf_quiet.specs.Summaries.{SummaryTree}
-use Rattle.kf_text.specs.BlameTexts.{blame_line, blame_text, without_line}
+use Rattle.kf_text.specs.BlameTexts.{blame_text}
+use Rattle.kf_text.specs.Parts.{blame_line, without_line}
 use Rattle.kf_text.specs.BlameViews.{own_blame_line, own_blame_text, own_without_line}
 use Rattle.kf_text.specs.Texts.{line}
 use Rattle.kf_text.proofs.Printing.{same_text}

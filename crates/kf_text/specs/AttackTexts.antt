@@ -5,18 +5,14 @@ use Rattle.kf_frac.specs.Fractions.{fraction_text}
 use Rattle.kf_value.specs.Targets.{Item}
 use Rattle.kf_column.specs.Hypers.{Inner}
 use Rattle.kf_gain.specs.Gains.{GainOf}
-use Rattle.kf_attack.specs.Attacks.{AttackTree, BestTree, Values, Scores, NamedGain, ReachTree}
+use Rattle.kf_attack.specs.Attacks.{AttackTree, BestTree, Values, Scores, ReachTree}
 use Rattle.kf_text.specs.ReportTexts.{gain_text}
 use Rattle.kf_text.specs.Texts.{line, entry_line}
 
--- two spaces, an action's name, and what it gains over `whole`
-abbrev pub score_line : ℕ → NamedGain → List ℕ
-score_line whole s = line (codes "  " ++ (s.name ++ (codes " " ++ fraction_text s.gain whole)))
-
--- the values to guess, or the actions of a table
+-- the values to guess, or the actions of a table: after two spaces the name of each, and what it gains over `whole`
 abbrev pub best_lines : List Item → ℕ → BestTree → List ℕ
 best_lines target whole (Values es) = flat_map (entry_line target whole) es
-best_lines target whole (Scores scores) = flat_map (score_line whole) scores
+best_lines target whole (Scores scores) = flat_map (λ s. line (codes "  " ++ (s.name ++ (codes " " ++ fraction_text s.gain whole)))) scores
 
 -- an inner's number, its outer and what the best is worth, then the best
 abbrev pub attack_lines : List Item → ℕ → ℕ → Inner → AttackTree → List ℕ

@@ -48,40 +48,29 @@ row_lines target scale row =
     line (codes "trace " ++ (bracketed row.trace ++ (codes " weight " ++ fraction_text (pos (total row.column)) scale)))
     ++ flat_map (entry_line target scale) row.column
 
--- the target, the scale and how many traces there are
-abbrev pub table_lines : List Item → ℕ → ℕ → List ℕ
-table_lines target scale count = target_line target ++ (line (codes "scale " ++ decimal scale) ++ line (codes "traces " ++ decimal count))
-
--- these, and each trace
+-- the target, the scale, how many traces there are, and each trace
 abbrev pub trace_text : List Item → ℕ → List Row → List ℕ
-trace_text target scale rows = table_lines target scale (length rows) ++ flat_map (row_lines target scale) rows
+trace_text target scale rows =
+    (target_line target ++ (line (codes "scale " ++ decimal scale) ++ line (codes "traces " ++ decimal (length rows))))
+    ++ flat_map (row_lines target scale) rows
 
--- a column's number and trace
-abbrev pub column_line : ℕ × Row → List ℕ
-column_line numbered = line (codes "column " ++ (decimal numbered.0 ++ (codes " " ++ bracketed numbered.1.trace)))
-
--- two spaces, and the probability that a secret shows this trace
-abbrev pub cell_line : List Row → ℕ → Row → List ℕ
-cell_line rows x row = line (codes "  " ++ fraction_text (pos (share_at rows row x).part) (share_at rows row x).whole)
-
--- a secret, and its share of each column
+-- a secret, and after two spaces the probability that it shows each trace
 abbrev pub secret_lines : List Item → List Row → ℕ → List ℕ
-secret_lines target rows x = line (codes "row " ++ target_value_text target x) ++ flat_map (cell_line rows x) rows
+secret_lines target rows x =
+    line (codes "row " ++ target_value_text target x)
+    ++ flat_map (λ row. line (codes "  " ++ fraction_text (pos (share_at rows row x).part) (share_at rows row x).whole)) rows
 
 -- the target; how many traces there are, and each with its number from 0; how many secrets there are, and each
 abbrev pub channel_text : List Item → List Row → List ℕ → List ℕ
 channel_text target rows secrets =
     target_line target
-    ++ ((line (codes "columns " ++ decimal (length rows)) ++ flat_map column_line (enumerate_from 0 rows))
+    ++ ((line (codes "columns " ++ decimal (length rows))
+    ++ flat_map (λ c. line (codes "column " ++ (decimal c.0 ++ (codes " " ++ bracketed c.1.trace)))) (enumerate_from 0 rows))
     ++ (line (codes "rows " ++ decimal (length secrets)) ++ flat_map (secret_lines target rows) secrets))
 
--- a place, and how many beliefs stand there
-abbrev pub count_line : ℕ × ℕ → List ℕ
-count_line numbered = line (codes "after " ++ (decimal numbered.0 ++ (codes " inners " ++ decimal numbered.1)))
-
--- the count of each place, from 0
+-- how many beliefs stand at each place, from 0
 abbrev pub trail_text : List ℕ → List ℕ
-trail_text counts = flat_map count_line (enumerate_from 0 counts)
+trail_text counts = flat_map (λ c. line (codes "after " ++ (decimal c.0 ++ (codes " inners " ++ decimal c.1)))) (enumerate_from 0 counts)
 
 -- how many observations there were, the scale and how many inners, and the outer of the last of these, 0 of none
 abbrev pub make_text : ℕ → ℕ → List Inner → List ℕ

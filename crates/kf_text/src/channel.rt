@@ -1,7 +1,7 @@
 ghost use Rattle.std.specs.Prelude.{◌≡◌, ◌<◌, ◌++◌, IfOk, OnOk, flat_map, length, slice_index};
 ghost use Rattle.kf_channel.specs.Views.{target_of, secrets_of, rows_of, row_at};
-ghost use Rattle.kf_text.specs.Texts.{column_line, cell_line, secret_lines, channel_text as text_of_channel};
-ghost use Rattle.kf_text.specs.Parts.{columns_lines, rows_lines};
+ghost use Rattle.kf_text.specs.Texts.{secret_lines, channel_text as text_of_channel};
+ghost use Rattle.kf_text.specs.Parts.{cell_line, column_line, columns_lines, rows_lines};
 
 use crate::items::{print_about, print_bytes, print_text, print_trace};
 use kf_channel::Channel;

@@ -6,7 +6,8 @@ ghost use Rattle.kf_column.specs.Columns.{total};
 ghost use Rattle.kf_column.specs.Shapes.{IsBelow};
 ghost use Rattle.kf_hyper.specs.Tables.{table_row};
 ghost use Rattle.kf_hyper.specs.Views.{rows_of};
-ghost use Rattle.kf_text.specs.Texts.{entry_line, row_lines, table_lines, trace_text as text_of_table};
+ghost use Rattle.kf_text.specs.Parts.{table_lines};
+ghost use Rattle.kf_text.specs.Texts.{entry_line, row_lines, trace_text as text_of_table};
 
 use crate::items::{print_about, print_bytes, print_line, print_text, print_trace};
 use kf_frac::share;

@@ -1,5 +1,6 @@
 ghost use Rattle.std.specs.Prelude.{◌≡◌, ◌++◌, IfOk, OnOk};
-ghost use Rattle.kf_text.specs.Texts.{count_line, trail_text as text_of_trail};
+ghost use Rattle.kf_text.specs.Parts.{count_line};
+ghost use Rattle.kf_text.specs.Texts.{trail_text as text_of_trail};
 
 use crate::items::print_text;
 use kf_hyper::CountList;

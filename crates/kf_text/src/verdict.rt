@@ -8,8 +8,8 @@ ghost use Rattle.kf_refine.specs.Verdicts.{Yes, No};
 ghost use Rattle.kf_refine.specs.Views.{fraction_of, matrix_tree, verdict_tree};
 ghost use Rattle.kf_text.specs.Texts.{line};
 ghost use Rattle.kf_text.specs.Views.{own_text};
-ghost use Rattle.kf_text.specs.VerdictTexts.{action_lines, actions_lines, fractions_line, gain_line, no_text, shape_line, yes_text, verdict_text as text_of_verdict};
-ghost use Rattle.kf_text.specs.Parts.{spaced, width as columns_of};
+ghost use Rattle.kf_text.specs.VerdictTexts.{action_lines, verdict_text as text_of_verdict};
+ghost use Rattle.kf_text.specs.Parts.{actions_lines, fractions_line, gain_line, no_text, shape_line, spaced, width as columns_of, yes_text};
 
 use crate::items::{print_bytes, print_line, print_text};
 use kf_frac::Frac;

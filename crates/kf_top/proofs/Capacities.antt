@@ -9,7 +9,8 @@ use Rattle.kf_channel.specs.Channels.{all_initial}
 use Rattle.kf_core.specs.Programs.{ProgramTree}
 use Rattle.kf_load.specs.Steps.{Refused, Step, After, Gives, refusal}
 use Rattle.kf_text.specs.CapacityTexts.{algebra_text, capacity_text}
-use Rattle.kf_top.specs.Answer.{CapacityIn, Composed, ComposedIn, Shown, algebra_shown, initial, is_narrow, prints, wide_channel, composed_grid}
+use Rattle.kf_top.specs.Answer.{Composed, ComposedIn, Shown, initial, is_narrow, prints, wide_channel, composed_grid}
+use Rattle.kf_top.specs.Steps.{CapacityIn, algebra_shown}
 use Rattle.kf_top.specs.CapacityViews.{ChannelIn, narrow_grid}
 use Rattle.kf_top.specs.Stops.{Answers, Stopped}
 use Rattle.kf_top.specs.Views.{shown}
@@ -17,7 +18,7 @@ use Rattle.kf_top.specs.declared.refusal.Done.{Done}
 use Rattle.kf_top.specs.declared.refusal.Stop.{Stop}
 use Rattle.kf_top.specs.declared.refusal.Stop.TheVariants as stop
 use Rattle.kf_words.specs.Task.{Composition}
-use Rattle.kf_top.proofs.Steps.{either_way, first_stops, next_answers}
+use Rattle.kf_top.proofs.Steps.{either_way}
 
 -- ---- channels
 
@@ -162,16 +163,7 @@ module _ (way : Composition) (turns : ℕ) (p q : ProgramTree) where
       then_printed = After (Composed way c d) (λ g. Gives (algebra_shown (channel_grid c) (channel_grid d) g))
 
       -- what comes of the two channels comes of the two programs
-      of_both : (r : Result Done Stop) → Answers shown r then_printed → Answers shown r outcome
+      pub of_both : (r : Result Done Stop) → Answers shown r then_printed → Answers shown r outcome
       of_both (Ok done) h = (p, first.0, (q, second.0, (c, d, first.1, second.1, h)))
       of_both (Err (stop.Refused r)) h = inr (p, first.0, inr (q, second.0, (c, d, first.1, second.1, h)))
       of_both (Err stop.Mem) h = tt
-
-      -- what stops their being put together
-      pub not_composed : (s : Stop) → Stopped s (Composed way c d) → Stopped s outcome
-      not_composed s h = of_both (Err s) (first_stops (Composed way c d) (λ g. Gives (algebra_shown (channel_grid c) (channel_grid d) g)) s h)
-
-      pub composition_answers : (g : GridTree) (r : Result Done Stop) → Composed way c d (Ok g)
-          → Answers shown r (Gives (algebra_shown (channel_grid c) (channel_grid d) g)) → Answers shown r outcome
-      composition_answers g r composed answer =
-          of_both r (next_answers shown (Composed way c d) (λ h. Gives (algebra_shown (channel_grid c) (channel_grid d) h)) r g composed answer)

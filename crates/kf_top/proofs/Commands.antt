@@ -1,16 +1,16 @@
 -- What comes of a task: its programs are cleared, and its command answers.
-use Rattle.std.proofs.Common.{◌≡◌, ℕ, List, [], ◌∷◌, ◌++◌, All, nat_le, length, true, Option, None, Some, Result, Ok, Err, refl, sym, ap, subst, ◌∙◌, arith, inl, inr}
+use Rattle.std.proofs.Common.{◌≡◌, ℕ, List, [], ◌∷◌, All, Option, Some, Result, Ok, Err, refl, sym, ap, subst, ◌∙◌, arith, inl, inr}
 use Rattle.std.proofs.lemmas.List.Elements.{All-append, All-cons, All-nil}
 use Rattle.kf_core.specs.Programs.{ProgramTree}
 use Rattle.kf_load.specs.Readings.{WasRead}
 use Rattle.kf_load.specs.Steps.{Refused, Step, After, Each, Gives}
 use Rattle.kf_load.specs.Stops as load
 use Rattle.kf_load.specs.Stops.{Told, file_as}
-use Rattle.kf_load.specs.Texts.{File, LongCleared, Text, TextOf, cleared, long_enough}
+use Rattle.kf_load.specs.Texts.{File, LongCleared, Text, TextOf, cleared}
 use Rattle.kf_load.specs.declared.refusal.Stop as load_code
 use Rattle.kf_load.proofs.Faults.{is_long}
 use Rattle.kf_load.specs.declared.refusal.Stop.TheVariants as load_stop
-use Rattle.kf_top.specs.Answer.{CommandOutcome, MadeOutcome}
+use Rattle.kf_top.specs.Answer.{CommandOutcome}
 use Rattle.kf_top.specs.Ends.{names_of}
 use Rattle.kf_top.specs.Outcome.{ReadyOf}
 use Rattle.kf_top.specs.Stops.{Answers, Stopped, lifted}
@@ -26,8 +26,8 @@ use Rattle.kf_top.specs.declared.refusal.Stop.TheVariants as stop
 use Rattle.kf_words.specs.Task.{Command, Covers, Make, on_files, tables_of}
 use Rattle.kf_words.specs.OfWords.{on_file}
 use Rattle.kf_top.proofs.Readings.{lift_fails, some_files}
-use Rattle.kf_top.proofs.Steps.{alone, each_alone, first_stops, lift_stops, next_answers}
-use Rattle.kf_top.specs.Steps.{ClearedOf}
+use Rattle.kf_top.proofs.Steps.{alone, each_alone, first_stops, next_answers}
+use Rattle.kf_top.specs.Steps.{ClearedOf, MadeOutcome}
 
 -- ---- what a command makes of its texts
 

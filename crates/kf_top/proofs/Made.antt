@@ -1,5 +1,5 @@
 -- What `make` comes to: its text is typed and cleared, and so it is never refused.
-use Rattle.std.proofs.Common.{◌≡◌, ℕ, ◌≤◌, List, [], Ok, IsOk, refl, ap}
+use Rattle.std.proofs.Common.{◌≡◌, ℕ, ◌≤◌, List, [], IsOk, refl, ap}
 use Rattle.kf_frac.specs.Fractions.{limit}
 use Rattle.kf_core.specs.Joint.{joint_of}
 use Rattle.kf_core.specs.Rows.{IsHyperOf}
@@ -12,7 +12,8 @@ use Rattle.kf_make.specs.Laws.{MadeIsParsed, MadeIsTyped}
 use Rattle.kf_make.specs.Made.{made_program, made_tree}
 use Rattle.kf_make.specs.Making.{make_source}
 use Rattle.kf_text.specs.Texts.{make_text}
-use Rattle.kf_top.specs.Answer.{MadeOutcome, prints}
+use Rattle.kf_top.specs.Answer.{prints}
+use Rattle.kf_top.specs.Steps.{MadeOutcome}
 
 pub made_outcome : MadeIsParsed → MadeIsTyped → (turns count : ℕ) → IsOk (program_pass turns (made_program count)) → scale_of turns (made_program count) ≤ limit
     → (inners : List Inner) (bytes : List ℕ) → IsHyperOf (joint_of turns (made_program count)) inners

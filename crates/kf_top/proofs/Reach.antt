@@ -1,5 +1,5 @@
 -- What is reached of a fraction in lowest terms is reached of it as it was written.
-use Rattle.std.proofs.Common.{◌≡◌, ℕ, ◌*◌, ◌/◌, ◌<◌, ◌≤◌, ℤ, pos, ◌*ℤ◌, ◌≤ℤ◌, ◌<ℤ◌, unsigned_abs, List, true, false, refl, sym, ◌∙◌, ap, subst, arith}
+use Rattle.std.proofs.Common.{◌≡◌, ℕ, ◌*◌, ◌/◌, ◌<◌, ◌≤◌, ℤ, pos, ◌*ℤ◌, ◌≤ℤ◌, ◌<ℤ◌, unsigned_abs, List, false, ◌∙◌, ap, subst, arith}
 use Rattle.std.proofs.Math.Nat.{div-mul_cancel, le_of_mul-le-mul_right}
 use Rattle.std.proofs.lemmas.Int.{ints}
 use Rattle.kf_frac.specs.Divisors.{gcd_of}
@@ -9,11 +9,9 @@ use Rattle.kf_frac.proofs.LowestTerms.{quotient_positive, reduced_num_signed, re
 use Rattle.kf_frac.proofs.Ring.{mul_left_comm}
 use Rattle.kf_simplex.proofs.Signs.{product_monotone, product_strict}
 use Rattle.kf_column.specs.Hypers.{Inner}
-use Rattle.kf_core.specs.Joint.{Cell}
-use Rattle.kf_core.specs.Rows.{IsHyperOf}
 use Rattle.kf_attack.specs.Attacks.{ReachTree, IsReach}
 use Rattle.kf_text.specs.AttackTexts.{reach_text}
-use Rattle.kf_top.specs.Answer.{ReachOf, prints}
+use Rattle.kf_top.specs.Answer.{PrintsSome, prints}
 
 -- ---- a factor of both numbers changes nothing
 
@@ -77,10 +75,6 @@ module _ (num den : ℕ) (some : 1 ≤ num) (part : num ≤ den) (z : ℤ) (d : 
       subst (λ (n : ℕ). IsReach scale inners n den r) num_times
       (subst (λ (n : ℕ). IsReach scale inners (num / divisor * divisor) n r) den_times (enlarged scale (num / divisor) (den / divisor) divisor inners r divisor_some lowest))
 
-  pub reach_prints : (joint : List Cell) (scale k : ℕ) → k ≡ scale → (inners : List Inner) → IsHyperOf joint inners → (r : ReachTree) (bytes : List ℕ)
-      → IsReach k inners (unsigned_abs z) d r → bytes ≡ reach_text k r → ReachOf num den scale joint (prints bytes)
-  reach_prints joint scale k same inners is_hyper r bytes is text = (
-    inners,
-    is_hyper,
-    (r, subst (λ (n : ℕ). IsReach n inners num den r) same (as_written k inners r is), ap prints (text ∙ ap (λ (n : ℕ). reach_text n r) same)),
-  )
+  pub reach_prints : (scale : ℕ) (inners : List Inner) (r : ReachTree) (bytes : List ℕ) → IsReach scale inners (unsigned_abs z) d r → bytes ≡ reach_text scale r
+      → PrintsSome (IsReach scale inners num den) (reach_text scale) (prints bytes)
+  reach_prints scale inners r bytes is text = (r, as_written scale inners r is, ap prints text)

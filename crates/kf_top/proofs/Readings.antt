@@ -1,5 +1,5 @@
 -- Files that were read, and what comes of them.
-use Rattle.std.proofs.Common.{◌≡◌, ℕ, List, [], ◌∷◌, ◌++◌, All, Contains, get_or, IfErr, Option, None, Some, Result, Ok, Err, refl, sym, ap, subst, ◌∙◌, inl, inr}
+use Rattle.std.proofs.Common.{◌≡◌, ℕ, List, [], ◌∷◌, All, Contains, get_or, IfErr, Option, None, Some, Result, Ok, Err, refl, ap, subst}
 use Rattle.std.proofs.lemmas.List.Elements.{All-nil, All-cons}
 use Rattle.kf_load.specs.Readings.{WasRead}
 use Rattle.kf_load.specs.Steps.{Step, After, Gives}
@@ -10,7 +10,6 @@ use Rattle.kf_load.specs.declared.refusal.Refusal.TheVariants as load_refusal
 use Rattle.kf_load.specs.declared.refusal.Stop as load_code
 use Rattle.kf_load.specs.declared.refusal.Stop.TheVariants as load_stop
 use Rattle.kf_load.proofs.Stepwise.{some_bytes}
-use Rattle.kf_load.specs.Refusals.{ReadAs}
 use Rattle.kf_value.specs.Targets.{Item}
 use Rattle.kf_gain.specs.Gains.{GainOf, Bayes, Tries, Guessing, Table}
 use Rattle.kf_gain.specs.Views.{gain_tree, table_tree}
@@ -19,8 +18,8 @@ use Rattle.kf_gain.specs.declared.gain.Gain.TheVariants as gain
 use Rattle.kf_gain.specs.declared.table.GainTable.{GainTable}
 use Rattle.kf_top.specs.Answer.{GainIn}
 use Rattle.kf_top.specs.Ends.{names_of}
-use Rattle.kf_top.specs.Stops.{Answers, IsOwn, Stopped, lifted}
-use Rattle.kf_top.specs.TaskAnswers.{Counts, FileAnswer, FilesAnswer, IsUnread, MayFail, StopCounts, names_in, stop_in}
+use Rattle.kf_top.specs.Stops.{Answers, IsOwn, lifted}
+use Rattle.kf_top.specs.TaskAnswers.{Counts, FileAnswer, FilesAnswer, MayFail, StopCounts, names_in, stop_in}
 use Rattle.kf_top.specs.declared.refusal.Refusal.TheVariants as refusal
 use Rattle.kf_top.specs.declared.refusal.Stop.{Stop}
 use Rattle.kf_top.specs.declared.refusal.Stop.TheVariants as stop

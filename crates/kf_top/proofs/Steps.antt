@@ -1,5 +1,5 @@
 -- One step and then the next, and what a result is to both.
-use Rattle.std.proofs.Common.{◌≡◌, ℕ, List, [], ◌∷◌, Bool, true, false, ◌⊎◌, Result, Ok, Err, inl, inr, refl}
+use Rattle.std.proofs.Common.{◌≡◌, List, [], ◌∷◌, Bool, true, false, ◌⊎◌, Result, Ok, Err, inl, inr, refl, subst}
 use Rattle.kf_load.specs.Steps.{Refused, Step, After, Each, Gives}
 use Rattle.kf_load.specs.Stops as load
 use Rattle.kf_load.specs.declared.refusal.Refusal.TheVariants as load_refusal
@@ -31,6 +31,10 @@ pub answers_by : {B X : Type 0} (seen : X → B) (first second : Step B) → ((r
 answers_by seen first second turn (Ok z) h = turn _ h
 answers_by seen first second turn (Err (stop.Refused r)) h = turn _ h
 answers_by seen first second turn (Err stop.Mem) h = tt
+
+-- what was found on the way is what the step gives
+pub found_as : {A X : Type 0} (seen : X → A) (step : Step A) (found r : Result X Stop) → found ≡ r → Answers seen found step → Answers seen r step
+found_as {A} {X} seen step found r is h = subst (λ (q : Result X Stop). Answers seen q step) is h
 
 -- ---- a step for each of two
 

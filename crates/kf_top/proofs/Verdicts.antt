@@ -24,14 +24,14 @@ use Rattle.kf_cert.proofs.Printable.{verdicts_writable}
 use Rattle.kf_text.specs.VerdictTexts.{verdict_text}
 use Rattle.kf_support.specs.Cleared.{turns_of, whole_scale}
 use Rattle.kf_support.specs.declared.cleared.Cleared.{Cleared}
-use Rattle.kf_top.specs.Answer.{AreHypers, IsHyperTree, MarkOn, RefineOutcome, VerdictOn, mark_shown, other_target as differ_in_target, verdict_refusal}
+use Rattle.kf_top.specs.Answer.{IsHyperTree, MarkOn, RefineOutcome, mark_shown, other_target as differ_in_target, verdict_refusal}
 use Rattle.kf_top.specs.Stops.{Answers, IsVerdictOn}
 use Rattle.kf_top.specs.Views.{shown}
 use Rattle.kf_top.specs.declared.verdict.Hypers.{Hypers}
 use Rattle.kf_top.specs.declared.refusal.Done.{Done}
 use Rattle.kf_top.specs.declared.refusal.Stop.{Stop}
 use Rattle.kf_top.proofs.Steps.{answers_by}
-use Rattle.kf_top.specs.Steps.{wide_cert, most_pivots}
+use Rattle.kf_top.specs.Steps.{wide_cert, most_pivots, AreHypers, VerdictOn}
 
 -- the hyper of a cleared program
 pub is_hyper_tree : (turns : ℕ) (cleared : Cleared) → turns_of cleared ≡ turns → (h : Hyper) → IsHyperOf (joint_of (turns_of cleared) (program_in cleared)) (inners_of h)
@@ -70,12 +70,12 @@ is_verdict_on hypers (Err e) is proves = tt
 -- the verdict on the hypers of two programs is that on them
 pub on_hypers : (json : Bool) (turns : ℕ) (p q : ProgramTree) (a b : HyperTree) → AreHypers turns p q a b → (r : Result Done Stop)
     → Answers shown r (VerdictOn json a b) → Answers shown r (RefineOutcome json turns p q)
-on_hypers json turns p q a b hypers r answer = answers_by shown (VerdictOn json a b) (RefineOutcome json turns p q) (λ result h. (a, b, hypers, h)) r answer
+on_hypers json turns p q a b hypers r answer = answers_by shown (VerdictOn json a b) (RefineOutcome json turns p q) (λ result h. (a, hypers.first, (b, hypers.second, h))) r answer
 
 -- hypers that are about different things have no verdict
 pub different : (json : Bool) (turns : ℕ) (p q : ProgramTree) (a b : HyperTree) → AreHypers turns p q a b → a.target ≢ b.target
     → RefineOutcome json turns p q (Err differ_in_target)
-different json turns p q a b hypers differ = (a, b, hypers, (Err error.Targets, differ, refl))
+different json turns p q a b hypers differ = (a, hypers.first, (b, hypers.second, (Err error.Targets, differ, refl)))
 
 -- the text of a verdict about the same target
 pub text_of : (json : Bool) (v : VerdictTree) {target about : List Item} → target ≡ about → {bytes : List ℕ}
@@ -85,12 +85,12 @@ text_of json v same is = is ∙ ap (λ (items : List Item). if json then cert_te
 module _ (turns : ℕ) (p q : ProgramTree) (a b : HyperTree) (hypers : AreHypers turns p q a b) (c : CertTree) where
   -- the mark of a certificate on hypers of two targets, or of one
   pub other_target : a.target ≢ b.target → MarkOn turns p q c (Err differ_in_target)
-  other_target differ = (a, b, hypers, inl (differ, refl))
+  other_target differ = (a, hypers.first, (b, hypers.second, inl (differ, refl)))
 
   pub no_mark : a.target ≡ b.target → (e : CheckError) → e ≡ check.Wide → (e ≢ check.Mem → IsMarked a b c (Err e)) → MarkOn turns p q c (Err wide_cert)
   no_mark same e wide is =
       let some : e ≢ check.Mem = λ mem. let clash : check.Wide ≡ check.Mem = sym wide ∙ mem in absurd (cc) in
-      (a, b, hypers, inr (same, (Err check.Wide, subst (λ (f : CheckError). IsMarked a b c (Err f)) wide (is some), refl)))
+      (a, hypers.first, (b, hypers.second, inr (same, (Err check.Wide, subst (λ (f : CheckError). IsMarked a b c (Err f)) wide (is some), refl))))
 
   pub a_mark : a.target ≡ b.target → (mark : Mark) → IsMarked a b c (Ok mark) → MarkOn turns p q c (mark_shown (Ok mark))
-  a_mark same mark is = (a, b, hypers, inr (same, (Ok mark, is, refl)))
+  a_mark same mark is = (a, hypers.first, (b, hypers.second, inr (same, (Ok mark, is, refl))))

@@ -1,17 +1,17 @@
 -- Believed: the defined answer to a command on programs: the first refusal, or what is printed.
-use Rattle.std.specs.Prelude.{◌≡◌, ◌≢◌, ◌⊎◌, ℕ, Bool, true, false, ◌&&◌, ◌*◌, List, [], ◌∷◌, ◌++◌, nat_le, codes, if◌then◌else◌, Ok, Err}
+use Rattle.std.specs.Prelude.{◌≡◌, ℕ, Bool, true, false, ◌&&◌, ◌*◌, List, [], ◌∷◌, ◌++◌, nat_le, codes, if◌then◌else◌, Ok, Err}
 use Rattle.std.specs.Fmt.{decimal}
 use Rattle.std.specs.declared.result.Result.{Result}
 use Rattle.std.specs.List.{AllZip}
 use Rattle.std.specs.Result.{result_map_both}
 use Rattle.kf_frac.specs.Fractions.{limit}
+use Rattle.kf_frac.specs.Rules.{Unless}
 use Rattle.kf_value.specs.Targets.{Item}
 use Rattle.kf_core.specs.Joint.{Cell, joint_of}
 use Rattle.kf_core.specs.Programs.{ProgramTree}
 use Rattle.kf_core.specs.Pushing.{IsTrail}
 use Rattle.kf_core.specs.Rows.{AreRowsOf, IsHyperOf}
 use Rattle.kf_core.specs.Scale.{scale_of}
-use Rattle.kf_column.specs.Hypers.{Inner}
 use Rattle.kf_column.specs.Traces.{Row}
 use Rattle.kf_channel.specs.Channels.{AreSecrets, all_initial}
 use Rattle.kf_capacity.specs.Grids.{ChannelTree, GridTree, channel_grid, capacity_of}
@@ -83,22 +83,11 @@ wide_channel = refusal 7 [] (codes "channel passes 2^127 - 1")
 abbrev pub HyperOf : List Item → ℕ → List Cell → Step Shown
 HyperOf target scale joint = PrintsSome (IsHyperOf joint) (hyper_text target scale)
 
--- the made text is typed and cleared as any other, and stands in no file
-abbrev pub MadeOutcome : ℕ → ℕ → Step Shown
-MadeOutcome count turns =
-    After (TypedOf [] (make_source count)) (λ t.
-    After (Gives (cleared turns t)) (λ p. PrintsSome (IsHyperOf (joint_of turns p)) (make_text count (scale_of turns p))))
-
 -- ---- channels
 
 -- a channel leads from values before the statements
 abbrev pub initial : ProgramTree → Result ProgramTree Refused
 initial p = if all_initial p.target then Ok p else Err (refusal 10 [] (codes "target is not initial"))
-
--- the channel from the values of a target to the traces of a joint
-abbrev pub ChannelOf : List Item → List Cell → Step Shown
-ChannelOf target joint result =
-    (rows : List Row) × AreRowsOf joint rows × PrintsSome (AreSecrets rows) (channel_text target rows) result
 
 -- the channel of a program
 pub record IsChannelTree (turns : ℕ) (p : ProgramTree) (c : ChannelTree) : Type 0 where
@@ -110,12 +99,6 @@ pub record IsChannelTree (turns : ℕ) (p : ProgramTree) (c : ChannelTree) : Typ
 abbrev pub is_narrow : GridTree → Bool
 is_narrow g = nat_le g.over limit && nat_le (capacity_of g) limit
 
--- the Bayes capacity of a program's channel
-abbrev pub CapacityIn : ℕ → ProgramTree → Step Shown
-CapacityIn turns p result =
-    (c : ChannelTree) × IsChannelTree turns p c
-    × (result ≡ (if is_narrow (channel_grid c) then prints (capacity_text (channel_grid c)) else Err wide_channel))
-
 -- what is put together of two channels, or why there is nothing
 abbrev pub composed_grid : Result GridTree ComposeFault → Result GridTree Refused
 composed_grid (Ok g) = Ok g
@@ -126,20 +109,18 @@ composed_grid (Err (Cells count)) = Err (refusal 8 [] (codes "channel has " ++ (
 composed_grid (Err Wide) = Err wide_channel
 
 abbrev pub Composed : Composition → ChannelTree → ChannelTree → Step GridTree
-Composed Cascade c d result = (r : Result GridTree ComposeFault) × IsCascade c d r × (result ≡ composed_grid r)
-Composed Parallel c d result = (r : Result GridTree ComposeFault) × IsParallel c d r × (result ≡ composed_grid r)
-Composed (Choice num den) c d result = (r : Result GridTree ComposeFault) × IsChoice num den c d r × (result ≡ composed_grid r)
+Composed way c d result =
+    (r : Result GridTree ComposeFault)
+    × (elim way [ Cascade ↦ IsCascade c d r | Parallel ↦ IsParallel c d r | Choice num den ↦ IsChoice num den c d r ])
+    × (result ≡ composed_grid r)
 
--- the capacities of two channels and of what was put together of them, where none is too wide
-abbrev pub algebra_shown : GridTree → GridTree → GridTree → Result Shown Refused
-algebra_shown first second both =
-    if is_narrow first && (is_narrow second && is_narrow both) then prints (algebra_text first second both) else Err wide_channel
-
--- what is put together of the channels of two programs
+-- the capacities of the channels of two programs and of what is put together of them, where none is too wide
 abbrev pub ComposedIn : Composition → ℕ → ProgramTree → ProgramTree → Step Shown
 ComposedIn way turns p q result =
     (c d : ChannelTree) × IsChannelTree turns p c × IsChannelTree turns q d
-    × After (Composed way c d) (λ g. Gives (algebra_shown (channel_grid c) (channel_grid d) g)) result
+    × After (Composed way c d) (λ g. Gives (
+    if is_narrow (channel_grid c) && (is_narrow (channel_grid d) && is_narrow g)
+    then prints (algebra_text (channel_grid c) (channel_grid d) g) else Err wide_channel)) result
 
 -- ---- gains
 
@@ -171,53 +152,32 @@ GainIn target (Table name) (file ∷ []) =
     After (After (Gives (source_of file)) (TableOf target file.name)) (λ t. Gives (Ok (Table t)))
 GainIn target (Table name) tables = Gives (Err usage)
 
--- how wide a gain is on the hyper of a joint
-pub record HasWidth (joint : List Cell) (g : GainOf TableTree) (m : ℕ) : Type 0 where
-  pub inners : List Inner
-  pub is_hyper : IsHyperOf joint inners
-  pub is_width : IsWidth g inners m
-
--- the scale times a gain's width is at most 2^127 - 1
-abbrev pub NarrowGain : ℕ → List Cell → GainOf TableTree → Step ℕ
-NarrowGain scale joint g result =
-    (m : ℕ) × HasWidth joint g m
-    × (result ≡ (if nat_le (scale * m) limit then Ok m else Err (refusal 7 [] (codes "gain passes 2^127 - 1"))))
-
--- how much a gain's best action gains by what is shown
-abbrev pub ReportOf : ℕ → List Cell → GainOf TableTree → Step Shown
-ReportOf scale joint g result =
-    (inners : List Inner) × IsHyperOf joint inners × PrintsSome (IsLeakage g scale inners) (report_text g) result
-
--- a report; no number of it passes 2^127 - 1
-abbrev pub ReportIn : ℕ → List Cell → GainOf TableTree → Step Shown
-ReportIn scale joint g = After (NarrowGain scale joint g) (λ m. ReportOf scale joint g)
-
--- what is best done at each inner of a hyper, under a gain
-abbrev pub AttackOf : List Item → ℕ → List Cell → GainOf TableTree → Step Shown
-AttackOf target scale joint g result =
-    (inners : List Inner) × IsHyperOf joint inners × PrintsSome (AllZip (IsAttack g) inners) (attack_text g target scale inners) result
-
--- an attack; no number of it passes 2^127 - 1
-abbrev pub AttackIn : List Item → ℕ → List Cell → GainOf TableTree → Step Shown
-AttackIn target scale joint g = After (NarrowGain scale joint g) (λ m. AttackOf target scale joint g)
-
--- the least number of tries with which the posterior vulnerability is at least num / den
-abbrev pub ReachOf : ℕ → ℕ → ℕ → List Cell → Step Shown
-ReachOf num den scale joint result =
-    (inners : List Inner) × IsHyperOf joint inners × PrintsSome (IsReach scale inners num den) (reach_text scale) result
-
--- ---- verdicts
-
 -- the hyper of a program
 pub record IsHyperTree (turns : ℕ) (p : ProgramTree) (h : HyperTree) : Type 0 where
   pub target : h.target ≡ p.target
   pub scale : h.scale ≡ scale_of turns p
   pub is_hyper : IsHyperOf (joint_of turns p) h.inners
 
--- the hypers of two programs
-pub record AreHypers (turns : ℕ) (p q : ProgramTree) (a b : HyperTree) : Type 0 where
-  pub first : IsHyperTree turns p a
-  pub second : IsHyperTree turns q b
+-- what is made of the hyper of a program
+abbrev pub OnHyper : ℕ → ProgramTree → (HyperTree → Step Shown) → Step Shown
+OnHyper turns p next result = (h : HyperTree) × IsHyperTree turns p h × next h result
+
+-- the scale times a gain's width is at most 2^127 - 1
+abbrev pub NarrowGain : GainOf TableTree → HyperTree → Step ℕ
+NarrowGain g h result =
+    (m : ℕ) × IsWidth g h.inners m
+    × (result ≡ (if nat_le (h.scale * m) limit then Ok m else Err (refusal 7 [] (codes "gain passes 2^127 - 1"))))
+
+-- how much a gain's best action gains by what is shown; no number of it passes 2^127 - 1
+abbrev pub ReportOn : GainOf TableTree → HyperTree → Step Shown
+ReportOn g h = After (NarrowGain g h) (λ m. PrintsSome (IsLeakage g h.scale h.inners) (report_text g))
+
+-- what is best done at each inner, under a gain; no number of it passes 2^127 - 1
+abbrev pub AttackOn : GainOf TableTree → HyperTree → Step Shown
+AttackOn g h =
+    After (NarrowGain g h) (λ m. PrintsSome (AllZip (IsAttack g) h.inners) (attack_text g h.target h.scale h.inners))
+
+-- ---- verdicts
 
 -- why there is no verdict; want of memory is none of the causes
 abbrev pub verdict_refusal : RefineError → Refused
@@ -227,23 +187,18 @@ verdict_refusal (refine.Wide pivots) = refusal 7 [] (codes "tableau passes 2^62 
 verdict_refusal refine.Budget = refusal 8 [] (codes "more than 20000 pivots")
 verdict_refusal refine.Mem = usage
 
-abbrev pub is_yes : VerdictTree → Bool
-is_yes (Yes m) = true
-is_yes (No t) = false
-
 -- a verdict on two hypers, which proves what it says, maybe as a certificate
 abbrev pub VerdictShown : Bool → HyperTree → HyperTree → Result VerdictTree RefineError → Step Shown
 VerdictShown json a b (Ok v) result =
-    Proves a b v × (result ≡ shows (is_yes v) (if json then cert_text a.target v else verdict_text a.target v))
+    Proves a b v
+    × (result ≡ shows (elim v [ Yes m ↦ true | No t ↦ false ]) (if json then cert_text a.target v else verdict_text a.target v))
 VerdictShown json a b (Err e) result = result ≡ Err (verdict_refusal e)
 
--- the verdict on two hypers, by a run of at most 20,000 pivots: whether the second leaks no more than the first
-abbrev pub VerdictOn : Bool → HyperTree → HyperTree → Step Shown
-VerdictOn json a b result = (r : Result VerdictTree RefineError) × IsVerdict a b 20000 r × VerdictShown json a b r result
-
--- the verdict on the hypers of two programs
+-- the verdict on the hypers of two programs, by a run of at most 20,000 pivots: whether the second leaks no more than the first
 abbrev pub RefineOutcome : Bool → ℕ → ProgramTree → ProgramTree → Step Shown
-RefineOutcome json turns p q result = (a b : HyperTree) × AreHypers turns p q a b × VerdictOn json a b result
+RefineOutcome json turns p q =
+    OnHyper turns p (λ a. OnHyper turns q (λ b result.
+    (r : Result VerdictTree RefineError) × IsVerdict a b 20000 r × VerdictShown json a b r result))
 
 -- ---- certificates
 
@@ -267,13 +222,12 @@ mark_shown (Err check.Mem) = Err usage
 
 -- the mark of a certificate on two hypers, which must be about one target
 abbrev pub MarkIn : HyperTree → HyperTree → CertTree → Step Shown
-MarkIn a b c result =
-    ((a.target ≢ b.target) × (result ≡ Err other_target))
-    ⊎ ((a.target ≡ b.target) × ((r : Result Mark CheckError) × IsMarked a b c r × (result ≡ mark_shown r)))
+MarkIn a b c =
+    Unless (a.target ≡ b.target) (Err other_target) (λ result. (r : Result Mark CheckError) × IsMarked a b c r × (result ≡ mark_shown r))
 
 -- the mark of a certificate on the hypers of two programs
 abbrev pub MarkOn : ℕ → ProgramTree → ProgramTree → CertTree → Step Shown
-MarkOn turns p q c result = (a b : HyperTree) × AreHypers turns p q a b × MarkIn a b c result
+MarkOn turns p q c = OnHyper turns p (λ a. OnHyper turns q (λ b. MarkIn a b c))
 
 -- ---- commands
 
@@ -282,15 +236,25 @@ MarkOn turns p q c result = (a b : HyperTree) × AreHypers turns p q a b × Mark
 abbrev pub CommandOutcome : Command → ℕ → List File → List ProgramTree → Step Shown
 CommandOutcome Hyper turns tables (p ∷ []) = HyperOf p.target (scale_of turns p) (joint_of turns p)
 CommandOutcome Traces turns tables (p ∷ []) = PrintsSome (AreRowsOf (joint_of turns p)) (trace_text p.target (scale_of turns p))
-CommandOutcome Channel turns tables (p ∷ []) = After (Gives (initial p)) (λ p. ChannelOf p.target (joint_of turns p))
+-- the channel from the values of its target to its traces
+CommandOutcome Channel turns tables (p ∷ []) = After (Gives (initial p)) (λ p result.
+    (rows : List Row) × AreRowsOf (joint_of turns p) rows × PrintsSome (AreSecrets rows) (channel_text p.target rows) result)
 CommandOutcome Trail turns tables (p ∷ []) = PrintsSome (IsTrail turns p) trail_text
-CommandOutcome Capacity turns tables (p ∷ []) = After (Gives (initial p)) (CapacityIn turns)
+-- the Bayes capacity of its channel
+CommandOutcome Capacity turns tables (p ∷ []) = After (Gives (initial p)) (λ p result.
+    (c : ChannelTree) × IsChannelTree turns p c
+    × (result ≡ (if is_narrow (channel_grid c) then prints (capacity_text (channel_grid c)) else Err wide_channel)))
 CommandOutcome (Compose way) turns tables (p ∷ q ∷ []) =
     After (Gives (initial p)) (λ p. After (Gives (initial q)) (λ q. ComposedIn way turns p q))
-CommandOutcome (Make count) turns tables [] = MadeOutcome count turns
-CommandOutcome (Leak g) turns tables (p ∷ []) = After (GainIn p.target g tables) (ReportIn (scale_of turns p) (joint_of turns p))
-CommandOutcome (Attack g) turns tables (p ∷ []) = After (GainIn p.target g tables) (AttackIn p.target (scale_of turns p) (joint_of turns p))
-CommandOutcome (Reach num den) turns tables (p ∷ []) = ReachOf num den (scale_of turns p) (joint_of turns p)
+-- the made text is typed and cleared as any other, and stands in no file
+CommandOutcome (Make count) turns tables [] =
+    After (TypedOf [] (make_source count)) (λ t.
+    After (Gives (cleared turns t)) (λ p. PrintsSome (IsHyperOf (joint_of turns p)) (make_text count (scale_of turns p))))
+CommandOutcome (Leak g) turns tables (p ∷ []) = After (GainIn p.target g tables) (λ gain. OnHyper turns p (ReportOn gain))
+CommandOutcome (Attack g) turns tables (p ∷ []) = After (GainIn p.target g tables) (λ gain. OnHyper turns p (AttackOn gain))
+-- the least number of tries with which the posterior vulnerability is at least num / den
+CommandOutcome (Reach num den) turns tables (p ∷ []) =
+    OnHyper turns p (λ h. PrintsSome (IsReach h.scale h.inners num den) (reach_text h.scale))
 CommandOutcome (Refine json) turns tables (p ∷ q ∷ []) = RefineOutcome json turns p q
 CommandOutcome (Check name) turns (file ∷ []) (p ∷ q ∷ []) = After (CertIn file) (MarkOn turns p q)
 CommandOutcome Covers turns tables (p ∷ q ∷ []) = RefineOutcome false turns p q

@@ -45,18 +45,6 @@ abbrev pub AreNamed : Option Task → List File → List File → Type 0
 AreNamed None programs tables = (programs ≡ []) × (tables ≡ [])
 AreNamed (Some task) programs tables = (names_of programs ≡ task.files) × (names_of tables ≡ tables_of task.command)
 
--- a defined answer to a question, over some readings of the files that the task names: the bytes that files tell, where they tell them,
--- and nothing where a read failed
-pub record Defined (task : Option Task) (question : Question) (told : Option (List ℕ → List ℕ))
-    (before now : List ℕ → ℕ) (answer : Answer) : Type 0 where
-  pub programs : List File
-  pub tables : List File
-  pub named : AreNamed task programs tables
-  pub read : All (WasRead told before now) (programs ++ tables)
-  -- a read of them failed only where the answer says so
-  pub whole : answer.status ≢ 3 → All IsRead (programs ++ tables)
-  pub is_answer : IsAnswerTo question programs tables answer
-
 -- ---- sinks
 
 -- a sink before and after a call: its bytes, where told, its count of faults, and the room that it was certain to have
@@ -96,24 +84,6 @@ pub record TookLine (s : Sunk) (line : List ℕ) : Type 0 where
 
 -- ---- ends
 
--- the run ended with a defined answer
-pub record Answered (task : Option Task) (question : Question) (told : Option (List ℕ → List ℕ))
-    (before now : List ℕ → ℕ) (out err : Sunk) (status : ℕ) : Type 0 where
-  pub answer : Answer
-  pub defined : Defined task question told before now answer
-  pub status_is : status ≡ answer.status
-  pub out_took : Took out answer.out
-  pub err_took : TookLine err answer.err
-
--- out took only a front of a defined answer, for which it wasn't certain to have room
-pub record AnsweredInPart (task : Option Task) (question : Question) (told : Option (List ℕ → List ℕ))
-    (before now : List ℕ → ℕ) (out : Sunk) : Type 0 where
-  pub answer : Answer
-  pub defined : Defined task question told before now answer
-  pub shown : answer.status ≤ 1
-  pub front : TookFront out answer.out
-  pub no_room : out.room_before < length answer.out
-
 -- a read of a file that the task names has failed, and the line says so
 pub record Unread (task : Option Task) (before now : List ℕ → ℕ) (err : Sunk) : Type 0 where
   pub name : List ℕ
@@ -121,21 +91,49 @@ pub record Unread (task : Option Task) (before now : List ℕ → ℕ) (err : Su
   pub rose : Rose (before name) (now name)
   pub line : TookLine err (message name (codes ": read failed"))
 
--- each status has its cause, by the task that is asked for, where there is one, and the question about its files
-pub record CausesOf (task : Option Task) (question : Question) (told : Option (List ℕ → List ℕ))
-    (before now : List ℕ → ℕ) (out err : Sunk) (status : ℕ) : Type 0 where
-  -- every status but write failed and want of memory is that of a defined answer
-  pub answered : status ≢ 4 → status ≢ 12 → Answered task question told before now out err status
-  pub usage : status ≡ 2 → (task ≡ None) × TookLine err usage.line
-  pub usage_shown : task ≡ None → status ≢ 12 → status ≡ 2
-  pub read : status ≡ 3 → Unread task before now err
-  -- where no read failed, each file's count stays
-  pub counted : status ≢ 3 → now ≡ before
-  pub write : status ≡ 4 → HasFailed out × TookLine err (message [] (codes "write failed"))
-  pub write_shown : out.faults_before < out.faults → status ≡ 4
-  -- what out took before its fault is a front of a defined answer
-  pub part : status ≡ 4 → AnsweredInPart task question told before now out
-  pub memory : status ≡ 12 → TookLine err (message [] (codes "want of memory"))
+-- by the task that is asked for, where there is one, the question about its files, what files tell, and the counts of their faults
+module _ (task : Option Task) (question : Question) (told : Option (List ℕ → List ℕ)) (before now : List ℕ → ℕ) where
+  -- a defined answer, over some readings of the files that the task names: the bytes that files tell, where they tell them, and nothing
+  -- where a read failed
+  pub record Defined (answer : Answer) : Type 0 where
+    pub programs : List File
+    pub tables : List File
+    pub named : AreNamed task programs tables
+    pub read : All (WasRead told before now) (programs ++ tables)
+    -- a read of them failed only where the answer says so
+    pub whole : answer.status ≢ 3 → All IsRead (programs ++ tables)
+    pub is_answer : IsAnswerTo question programs tables answer
+
+  -- the run ended with a defined answer
+  pub record Answered (out err : Sunk) (status : ℕ) : Type 0 where
+    pub answer : Answer
+    pub defined : Defined answer
+    pub status_is : status ≡ answer.status
+    pub out_took : Took out answer.out
+    pub err_took : TookLine err answer.err
+
+  -- out took only a front of a defined answer, for which it wasn't certain to have room
+  pub record AnsweredInPart (out : Sunk) : Type 0 where
+    pub answer : Answer
+    pub defined : Defined answer
+    pub shown : answer.status ≤ 1
+    pub front : TookFront out answer.out
+    pub no_room : out.room_before < length answer.out
+
+  -- each status has its cause
+  pub record CausesOf (out err : Sunk) (status : ℕ) : Type 0 where
+    -- every status but write failed and want of memory is that of a defined answer
+    pub answered : status ≢ 4 → status ≢ 12 → Answered out err status
+    pub usage : status ≡ 2 → (task ≡ None) × TookLine err usage.line
+    pub usage_shown : task ≡ None → status ≢ 12 → status ≡ 2
+    pub read : status ≡ 3 → Unread task before now err
+    -- where no read failed, each file's count stays
+    pub counted : status ≢ 3 → now ≡ before
+    pub write : status ≡ 4 → HasFailed out × TookLine err (message [] (codes "write failed"))
+    pub write_shown : out.faults_before < out.faults → status ≡ 4
+    -- what out took before its fault is a front of a defined answer
+    pub part : status ≡ 4 → AnsweredInPart out
+    pub memory : status ≡ 12 → TookLine err (message [] (codes "want of memory"))
 
 -- nothing is written before the answer is whole, and err gets a line only with a status above 1
 pub record IsQuiet (out err : Sunk) (status : ℕ) : Type 0 where

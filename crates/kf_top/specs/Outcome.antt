@@ -15,16 +15,13 @@ few_stores t =
     if nat_le (initial_stores t.program.types t.source) 4096 then Ok t
     else Err (refusal 8 t.name (codes ": " ++ (decimal (initial_stores t.program.types t.source) ++ codes " stores")))
 
--- the same text with its full source: each initial store is equally likely, and the answer is about what each variable is before the
--- statements and after them
-abbrev pub FullOf : Text → Step Text
-FullOf t = TextWith t.name t.bytes (full_source t.program.types t.source)
-
 -- what a command makes of its texts: each is cleared, for `covers` with its full source, once the stores of all are counted, and for
--- `quiet` the block must be there
+-- `quiet` the block must be there. In the full source each initial store is equally likely, and the answer is about what each variable is
+-- before the statements and after them
 abbrev pub ReadyOf : Command → ℕ → List Text → Step (List ProgramTree)
 ReadyOf Covers turns texts =
-    After (After (Each (λ t. Gives (few_stores t)) texts) (Each FullOf)) (Each (λ t. Gives (cleared turns t)))
+    After (After (Each (λ t. Gives (few_stores t)) texts) (Each (λ t. TextWith t.name t.bytes (full_source t.program.types t.source))))
+    (Each (λ t. Gives (cleared turns t)))
 ReadyOf (Quiet from to) turns texts = Each (LongCleared turns to) texts
 ReadyOf command turns texts = Each (λ t. Gives (cleared turns t)) texts
 

@@ -1,7 +1,6 @@
 -- For bodies: a result against the defined step.
-use Rattle.std.specs.Prelude.{◌≡◌, ℕ, List, [], ◌++◌, Ok, Err, None, Some, codes}
+use Rattle.std.specs.Prelude.{[], ◌++◌, Ok, Err, codes}
 use Rattle.std.specs.Fmt.{decimal}
-use Rattle.std.specs.declared.option.Option.{Option}
 use Rattle.std.specs.declared.result.Result.{Result}
 use Rattle.kf_hyper.specs.Views.{target_of}
 use Rattle.kf_ast.specs.Sources.{SourceTree}
@@ -17,7 +16,7 @@ use Rattle.kf_cert.specs.Shapes.{IsWritable}
 use Rattle.kf_refine.specs.Verdicts.{IsVerdict, Proves}
 use Rattle.kf_refine.specs.Views.{hyper_tree, verdict_tree}
 use Rattle.kf_refine.specs.declared.verdict.Verdict.{Verdict}
-use Rattle.kf_top.specs.Answer.{bad_file, cert_word, other_target, table_word, verdict_refusal, wide_channel}
+use Rattle.kf_top.specs.Answer.{bad_file, cert_word, other_target, table_word, wide_channel}
 use Rattle.kf_top.specs.declared.refusal.Refusal.{Refusal}
 use Rattle.kf_top.specs.declared.refusal.Refusal.TheVariants as refusal
 use Rattle.kf_top.specs.declared.refusal.Stop.{Stop}

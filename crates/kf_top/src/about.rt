@@ -120,7 +120,11 @@ pub(crate) fn about_one<'a, F: Files>(
 {
     let least = least_of(&question);
     match cleared_program(alloc, files, name.as_str(), least, turns) {
-        Ok(cleared) => answer_one(alloc, files, &cleared, question),
+        Ok(cleared) => {
+            let answer = answer_one(alloc, files, &cleared, question);
+            drop(cleared);
+            answer
+        }
         Err(stop) => Err(lift(stop)),
     }
 }
@@ -142,7 +146,11 @@ pub(crate) fn about_two<'a, F: Files>(
     ensures counts { Counts (named (on_files (command_on_two question.entry) (first.now ∷ second.now ∷ []) turns)) (F.faults files.old) (F.faults files.new) result }
 {
     match two_programs(alloc, files, first.as_str(), second.as_str(), turns) {
-        Ok(pair) => answer_two(alloc, files, &pair, question),
+        Ok(pair) => {
+            let answer = answer_two(alloc, files, &pair, question);
+            drop(pair);
+            answer
+        }
         Err(stop) => Err(lift(stop)),
     }
 }

@@ -3,13 +3,13 @@
 ghost use Rattle.std.specs.Prelude.{◌≤◌, pos, ◌<ℤ◌, ◌≤ℤ◌, IfErr};
 ghost use Rattle.kf_frac.specs.Parts.{IsFraction};
 ghost use Rattle.kf_frac.specs.Views.{num_of, den_of};
-ghost use Rattle.kf_core.specs.Joint.{joint_of};
-ghost use Rattle.kf_core.specs.Scale.{scale_of};
+ghost use Rattle.kf_attack.specs.Attacks.{IsReach};
+ghost use Rattle.kf_text.specs.AttackTexts.{reach_text as text_of_reach};
 ghost use Rattle.kf_load.specs.Steps.{After};
 ghost use Rattle.kf_load.specs.Views.{program_in};
-ghost use Rattle.kf_support.specs.Cleared.{turns_of, whole_scale};
+ghost use Rattle.kf_support.specs.Cleared.{turns_of};
 ghost use Rattle.kf_gain.specs.Views.{gain_tree};
-ghost use Rattle.kf_top.specs.Answer.{AttackIn, GainIn, ReachOf};
+ghost use Rattle.kf_top.specs.Answer.{AttackOn, GainIn, OnHyper, PrintsSome};
 ghost use Rattle.kf_top.specs.TaskAnswers.{Counts, FilesAnswer, names_in};
 ghost use Rattle.kf_top.specs.Stops.{Answers, IsOwn};
 ghost use Rattle.kf_top.specs.Views.{shown};
@@ -29,9 +29,7 @@ use std::alloc::Global;
 
 // The attack on a cleared program under a gain.
 fn attack_under<'a>(alloc: Global, cleared: &Cleared, gain: &Gain) -> Result<Done, Stop<'a>>
-    ensures answer { Answers shown result
-        (AttackIn (program_in cleared.now).target (whole_scale cleared.now)
-        (joint_of (turns_of cleared.now) (program_in cleared.now)) (gain_tree gain.now)) }
+    ensures answer { Answers shown result (OnHyper (turns_of cleared.now) (program_in cleared.now) (AttackOn (gain_tree gain.now))) }
     ensures read { IfErr result IsOwn }
 {
     let hyper = hyper_of(alloc, cleared)?;
@@ -53,8 +51,7 @@ pub(crate) fn attack<'a, F: Files>(
 ) -> Result<Done, Stop<'a>>
     ensures answer { FilesAnswer (F.contents files.old) (F.faults files.old) (F.faults files.new) (names_in (gain_of word.now)) shown result
         (λ tables. After (GainIn (program_in cleared.now).target (gain_of word.now) tables)
-        (AttackIn (program_in cleared.now).target (scale_of (turns_of cleared.now) (program_in cleared.now))
-        (joint_of (turns_of cleared.now) (program_in cleared.now)))) }
+        (λ gain. OnHyper (turns_of cleared.now) (program_in cleared.now) (AttackOn gain))) }
     ensures counts { Counts (names_in (gain_of word.now)) (F.faults files.old) (F.faults files.new) result }
 {
     let gain = gain_in(alloc, files, &cleared.program().target, word)?;
@@ -81,8 +78,8 @@ pub(crate) fn reach<'a>(
 ) -> Result<Done, Stop<'a>>
     requires some { 1 ≤ num }
     requires part { num ≤ den }
-    ensures answer { Answers shown result
-        (ReachOf num den (scale_of (turns_of cleared.now) (program_in cleared.now)) (joint_of (turns_of cleared.now) (program_in cleared.now))) }
+    ensures answer { Answers shown result (OnHyper (turns_of cleared.now) (program_in cleared.now)
+        (λ h. PrintsSome (IsReach h.scale h.inners num den) (text_of_reach h.scale))) }
     ensures read { IfErr result IsOwn }
 {
     let hyper = hyper_of(alloc, cleared)?;

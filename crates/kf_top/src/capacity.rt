@@ -6,14 +6,15 @@ ghost use Rattle.kf_support.specs.Cleared.{turns_of};
 ghost use Rattle.kf_capacity.specs.Grids.{channel_grid};
 ghost use Rattle.kf_capacity.specs.Views.{channel_tree, grid_tree};
 ghost use Rattle.kf_load.specs.Steps.{After, Gives};
-ghost use Rattle.kf_top.specs.Answer.{CapacityIn, Composed, ComposedIn, algebra_shown, initial};
+ghost use Rattle.kf_top.specs.Answer.{Composed, ComposedIn, initial};
+ghost use Rattle.kf_top.specs.Steps.{CapacityIn, algebra_shown};
 ghost use Rattle.kf_top.specs.CapacityViews.{way_of, CapacityAnswers, ChannelIn};
 ghost use Rattle.kf_words.specs.Task.{Cascade, Choice, Compose, Parallel};
 ghost use Rattle.kf_top.specs.Stops.{Answers, IsOwn};
 ghost use Rattle.kf_top.specs.Views.{shown};
 ghost use Rattle.kf_words.specs.Jobs.{IsInRange};
 
-use crate::refusal::{Done, Refusal, Stop};
+use crate::refusal::{Done, Refusal, Stop, beside};
 use kf_capacity::{
     CascadeFault, ChoiceFault, Grid, GridFault, ParallelFault, capacity as grid_capacity, cascade,
     choice, grid_of, parallel,
@@ -159,6 +160,22 @@ fn algebra<'a>(
     Ok(Done { yes: true, bytes })
 }
 
+// Two channels put together, with all three capacities.
+fn put_together<'a>(
+    alloc: Global,
+    first: &Channel,
+    second: &Channel,
+    way: Composition,
+) -> Result<Done, Stop<'a>>
+    requires { IsInRange (Compose (way_of way)) }
+    ensures answer { Answers shown result (After (Composed (way_of way) (channel_tree first.now) (channel_tree second.now)) (λ both.
+        Gives (algebra_shown (channel_grid (channel_tree first.now)) (channel_grid (channel_tree second.now)) both))) }
+    ensures read { IfErr result IsOwn }
+{
+    let both = composed(alloc, first, second, way)?;
+    algebra(alloc, first, second, &both)
+}
+
 /// The capacities of the channels of two cleared programs, and of what is put together of them.
 pub(crate) fn composed_capacities<'a>(
     alloc: Global,
@@ -172,7 +189,9 @@ pub(crate) fn composed_capacities<'a>(
     ensures read { IfErr result IsOwn }
 {
     let first = channel_in(alloc, &pair.first)?;
-    let second = channel_in(alloc, &pair.second)?;
-    let both = composed(alloc, &first, &second, way)?;
-    algebra(alloc, &first, &second, &both)
+    let (second, first) = beside(channel_in(alloc, &pair.second), first)?;
+    let done = put_together(alloc, &first, &second, way);
+    drop(first);
+    drop(second);
+    done
 }

@@ -57,7 +57,9 @@ fn texts_covers<'a>(
     ensures read { IfErr result IsOwn }
 {
     let pair = full_pair(alloc, first, second, texts, turns)?;
-    full_covers(alloc, &pair)
+    let done = full_covers(alloc, &pair);
+    drop(pair);
+    done
 }
 
 /// Whether the program of the second file leaks no more than that of the first, whatever the prior.

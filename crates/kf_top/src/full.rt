@@ -9,13 +9,13 @@ ghost use Rattle.kf_load.specs.Texts.{cleared as whether_cleared};
 ghost use Rattle.kf_load.specs.Views.{program_in, programs_in, text_of, texts_in};
 ghost use Rattle.kf_prior.specs.Laws.{IsFull};
 ghost use Rattle.kf_support.specs.Cleared.{turns_of};
-ghost use Rattle.kf_top.specs.Outcome.{few_stores, FullOf, ReadyOf};
+ghost use Rattle.kf_top.specs.Outcome.{few_stores, ReadyOf};
 ghost use Rattle.kf_top.specs.Stops.{full_tree, Answers, IsOwn};
-ghost use Rattle.kf_top.specs.Steps.{FullTexts};
+ghost use Rattle.kf_top.specs.Steps.{FullTexts, FullOf};
 ghost use Rattle.kf_words.specs.Task.{Covers};
 ghost use Rattle.kf_core.specs.Views.{program_tree};
 
-use crate::refusal::{Refusal, Stop, lift};
+use crate::refusal::{Refusal, Stop, beside, lift};
 use kf_ast::Source;
 use kf_load::{Pair, Text, Texts, cleared_pair, text_with};
 use kf_prior::{FullError, full_source};
@@ -78,7 +78,13 @@ fn full_text<'a>(alloc: Global, name: &'a str, text: Text, source: Source) -> Re
     ensures full { IfOk result (λ full. IsFull (program_tree full.program)) }
     ensures read { IfErr result IsOwn }
 {
-    let Text { bytes, .. } = text;
+    let Text {
+        bytes,
+        source: declared,
+        program,
+    } = text;
+    drop(declared);
+    drop(program);
     match text_with(alloc, name, bytes, source) {
         Ok(full) => Ok(full),
         Err(stop) => Err(lift(stop)),
@@ -106,8 +112,11 @@ fn two_with_sources<'a>(
     ensures second_full { IfOk result (λ full. IsFull (program_tree full.second.program)) }
     ensures read { IfErr result IsOwn }
 {
-    let first_text = full_text(alloc, first, texts.first, sources.first)?;
-    let second_text = full_text(alloc, second, texts.second, sources.second)?;
+    let (first_text, (text, source)) = beside(
+        full_text(alloc, first, texts.first, sources.first),
+        (texts.second, sources.second),
+    )?;
+    let (second_text, first_text) = beside(full_text(alloc, second, text, source), first_text)?;
     Ok(Texts {
         first: first_text,
         second: second_text,
@@ -130,7 +139,7 @@ fn two_full_texts<'a>(
     ensures second_full { IfOk result (λ full. IsFull (program_tree full.second.program)) }
     ensures read { IfErr result IsOwn }
 {
-    let sources = two_full_sources(alloc, first, second, &texts)?;
+    let (sources, texts) = beside(two_full_sources(alloc, first, second, &texts), texts)?;
     two_with_sources(alloc, first, second, texts, sources)
 }
 

@@ -6,10 +6,10 @@ ghost use Rattle.kf_core.specs.Scale.{scale_of};
 ghost use Rattle.kf_load.specs.Steps.{After, Gives};
 ghost use Rattle.kf_load.specs.Views.{program_in};
 ghost use Rattle.kf_support.specs.Cleared.{turns_of};
-ghost use Rattle.kf_top.specs.Answer.{ChannelOf, HyperOf, MadeOutcome, initial};
+ghost use Rattle.kf_top.specs.Answer.{HyperOf, initial};
 ghost use Rattle.kf_top.specs.Stops.{Answers, IsOwn};
 ghost use Rattle.kf_top.specs.Views.{shown};
-ghost use Rattle.kf_top.specs.Steps.{TracesOf, TrailOf};
+ghost use Rattle.kf_top.specs.Steps.{TracesOf, TrailOf, ChannelOf, MadeOutcome};
 
 use crate::capacity::channel_in;
 use crate::refusal::{Done, Stop};
@@ -73,7 +73,9 @@ pub(crate) fn made_hyper<'a>(alloc: Global, count: u32, turns: u32) -> Result<Do
 {
     made_laws();
     let cleared = made(alloc, count, turns)?;
-    let hyper = hyper_of(alloc, &cleared)?;
+    let hyper = hyper_of(alloc, &cleared);
+    drop(cleared);
+    let hyper = hyper?;
     let bytes = make_text(alloc, count, &hyper)?;
     Ok(Done { yes: true, bytes })
 }

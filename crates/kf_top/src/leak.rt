@@ -1,13 +1,11 @@
 //! The leakage of a program under a gain.
 
 ghost use Rattle.std.specs.Prelude.{IfErr};
-ghost use Rattle.kf_core.specs.Joint.{joint_of};
-ghost use Rattle.kf_core.specs.Scale.{scale_of};
 ghost use Rattle.kf_load.specs.Steps.{After};
 ghost use Rattle.kf_load.specs.Views.{program_in};
-ghost use Rattle.kf_support.specs.Cleared.{turns_of, whole_scale};
+ghost use Rattle.kf_support.specs.Cleared.{turns_of};
 ghost use Rattle.kf_gain.specs.Views.{gain_tree};
-ghost use Rattle.kf_top.specs.Answer.{GainIn, ReportIn};
+ghost use Rattle.kf_top.specs.Answer.{GainIn, OnHyper, ReportOn};
 ghost use Rattle.kf_top.specs.TaskAnswers.{Counts, FilesAnswer, names_in};
 ghost use Rattle.kf_top.specs.Stops.{Answers, IsOwn};
 ghost use Rattle.kf_top.specs.Views.{shown};
@@ -26,8 +24,7 @@ use std::alloc::Global;
 
 // The report of a cleared program under a gain.
 fn report<'a>(alloc: Global, cleared: &Cleared, gain: &Gain) -> Result<Done, Stop<'a>>
-    ensures answer { Answers shown result
-        (ReportIn (whole_scale cleared.now) (joint_of (turns_of cleared.now) (program_in cleared.now)) (gain_tree gain.now)) }
+    ensures answer { Answers shown result (OnHyper (turns_of cleared.now) (program_in cleared.now) (ReportOn (gain_tree gain.now))) }
     ensures read { IfErr result IsOwn }
 {
     let hyper = hyper_of(alloc, cleared)?;
@@ -49,7 +46,7 @@ pub(crate) fn leak<'a, F: Files>(
 ) -> Result<Done, Stop<'a>>
     ensures answer { FilesAnswer (F.contents files.old) (F.faults files.old) (F.faults files.new) (names_in (gain_of word.now)) shown result
         (λ tables. After (GainIn (program_in cleared.now).target (gain_of word.now) tables)
-        (ReportIn (scale_of (turns_of cleared.now) (program_in cleared.now)) (joint_of (turns_of cleared.now) (program_in cleared.now)))) }
+        (λ gain. OnHyper (turns_of cleared.now) (program_in cleared.now) (ReportOn gain))) }
     ensures counts { Counts (names_in (gain_of word.now)) (F.faults files.old) (F.faults files.new) result }
 {
     let gain = gain_in(alloc, files, &cleared.program().target, word)?;

@@ -1,4 +1,4 @@
-ghost use Rattle.std.specs.Prelude.{◌≡◌};
+ghost use Rattle.std.specs.Prelude.{◌≡◌, Err, IfErr, IfOk, Ok};
 ghost use Rattle.kf_top.specs.Stops.{lifted};
 
 use kf_cert::CertError;
@@ -58,6 +58,24 @@ pub fn lift(stop: LoadStop<'_>) -> Stop<'_>
     match stop {
         LoadStop::Refused(refusal) => Stop::Refused(Refusal::Load(refusal)),
         LoadStop::Mem => Stop::Mem,
+    }
+}
+
+/// What was found, beside what is held meanwhile, which is dropped where nothing was found. The call keeps proofs short: at a
+/// `?` each form of a value that is held is a case of its own.
+pub(crate) fn beside<'a, A, B: Drop>(
+    found: Result<A, Stop<'a>>,
+    held: B,
+) -> Result<(A, B), Stop<'a>>
+    ensures ok { IfOk result (λ both. (found.entry ≡ Ok both.0) × (both.1 ≡ held)) }
+    ensures err { IfErr result (λ stop. found.entry ≡ Err stop) }
+{
+    match found {
+        Ok(value) => Ok((value, held)),
+        Err(stop) => {
+            drop(held);
+            Err(stop)
+        }
     }
 }
 

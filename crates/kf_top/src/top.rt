@@ -96,7 +96,11 @@ pub fn run<F: Files, O: Sink, E: Sink>(
     ensures bound { result ≤ 13 }
 {
     match read_words(alloc, words) {
-        Ok(job) => carry_out(alloc, files, &job, out, err),
+        Ok(job) => {
+            let status = carry_out(alloc, files, &job, out, err);
+            drop(job);
+            status
+        }
         Err(error) => refuse_words(err, error),
     }
 }

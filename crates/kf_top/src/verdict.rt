@@ -1,10 +1,11 @@
 //! Verdicts on two programs, and the check of certificates.
 
-ghost use Rattle.std.specs.Prelude.{◌≡◌, ◌≢◌, ◌∷◌, [], Bool, if◌then◌else◌, Err, IfErr, IfOk};
+ghost use Rattle.std.specs.Prelude.{◌≡◌, ◌≢◌, ◌∷◌, [], ℕ, Bool, if◌then◌else◌, Err, IfErr, IfOk};
 ghost use Rattle.kf_value.specs.Views.{items_of};
 ghost use Rattle.kf_cert.specs.CertTexts.{cert_text};
 ghost use Rattle.kf_cert.specs.Certificates.{cert_of};
 ghost use Rattle.kf_cert.specs.Views.{cert_tree, IsSound};
+ghost use Rattle.kf_core.specs.Programs.{ProgramTree};
 ghost use Rattle.kf_load.specs.Steps.{After, Gives};
 ghost use Rattle.kf_load.specs.Views.{program_in};
 ghost use Rattle.kf_refine.specs.Refinements.{HyperTree};
@@ -15,11 +16,11 @@ ghost use Rattle.kf_refine.specs.declared.verdict.RefineError.TheVariants as err
 ghost use Rattle.kf_support.specs.Cleared.{turns_of};
 ghost use Rattle.kf_text.specs.Texts.{line};
 ghost use Rattle.kf_text.specs.VerdictTexts.{mark_text as text_of_mark, verdict_text as text_of_verdict};
-ghost use Rattle.kf_top.specs.Answer.{is_yes as says_yes, AreHypers, CertIn, MarkOn, RefineOutcome, VerdictOn};
+ghost use Rattle.kf_top.specs.Answer.{CertIn, MarkOn, RefineOutcome};
 ghost use Rattle.kf_top.specs.Stops.{Answers, IsOwn, IsVerdictOn, Stopped};
 ghost use Rattle.kf_top.specs.TaskAnswers.{Counts, FileAnswer};
 ghost use Rattle.kf_top.specs.Views.{shown};
-ghost use Rattle.kf_top.specs.Steps.{cert_read, most_pivots, is_accepted as accepts};
+ghost use Rattle.kf_top.specs.Steps.{cert_read, most_pivots, is_accepted as accepts, AreHypers, is_yes as says_yes, VerdictOn};
 
 use crate::refusal::{Done, Refusal, Stop, lift};
 use kf_cert::{Cert, CertError, CheckError, Mark, check_cert, read_cert, write_cert};
@@ -166,15 +167,13 @@ fn is_accepted(mark: &Mark) -> bool
     matches!(mark, Mark::Accepted)
 }
 
-// The mark of a certificate on the hypers of two programs.
-fn marked<'a>(alloc: Global, pair: &Pair, cert: &Cert) -> Result<Done, Stop<'a>>
-    requires turns { turns_of pair.now.first ≡ turns_of pair.now.second }
-    requires sound { IsSound (cert_tree cert.now) }
-    ensures answer { Answers shown result (MarkOn (turns_of pair.now.first) (program_in pair.now.first)
-        (program_in pair.now.second) (cert_tree cert.now)) }
+// The mark of a certificate on two hypers.
+fn marked_on<'a>(alloc: Global, hypers: &Hypers, cert: &Cert) -> Result<Done, Stop<'a>>
+    requires { IsSound (cert_tree cert.now) }
+    ensures answer { (turns : ℕ) (p q : ProgramTree) → AreHypers turns p q (hyper_tree hypers.now.a) (hyper_tree hypers.now.b)
+        → Answers shown result (MarkOn turns p q (cert_tree cert.now)) }
     ensures read { IfErr result IsOwn }
 {
-    let hypers = hypers_of(alloc, pair)?;
     if !same_target(hypers.a.target(), hypers.b.target()) {
         return Err(Stop::Refused(Refusal::OtherTarget));
     }
@@ -186,6 +185,20 @@ fn marked<'a>(alloc: Global, pair: &Pair, cert: &Cert) -> Result<Done, Stop<'a>>
     let yes = is_accepted(&mark);
     let bytes = mark_line(alloc, &mark)?;
     Ok(Done { yes, bytes })
+}
+
+// The mark of a certificate on the hypers of two programs.
+fn marked<'a>(alloc: Global, pair: &Pair, cert: &Cert) -> Result<Done, Stop<'a>>
+    requires turns { turns_of pair.now.first ≡ turns_of pair.now.second }
+    requires sound { IsSound (cert_tree cert.now) }
+    ensures answer { Answers shown result (MarkOn (turns_of pair.now.first) (program_in pair.now.first)
+        (program_in pair.now.second) (cert_tree cert.now)) }
+    ensures read { IfErr result IsOwn }
+{
+    let hypers = hypers_of(alloc, pair)?;
+    let done = marked_on(alloc, &hypers, cert);
+    drop(hypers);
+    done
 }
 
 /// Whether the certificate in a file proves its verdict on two cleared programs. It is read now.

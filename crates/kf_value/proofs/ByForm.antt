@@ -28,6 +28,9 @@ pub place_below : (t : TypeTree) (v : ValueTree) (r : Option ℕ) → IsPlaceIn 
 place_below t v None h = search rules
 place_below t v (Some n) h = rw (length-values t) at (slice_get_within (values t) n v h)
 
+pub placed : (t u : TypeTree) (v w : ValueTree) (r : Option ℕ) → t ≡ u → v ≡ w → IsPlaceIn (values t) v r → IsPlaceIn (values u) w r
+placed t u v w r type value h = subst (λ x. IsPlaceIn (values x) w r) type (subst (λ y. IsPlaceIn (values t) y r) value h)
+
 -- ---- tuples and sets
 
 mapped_place : {X Y : Type 0} (f : X → Y) → ((x y : X) → f x ≡ f y → x ≡ y) → (xs : List X) (x : X) (r : Option ℕ) → IsPlaceIn xs x r → IsPlaceIn (map f xs) (f x) r

@@ -1,6 +1,6 @@
 -- Facts about lists of any kind.
-use Rattle.std.proofs.Common.{◌≡◌, ℕ, ◌+◌, ◌<◌, ◌≤◌, List, [], ◌∷◌, map, reverse, drop, length, get_or, slice_get, Some, zero, suc, ◌++◌, subst, refl, sym, ap, ◌∙◌}
-use Rattle.std.proofs.lemmas.List.{drop_more, drop_all, map-append}
+use Rattle.std.proofs.Common.{◌≡◌, ℕ, ◌+◌, ◌<◌, ◌≤◌, List, [], ◌∷◌, map, reverse, take, drop, length, get_or, slice_get, Some, zero, suc, ◌++◌, subst, refl, sym, ap, ◌∙◌}
+use Rattle.std.proofs.lemmas.List.{drop_more, drop_all, map-append, take_more}
 use Rattle.std.proofs.lemmas.Option.{slice_get-map, slice_get-get_or}
 use Rattle.std.specs.Option.{option_map}
 use mathlib.Core.List.{reverse_aux}
@@ -67,3 +67,11 @@ mapped_read f xs i x within read =
 -- what one more element tells of the mapped list
 pub mapped_push : {X Y : Type 0} (f : X → Y) (xs ys : List X) (x : X) (y : Y) → ys ≡ xs ++ x ∷ [] → f x ≡ y → map f ys ≡ map f xs ++ y ∷ []
 mapped_push f xs ys x y pushed is = ap (map f) pushed ∙ (map-append f xs (x ∷ []) ∙ ap (λ z. map f xs ++ z ∷ []) is)
+
+-- one more element of a list is copied
+pub copied_more : {X Y : Type 0} (f : X → Y) (xs made new : List X) (i : ℕ) (x y : X) → i < length xs → x ≡ get_or xs i x → f y ≡ f x
+    → new ≡ made ++ y ∷ [] → map f made ≡ map f (take i xs) → map f new ≡ map f (take (i + 1) xs)
+copied_more f xs made new i x y within read same pushed had =
+    let more : map f (take (i + 1) xs) ≡ map f (take i xs) ++ f x ∷ [] =
+    mapped_push f (take i xs) (take (i + 1) xs) (get_or xs i x) (f x) (take_more xs i x within) (ap f (sym read)) in
+    mapped_push f made new y (f x) pushed same ∙ (ap (λ zs. zs ++ f x ∷ []) had ∙ sym more)

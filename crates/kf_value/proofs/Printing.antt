@@ -1,6 +1,7 @@
 -- Texts written piece by piece.
 use Rattle.std.proofs.Common.{◌≡◌, ◌≢◌, ℕ, List, [], ◌∷◌, ◌++◌, length, map, slice_get, Option, Some, None, codes, refl, sym, ap, ◌∙◌}
-use Rattle.std.proofs.lemmas.List.{append_assoc}
+use Rattle.std.specs.List.{flat_map}
+use Rattle.std.proofs.lemmas.List.{append_assoc, append-nil}
 use Rattle.kf_value.specs.Values.{ValueTree, Tuple, Set, parts}
 use Rattle.kf_value.specs.Texts.{text, separated}
 use Rattle.kf_value.specs.Targets.{Item, target_values, target_value_text, shown}
@@ -11,6 +12,27 @@ bracketed out first mid last a b c h k l =
     l
     ∙ (ap (λ z. z ++ last) (k ∙ ap (λ z. z ++ mid) h)
     ∙ (append_assoc (out ++ first) mid last ∙ append_assoc out first (mid ++ last)))
+
+-- a text behind a comma for each value that is left
+abbrev pub rest_text : List ValueTree → List ℕ
+rest_text vs = flat_map (λ u. codes ", " ++ u) (map text vs)
+
+pub written_more : (left : List ValueTree) (v : ValueTree) (vs : List ValueTree) (out a b whole : List ℕ) → left ≡ v ∷ vs → a ≡ out ++ codes ", "
+    → b ≡ a ++ text v → out ++ rest_text left ≡ whole → b ++ rest_text vs ≡ whole
+written_more left v vs out a b whole is comma written had =
+    ap (λ z. z ++ rest_text vs) (written ∙ ap (λ z. z ++ text v) comma)
+    ∙ (append_assoc (out ++ codes ", ") (text v) (rest_text vs)
+    ∙ (append_assoc out (codes ", ") (text v ++ rest_text vs)
+    ∙ (ap (λ z. out ++ z) (sym (append_assoc (codes ", ") (text v) (rest_text vs)) ∙ ap rest_text (sym is)) ∙ had)))
+
+pub all_written : (vs : List ValueTree) (v : ValueTree) (rest left : List ValueTree) (out a b : List ℕ) → vs ≡ v ∷ rest → left ≡ []
+    → a ≡ out ++ text v → b ++ rest_text left ≡ a ++ rest_text rest → b ≡ out ++ separated (map text vs)
+all_written vs v rest left out a b is none first had =
+    sym (append-nil b)
+    ∙ (ap (λ ws. b ++ rest_text ws) (sym none)
+    ∙ (had
+    ∙ (ap (λ z. z ++ rest_text rest) first
+    ∙ (append_assoc out (text v) (rest_text rest) ∙ ap (λ ws. out ++ separated (map text ws)) (sym is)))))
 
 pub tuple_text : (vs : List ValueTree) → text (Tuple (parts vs)) ≡ codes "(" ++ (separated (map text vs) ++ codes ")")
 tuple_text vs = ap (λ ts. codes "(" ++ (separated ts ++ codes ")")) (texts-parts vs)

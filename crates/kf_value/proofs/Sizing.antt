@@ -1,9 +1,9 @@
 -- The sizes of types: what the code multiplies against what is defined.
-use Rattle.std.specs.Prelude.{nat_le, if◌then◌else◌}
+use Rattle.std.specs.Prelude.{nat_le, IfOk, if◌then◌else◌}
 use Rattle.std.proofs.Common.{◌≡◌, ℕ, ℤ, ◌-◌, ◌*◌, ◌^◌, ◌<◌, ◌≤◌, ◌-ℤ◌, min, Bool, true, false, List, [], ◌∷◌, map, Option, None, Some, Result, Ok, Err, refl, sym, ap, ◌∙◌, ⊎_elim, arith}
 use Rattle.std.proofs.Math.Nat.{mul-le-mul_left, mul-le-mul_right, mul_assoc}
 use Rattle.std.proofs.lemmas.Nat.{pow_pos}
-use Rattle.std.proofs.lemmas.Bool.{cases_lt}
+use Rattle.std.proofs.lemmas.Bool.{cases_lt, cond_both, leb-true}
 use Rattle.std.proofs.lemmas.Int.{ints}
 use Rattle.std.proofs.lemmas.Bool.Decides.{nat_tests}
 use Rattle.kf_value.specs.declared.ty.TyFault.{TyFault}
@@ -101,7 +101,7 @@ capped_step n t ts size is =
 
 -- ---- a tuple's size against the limit
 
-judged : (b : Bool) (n : ℕ) → ◌≡◌ {A = Result ℕ TyFault} (if b then Ok n else Err TooManyValues) (held (if b then None else Some TooManyValues) n)
+pub judged : (b : Bool) (n : ℕ) → ◌≡◌ {A = Result ℕ TyFault} (if b then Ok n else Err TooManyValues) (held (if b then None else Some TooManyValues) n)
 judged true n = refl
 judged false n = refl
 
@@ -190,3 +190,8 @@ two_fit s t sized_s sized_t =
     let few_t : count t * 1 ≤ 65536 = let few = few_values 65536 t sized_t in omega arith in
     let first : count s * (count t * 1) ≤ 65536 * (count t * 1) = mul-le-mul_right (count t * 1) few_s in
     omega arith
+
+-- what is judged is at most the limit
+pub at_most_few : (limit n : ℕ) (r : Result ℕ TyFault) → r ≡ (if nat_le n limit then Ok n else Err TooManyValues) → IfOk r (λ m. m ≤ limit)
+at_most_few limit n r is =
+    rw is (cond_both (nat_le n limit) (Ok n) (Err TooManyValues) (λ x. IfOk x (λ m. m ≤ limit)) (λ t. leb-true n limit t) (λ t. tt))

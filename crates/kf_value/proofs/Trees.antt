@@ -3,7 +3,7 @@ use Rattle.std.proofs.Common.{◌≡◌, Bool, ℤ, List, [], ◌∷◌, map, re
 use Rattle.kf_value.specs.declared.value.Value.{Value, Value-F, out-Value, roll-Value, roll-out-Value, the_lemmas as value_lemmas}
 use Rattle.kf_value.specs.declared.value.Value.TheVariants as value
 use Rattle.kf_value.specs.declared.value.ValueList.{ValueList}
-use Rattle.kf_value.specs.declared.ty.Ty.{Ty, the_lemmas as type_lemmas}
+use Rattle.kf_value.specs.declared.ty.Ty.{Ty, Ty-F, out-Ty, roll-Ty, roll-out-Ty, the_lemmas as type_lemmas}
 use Rattle.kf_value.specs.declared.ty.Ty.TheVariants as ty
 use Rattle.kf_value.specs.declared.ty.TyList.{TyList}
 use Rattle.kf_value.specs.Values.{ValueTree, Truth, Whole, Tuple, Set, parts, parts_list, order, orders}
@@ -73,6 +73,18 @@ by_shape P truth whole tuple set (Value-F.Set vs) = subst P (sym (value.rolls-Se
 pub by_form : (P : Value → Type 0) → ((b : Bool) → P (value.Bool b)) → ((i : ℤ) → P (value.Int i)) → ((vs : ValueList) → P (value.Tuple vs))
     → ((vs : ValueList) → P (value.Set vs)) → (v : Value) → P v
 by_form P truth whole tuple set v = subst P (roll-out-Value v) (by_shape P truth whole tuple set (out-Value v))
+
+-- what holds of each form of type holds of each type
+by_type_shape : (P : Ty → Type 0) → P ty.Bool → ((lo hi : ℤ) → P (ty.Int lo hi)) → ((ts : TyList) → P (ty.Tuple ts))
+    → ((base : Box Ty Global) → P (ty.Set base)) → (w : Ty-F Ty TyList) → P (roll-Ty w)
+by_type_shape P truth range tuple set Ty-F.Bool = subst P (sym ty.rolls-Bool) truth
+by_type_shape P truth range tuple set (Ty-F.Int lo hi) = subst P (sym (ty.rolls-Int lo hi)) (range lo hi)
+by_type_shape P truth range tuple set (Ty-F.Tuple ts) = subst P (sym (ty.rolls-Tuple ts)) (tuple ts)
+by_type_shape P truth range tuple set (Ty-F.Set base) = subst P (sym (ty.rolls-Set base)) (set base)
+
+pub by_type_form : (P : Ty → Type 0) → P ty.Bool → ((lo hi : ℤ) → P (ty.Int lo hi)) → ((ts : TyList) → P (ty.Tuple ts))
+    → ((base : Box Ty Global) → P (ty.Set base)) → (t : Ty) → P t
+by_type_form P truth range tuple set t = subst P (roll-out-Ty t) (by_type_shape P truth range tuple set (out-Ty t))
 
 -- what each constructor of a value or a type shows
 pub ruleset constructors = (value_tree-Bool, value_tree-Int, value_tree-Tuple, value_tree-Set, type_tree-Bool, type_tree-Int, type_tree-Tuple, type_tree-Set)

@@ -1,3 +1,5 @@
+mod AskedTasks
+mod FirstRows
 mod GainNames
 mod Matches
 pub mod Numerals

@@ -1,5 +1,5 @@
 -- What is read of words, from what `clap` finds among them.
-use Rattle.std.proofs.Common.{◌≡◌, ◌∙◌, ℕ, List, [], ◌∷◌, false, None, Some, Option, codes, refl, sym, ap, ap₂, map}
+use Rattle.std.proofs.Common.{◌≡◌, ◌∙◌, ℕ, Bool, List, [], ◌∷◌, false, None, Some, Option, codes, refl, sym, ap, ap₂, map}
 use Rattle.std.specs.Borrow.{Bor}
 use Rattle.std.specs.Prelude.{option_map, unwrap_or}
 use Rattle.std.specs.Option.{option_map_or, IsSomeAnd, UnwrapsOrElse}
@@ -7,13 +7,14 @@ use Rattle.std.specs.Str.{bytes_eq}
 use Rattle.clap.specs.Lexer.{usize_max}
 use Rattle.clap.specs.Words.{IsAmong, Row, Rule, fault_of, first_value, matches_of, new_rule, rows_of, rule_of}
 use Rattle.clap.specs.Kinds.{Kinds}
+use Rattle.clap.specs.declared.builder.action.ArgAction.TheVariants.{SetTrue}
 use Rattle.clap.specs.declared.builder.arg.Arg.{Arg}
 use Rattle.clap.specs.declared.builder.range.ValueRange.{ValueRange}
 use Rattle.clap.specs.declared.error.kind.ErrorKind.{ErrorKind}
 use Rattle.clap.specs.declared.parser.matches.Found.{Found}
 use Rattle.clap.proofs.WalkLemmas.{first_value-rows}
-use Rattle.kf_words.specs.Arguments.{command_line, arguments_of, arguments_in, words_rule}
-use Rattle.kf_words.specs.CommandViews.{is_set, unless_faulty}
+use Rattle.kf_words.specs.Arguments.{command_line, arguments_of, arguments_in, words_rule, option_rule}
+use Rattle.kf_words.specs.CommandViews.{flag_rule, is_set, unless_faulty}
 
 -- a flag's first value tells whether it was used
 pub is_set_by : (flag : List ℕ) (f : Found) (value : Option (List ℕ)) → value ≡ first_value f flag
@@ -38,6 +39,16 @@ the_range None is = absurd is
 -- the argument of the words may have any number of them
 pub words_are : (a b : Arg) → rule_of a ≡ new_rule (codes "words") → b ≡ record a { num_vals = b.num_vals } → IsSomeAnd b.num_vals (λ r. r ≡ any_number) → rule_of b ≡ words_rule
 words_are a b rule is range = ap rule_of is ∙ ap₂ (λ (r : Rule) (n : Option ValueRange). record r { range = n }) rule (the_range b.num_vals range)
+
+-- an argument with a long name is an option, and a flag where it is set by its name alone
+pub option_is : (a b : Arg) (name : Bor (List ℕ)) → rule_of a ≡ new_rule name.now → b ≡ record a { long = Some name } → rule_of b ≡ option_rule name.now
+option_is a b name rule is = ap rule_of is ∙ ap (λ (r : Rule). record r { long = Some name.now }) rule
+
+pub flag_is : (a b : Arg) (name : List ℕ) → rule_of a ≡ option_rule name → b ≡ record a { action = Some SetTrue } → rule_of b ≡ flag_rule name
+flag_is a b name rule is = ap rule_of is ∙ ap (λ (r : Rule). record r { action = Some SetTrue }) rule
+
+abbrev pub is_global : Arg → Bool
+is_global a = a.global
 
 -- ---- whole lists of words
 

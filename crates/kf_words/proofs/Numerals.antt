@@ -12,7 +12,8 @@ use Rattle.std.proofs.lemmas.Bool.Decides.{Decides-eqb}
 use Rattle.std.proofs.lemmas.List.{drop_at}
 use Rattle.std.proofs.lemmas.Slice.Eq.{starts_is}
 use Rattle.std.specs.Str.Pattern.{FindsText, LacksTextAt}
-use Rattle.kf_words.specs.Numbers.{around, pair_of, is_numeral, numeral_of, in_range, number_of}
+use Rattle.kf_words.specs.Numbers.{around, pair_of, is_numeral, numeral_of, number_of}
+use Rattle.kf_words.specs.OfWords.{in_range}
 
 pub both : (a b : Bool) → (a && b) ≡ true → (a ≡ true) × (b ≡ true)
 both true true h = (refl, refl)
@@ -61,7 +62,7 @@ module _ (most : ℕ) (word : List ℕ) (numeral : is_numeral most word ≡ true
 -- one of at most five digits
 module _ (word : List ℕ) (numeral : is_numeral 5 word ≡ true) where
   is : number_of word ≡ in_range (digits_value 10 word)
-  is = ap (λ b. if b then in_range (digits_value 10 word) else None) numeral
+  is = ap (λ b. option_and_then in_range (if b then Some (digits_value 10 word) else None)) numeral
 
   many : ¬ (IsNumeral 10 (without_leading_plus word) × (digits_value 10 (without_leading_plus word) < 65536)) → 65535 < digits_value 10 word
   many none = or_else (digits_value 10 word)

@@ -4,8 +4,8 @@ use Rattle.std.proofs.lemmas.Bool.{eq-eqb}
 use Rattle.std.proofs.lemmas.List.{length-map, take_all}
 use Rattle.std.specs.Prelude.{option_map, option_and_then}
 use Rattle.kf_words.specs.Arguments.{Arguments}
-use Rattle.kf_words.specs.Task.{CommandRow, Task, options_fit, row_of, row_task, task_of_values, turns_of}
-use Rattle.kf_words.specs.OfWords.{task_of_arguments}
+use Rattle.kf_words.specs.Task.{CommandRow, Task, options_fit, row_task, task_of_values}
+use Rattle.kf_words.specs.OfWords.{task_of_arguments, row_of, turns_of}
 
 -- the values behind the first
 abbrev pub behind : List (Bor (List ℕ)) → List (List ℕ)

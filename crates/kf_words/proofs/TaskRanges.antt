@@ -1,17 +1,17 @@
 -- The task of any words has its numbers in range.
-use Rattle.std.proofs.Common.{◌≡◌, ℕ, ◌≤◌, ◌<◌, ◌+◌, Bool, true, false, ◌&&◌, nat_le, leb-true, List, [], ◌∷◌, codes, find, length, ◌==◌, Option, None, Some, option_map, option_and_then, if◌then◌else◌, refl, sym, subst, arith}
+use Rattle.std.proofs.Common.{◌≡◌, ℕ, ◌≤◌, ◌<◌, ◌+◌, Bool, true, false, ◌&&◌, nat_le, leb-true, List, [], ◌∷◌, codes, length, take, ◌-◌, ◌==◌, Option, None, Some, option_map, option_and_then, if◌then◌else◌, refl, sym, subst, arith}
 use Rattle.std.specs.List.{AllByRecursion as Every}
+use Rattle.std.specs.Map.{lookup}
 use Rattle.std.specs.Str.{bytes_eq}
-use Rattle.std.specs.Str.Parse.{digits_value}
 use Rattle.kf_gain.specs.Gains.{GainOf}
 use Rattle.kf_words.specs.Arguments.{Arguments, arguments_of}
 use Rattle.kf_words.specs.GainWords.{gain_named}
 use Rattle.kf_words.specs.Jobs.{HasTurns, IsInRange}
 use Rattle.kf_words.specs.Laws.{TasksInRange}
-use Rattle.kf_words.specs.Numbers.{block_of, in_range, is_numeral, number_of, pair_of, probability_of, ratio_of, threshold_of}
-use Rattle.kf_words.specs.Task.{Command, Hyper, Traces, Channel, Trail, Capacity, Compose, Cascade, Parallel, Choice, Leak, Attack, Reach, Make, Refine, Check, Covers, Quiet, Blame, Task, CommandRow, on_files, files_only, with_gain, make_row, refine_row, check_row, with_pair, commands, row_of, options_fit, turns_of, row_task, task_of_values, observations_of, but_last}
+use Rattle.kf_words.specs.Numbers.{block_of, number_of, numeral_of, pair_of, probability_of, ratio_of, threshold_of}
+use Rattle.kf_words.specs.Task.{Command, Hyper, Traces, Channel, Trail, Capacity, Compose, Cascade, Parallel, Choice, Leak, Attack, Reach, Make, Refine, Check, Covers, Quiet, Blame, Task, CommandRow, on_files, files_only, with_gain, with_pair, commands, options_fit, row_task, task_of_values, observations_of}
 use Rattle.kf_words.proofs.Numerals.{both}
-use Rattle.kf_words.specs.OfWords.{first_of, others_of, last_of, default_turns, task_of_arguments}
+use Rattle.kf_words.specs.OfWords.{first_of, others_of, last_of, default_turns, task_of_arguments, make_row, refine_row, check_row, row_of, turns_of, in_range}
 
 -- ---- what an option holds
 
@@ -64,11 +64,10 @@ block_in word p is =
 
 number_in : (word : List ℕ) (n : ℕ) → number_of word ≡ Some n → (1 ≤ n) × (n ≤ 65535)
 number_in word n is =
-    let value = digits_value 10 word in
-    let numeral = tested (is_numeral 5 word) (in_range value) n is in
-    passed (nat_le 1 value && nat_le value 65535) value n (λ m. (1 ≤ m) × (m ≤ 65535)) numeral.1
-    (λ holds. let tests = both (nat_le 1 value) (nat_le value 65535) holds in
-    (leb-true 1 value tests.0, leb-true value 65535 tests.1))
+    let value = given in_range (numeral_of 5 word) n is in
+    passed (nat_le 1 value.0 && nat_le value.0 65535) value.0 n (λ m. (1 ≤ m) × (m ≤ 65535)) value.2
+    (λ holds. let tests = both (nat_le 1 value.0) (nat_le value.0 65535) holds in
+    (leb-true 1 value.0 tests.0, leb-true value.0 65535 tests.1))
 
 turns_in : (word : Option (List ℕ)) (turns : ℕ) → turns_of word ≡ Some turns → (1 ≤ turns) × (turns ≤ 65535)
 turns_in None turns is =
@@ -114,9 +113,9 @@ check_keeps values arguments ask turns is =
 pair_keeps : (pair : List ℕ → Option (ℕ × ℕ)) (command : ℕ → ℕ → Command) (values : ℕ)
     → ((word : List ℕ) (p : ℕ × ℕ) → pair word ≡ Some p → IsInRange (command p.0 p.1)) → Keeps (with_pair pair command values)
 pair_keeps pair command count has values arguments ask turns is =
-    let p = mapped (λ (p : ℕ × ℕ). on_files (command p.0 p.1) (but_last values)) (option_and_then pair (last_of values)) ask is in
+    let p = mapped (λ (p : ℕ × ℕ). on_files (command p.0 p.1) (take (count - 1) values)) (option_and_then pair (last_of values)) ask is in
     let word = given pair (last_of values) p.0 p.1 in
-    asked_keeps (command p.0.0 p.0.1) (but_last values) ask turns p.2 (has word.0 p.0 word.2)
+    asked_keeps (command p.0.0 p.0.1) (take (count - 1) values) ask turns p.2 (has word.0 p.0 word.2)
 
 -- ---- the table
 
@@ -171,16 +170,16 @@ all_keep = (
   ),
 )
 
-first_or_later : (b : Bool) (r : List ℕ × CommandRow) (later : Option (List ℕ × CommandRow)) (row : CommandRow) → Keeps r.1
-    → (option_map (λ r. r.1) later ≡ Some row → Keeps row) → option_map (λ r. r.1) (if b then Some r else later) ≡ Some row → Keeps row
+first_or_later : (b : Bool) (r : List ℕ × CommandRow) (later : Option CommandRow) (row : CommandRow) → Keeps r.1
+    → (later ≡ Some row → Keeps row) → (if b then Some r.1 else later) ≡ Some row → Keeps row
 first_or_later true r later row here there is = let same : r.1 ≡ row = cc in subst Keeps same here
 first_or_later false r later row here there is = there is
 
 found_keeps : (word : List ℕ) (rows : List (List ℕ × CommandRow)) → Every (λ (r : List ℕ × CommandRow). Keeps r.1) rows → (row : CommandRow)
-    → option_map (λ r. r.1) (find (λ r. bytes_eq word r.0) rows) ≡ Some row → Keeps row
+    → lookup (bytes_eq word) rows ≡ Some row → Keeps row
 found_keeps word [] all row is = absurd (cc)
 found_keeps word (r ∷ rows) all row is =
-    first_or_later (bytes_eq word r.0) r (find (λ r. bytes_eq word r.0) rows) row all.0 (found_keeps word rows all.1 row) is
+    first_or_later (bytes_eq word r.0) r (lookup (bytes_eq word) rows) row all.0 (found_keeps word rows all.1 row) is
 
 -- ---- the words
 

@@ -1,5 +1,5 @@
 -- For bodies: what the code's values show of the arguments and of the table of commands.
-use Rattle.std.specs.Prelude.{ℕ, List, [], map, Option, Some, option_map, option_and_then, Bool, false, codes, ◌∷◌, None}
+use Rattle.std.specs.Prelude.{ℕ, List, [], map, Option, Some, option_map, option_and_then, Bool, false, codes, ◌∷◌, None, take}
 use Rattle.std.specs.Option.{option_map_or}
 use Rattle.std.specs.Str.{bytes_eq}
 use Rattle.kf_gain.specs.Gains.{GainOf}
@@ -67,11 +67,11 @@ on_gain under.Attack g = task.Attack g
 -- commands whose last value is a pair of numbers
 abbrev pub pair_task : WithPair → List (List ℕ) → Option (ℕ → task.Task)
 pair_task pair.Choice words =
-    option_map (λ p. task.on_files (task.Compose (task.Choice p.0 p.1)) (task.but_last words)) (option_and_then probability_of (of_words.last_of words))
+    option_map (λ p. task.on_files (task.Compose (task.Choice p.0 p.1)) (take 2 words)) (option_and_then probability_of (of_words.last_of words))
 pair_task pair.Reach words =
-    option_map (λ p. task.on_files (task.Reach p.0 p.1) (task.but_last words)) (option_and_then threshold_of (of_words.last_of words))
+    option_map (λ p. task.on_files (task.Reach p.0 p.1) (take 1 words)) (option_and_then threshold_of (of_words.last_of words))
 pair_task pair.Quiet words =
-    option_map (λ p. task.on_files (task.Quiet p.0 p.1) (task.but_last words)) (option_and_then block_of (of_words.last_of words))
+    option_map (λ p. task.on_files (task.Quiet p.0 p.1) (take 1 words)) (option_and_then block_of (of_words.last_of words))
 
 -- which task a command's word asks for, by the values after it and the options
 abbrev pub task_meant : CommandWord → List (List ℕ) → spec.Arguments → Option (ℕ → task.Task)

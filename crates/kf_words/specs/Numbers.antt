@@ -9,17 +9,13 @@ use Rattle.std.specs.Str.Parse.{digits_value}
 abbrev pub is_numeral : ℕ → List ℕ → Bool
 is_numeral most word = nat_le 1 (length word) && (nat_le (length word) most && list_all is_ascii_digit word)
 
--- a number from 1 to 65,535
-abbrev pub in_range : ℕ → Option ℕ
-in_range n = if nat_le 1 n && nat_le n 65535 then Some n else None
-
--- such a number, of one to five digits
-abbrev pub number_of : List ℕ → Option ℕ
-number_of word = if is_numeral 5 word then in_range (digits_value 10 word) else None
-
 -- any number of one to `most` digits
 abbrev pub numeral_of : ℕ → List ℕ → Option ℕ
 numeral_of most word = if is_numeral most word then Some (digits_value 10 word) else None
+
+-- a number from 1 to 65,535, of one to five digits
+abbrev pub number_of : List ℕ → Option ℕ
+number_of word = option_and_then (λ n. if nat_le 1 n && nat_le n 65535 then Some n else None) (numeral_of 5 word)
 
 -- what stands before the first such mark and after it
 abbrev pub around : List ℕ → List ℕ → Option (List ℕ × List ℕ)

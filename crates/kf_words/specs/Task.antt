@@ -1,6 +1,7 @@
 -- Believed: what a list of words asks for, by the table of commands.
-use Rattle.std.specs.Prelude.{ℕ, List, [], ◌∷◌, Bool, true, false, not, ◌&&◌, ◌||◌, ◌==◌, Option, None, Some, is_some, codes, length, find, slice_get, drop}
+use Rattle.std.specs.Prelude.{ℕ, ◌-◌, List, [], ◌∷◌, Bool, true, false, not, ◌&&◌, ◌||◌, ◌==◌, Option, None, Some, is_some, codes, length, slice_get, take, drop}
 use Rattle.std.specs.Prelude.{if◌then◌else◌, option_map, option_and_then, nat_le}
+use Rattle.std.specs.Map.{lookup}
 use Rattle.std.specs.Str.{bytes_eq}
 use Rattle.std.specs.List.{last_or}
 use Rattle.std.specs.Option.{option_map_or}
@@ -92,43 +93,25 @@ with_gain command n =
 abbrev pub observations_of : List ℕ → Option ℕ
 observations_of word = option_and_then (λ n. if nat_le n 60 then Some n else None) (number_of word)
 
--- the row of `make`, which has one value, a number, and reads no file
-abbrev pub make_row : CommandRow
-make_row = plain_row 1 (λ words arguments. option_map (λ n. on_files (Make n) []) (option_and_then observations_of (slice_get words 0)))
-
--- the row of `refine`, which takes `--json`
-abbrev pub refine_row : CommandRow
-refine_row = record (plain_row 2 (λ names arguments. Some (on_files (Refine arguments.json) names))) { takes_json = true }
-
--- the row of `check`, whose first file is the certificate
-abbrev pub check_row : CommandRow
-check_row = plain_row 3 (λ names arguments. option_map (λ cert. on_files (Check cert) (drop 1 names)) (slice_get names 0))
-
--- all words but the last
-abbrev pub but_last : List (List ℕ) → List (List ℕ)
-but_last [] = []
-but_last (word ∷ []) = []
-but_last (word ∷ next ∷ words) = word ∷ but_last (next ∷ words)
-
 -- the row of a command on `values` values, of which the last is a pair of numbers and the others are files
 abbrev pub with_pair : (List ℕ → Option (ℕ × ℕ)) → (ℕ → ℕ → Command) → ℕ → CommandRow
 with_pair pair command values = plain_row values (λ words arguments.
-    option_map (λ p. on_files (command p.0 p.1) (but_last words)) (option_and_then pair (last_or None words)))
+    option_map (λ p. on_files (command p.0 p.1) (take (values - 1) words)) (option_and_then pair (last_or None words)))
 
--- the table of commands, by their words
+-- the table of commands, by their words: `make` has one value, a number, and reads no file; `refine` takes `--json`; the first file of
+-- `check` is the certificate
 abbrev pub commands : List (List ℕ × CommandRow)
 commands =
     (codes "hyper", files_only Hyper 1) ∷ (codes "traces", files_only Traces 1) ∷ (codes "channel", files_only Channel 1)
-    ∷ (codes "leak", with_gain Leak 1) ∷ (codes "trail", files_only Trail 1) ∷ (codes "make", make_row)
-    ∷ (codes "refine", refine_row) ∷ (codes "check", check_row) ∷ (codes "capacity", files_only Capacity 1)
+    ∷ (codes "leak", with_gain Leak 1) ∷ (codes "trail", files_only Trail 1)
+    ∷ (codes "make", plain_row 1 (λ words a. option_map (λ n. on_files (Make n) []) (option_and_then observations_of (slice_get words 0))))
+    ∷ (codes "refine", record (plain_row 2 (λ names a. Some (on_files (Refine a.json) names))) { takes_json = true })
+    ∷ (codes "check", plain_row 3 (λ names a. option_map (λ cert. on_files (Check cert) (drop 1 names)) (slice_get names 0)))
+    ∷ (codes "capacity", files_only Capacity 1)
     ∷ (codes "cascade", files_only (Compose Cascade) 2) ∷ (codes "parallel", files_only (Compose Parallel) 2)
     ∷ (codes "choice", with_pair probability_of (λ num den. Compose (Choice num den)) 3) ∷ (codes "attack", with_gain Attack 1)
     ∷ (codes "reach", with_pair threshold_of Reach 2) ∷ (codes "covers", files_only Covers 2) ∷ (codes "quiet", with_pair block_of Quiet 2)
     ∷ (codes "blame", files_only Blame 1) ∷ []
-
--- the row of a command's word
-abbrev pub row_of : List ℕ → Option CommandRow
-row_of word = option_map (λ r. r.1) (find (λ r. bytes_eq word r.0) commands)
 
 -- `--gain` stands exactly where it is needed, and `--json` only where it is taken
 abbrev pub options_fit : CommandRow → Arguments → Bool
@@ -137,20 +120,18 @@ options_fit row arguments =
 
 -- ---- the task of the words
 
--- how often a loop may turn, as `--turns` says it where it stands, and else 1,024 times
-abbrev pub turns_of : Option (List ℕ) → Option ℕ
-turns_of word = option_map_or number_of word (Some 1024)
-
--- the task of a row and the values after the command's word, where their number and the options are the row's
+-- the task of a row and the values after the command's word, where their number and the options are the row's; a loop may turn as often as
+-- `--turns` says where it stands, and else 1,024 times
 abbrev pub row_task : List (List ℕ) → Arguments → CommandRow → Option Task
 row_task values arguments row =
     if length values == row.values && options_fit row arguments
-    then option_and_then (λ turns. option_map (λ task. task turns) (row.task values arguments)) (turns_of arguments.turns) else None
+    then option_and_then (λ turns. option_map (λ task. task turns) (row.task values arguments))
+    (option_map_or number_of arguments.turns (Some 1024)) else None
 
 -- the first value is the command's word, the others are its files or its numbers
 abbrev pub task_of_values : List (List ℕ) → Arguments → Option Task
 task_of_values [] arguments = None
-task_of_values (word ∷ values) arguments = option_and_then (row_task values arguments) (row_of word)
+task_of_values (word ∷ values) arguments = option_and_then (row_task values arguments) (lookup (bytes_eq word) commands)
 
 -- the task of a list of words
 abbrev pub task_of : List (List ℕ) → Option Task

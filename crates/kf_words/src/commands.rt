@@ -1,6 +1,10 @@
 //! The table of commands, by their words.
-ghost use Rattle.std.specs.Prelude.{◌≡◌, false, option_map, IfSome};
-ghost use Rattle.kf_words.specs.Task.{options_fit as fit, row_of as row_of_word};
+ghost use Rattle.std.specs.Prelude.{◌≡◌, map, option_map, IfSome};
+ghost use Rattle.std.specs.Map.{lookup};
+ghost use Rattle.std.specs.List.{AllByRecursion as Each};
+ghost use Rattle.std.specs.Str.{bytes_eq};
+ghost use Rattle.kf_words.specs.Task.{commands as commands_by_word, options_fit as fit};
+ghost use Rattle.kf_words.specs.OfWords.{row_of as row_of_word};
 ghost use Rattle.kf_words.specs.CommandViews.{row_meant, arguments_meant, values_of};
 
 use crate::arguments::Arguments;
@@ -63,16 +67,84 @@ pub(crate) struct CommandRow {
     pub(crate) takes_json: bool,
 }
 
-// A row with neither `--gain` nor `--json`.
-fn without_options(command: CommandWord, values: usize) -> CommandRow
-    ensures { result ≡ record { command = command; values = values; needs_gain = false; takes_json = false } }
+// A command's word and its row, which takes neither `--gain` nor `--json`.
+macro_rules! plain {
+    ($word:literal, $command:expr, $values:literal) => {
+        (
+            $word,
+            CommandRow {
+                command: $command,
+                values: $values,
+                needs_gain: false,
+                takes_json: false,
+            },
+        )
+    };
+}
+
+/// The table: each command's word, and what stands after it.
+const COMMANDS: &[(&str, CommandRow); 17] = &[
+    plain!("hyper", CommandWord::OneFile(OneFile::Hyper), 1),
+    plain!("traces", CommandWord::OneFile(OneFile::Traces), 1),
+    plain!("channel", CommandWord::OneFile(OneFile::Channel), 1),
+    (
+        "leak",
+        CommandRow {
+            command: CommandWord::UnderGain(UnderGain::Leak),
+            values: 1,
+            needs_gain: true,
+            takes_json: false,
+        },
+    ),
+    plain!("trail", CommandWord::OneFile(OneFile::Trail), 1),
+    plain!("make", CommandWord::Make, 1),
+    (
+        "refine",
+        CommandRow {
+            command: CommandWord::Refine,
+            values: 2,
+            needs_gain: false,
+            takes_json: true,
+        },
+    ),
+    plain!("check", CommandWord::Check, 3),
+    plain!("capacity", CommandWord::OneFile(OneFile::Capacity), 1),
+    plain!("cascade", CommandWord::TwoFiles(TwoFiles::Cascade), 2),
+    plain!("parallel", CommandWord::TwoFiles(TwoFiles::Parallel), 2),
+    plain!("choice", CommandWord::WithPair(WithPair::Choice), 3),
+    (
+        "attack",
+        CommandRow {
+            command: CommandWord::UnderGain(UnderGain::Attack),
+            values: 1,
+            needs_gain: true,
+            takes_json: false,
+        },
+    ),
+    plain!("reach", CommandWord::WithPair(WithPair::Reach), 2),
+    plain!("covers", CommandWord::TwoFiles(TwoFiles::Covers), 2),
+    plain!("quiet", CommandWord::WithPair(WithPair::Quiet), 2),
+    plain!("blame", CommandWord::OneFile(OneFile::Blame), 1),
+];
+
+// The table by a call, since a clause can name no constant that holds texts.
+fn commands() -> &'static [(&'static str, CommandRow)]
+    ensures meant { map (λ r. (r.0.now, row_meant r.1)) result.now ≡ commands_by_word }
+    ensures values { Each (λ r. r.1.values ≡ values_of r.1.command) result.now }
 {
-    CommandRow {
-        command,
-        values,
-        needs_gain: false,
-        takes_json: false,
+    COMMANDS
+}
+
+// The row of the first command of a table that has this word.
+fn first_row(table: &[(&str, CommandRow)], word: &str) -> Option<CommandRow>
+    ensures { result ≡ lookup (λ key. bytes_eq word.now key.now) table.now }
+{
+    for named in table {
+        if word == named.0 {
+            return Some(named.1);
+        }
     }
+    None
 }
 
 /// The row of a command's word.
@@ -80,35 +152,7 @@ pub(crate) fn row_of(word: &str) -> Option<CommandRow>
     ensures row { option_map row_meant result ≡ row_of_word word.now }
     ensures values { IfSome result (λ row. row.values ≡ values_of row.command) }
 {
-    match word {
-        "hyper" => Some(without_options(CommandWord::OneFile(OneFile::Hyper), 1)),
-        "traces" => Some(without_options(CommandWord::OneFile(OneFile::Traces), 1)),
-        "channel" => Some(without_options(CommandWord::OneFile(OneFile::Channel), 1)),
-        "trail" => Some(without_options(CommandWord::OneFile(OneFile::Trail), 1)),
-        "leak" => Some(CommandRow {
-            needs_gain: true,
-            ..without_options(CommandWord::UnderGain(UnderGain::Leak), 1)
-        }),
-        "make" => Some(without_options(CommandWord::Make, 1)),
-        "refine" => Some(CommandRow {
-            takes_json: true,
-            ..without_options(CommandWord::Refine, 2)
-        }),
-        "check" => Some(without_options(CommandWord::Check, 3)),
-        "capacity" => Some(without_options(CommandWord::OneFile(OneFile::Capacity), 1)),
-        "cascade" => Some(without_options(CommandWord::TwoFiles(TwoFiles::Cascade), 2)),
-        "parallel" => Some(without_options(CommandWord::TwoFiles(TwoFiles::Parallel), 2)),
-        "choice" => Some(without_options(CommandWord::WithPair(WithPair::Choice), 3)),
-        "attack" => Some(CommandRow {
-            needs_gain: true,
-            ..without_options(CommandWord::UnderGain(UnderGain::Attack), 1)
-        }),
-        "reach" => Some(without_options(CommandWord::WithPair(WithPair::Reach), 2)),
-        "covers" => Some(without_options(CommandWord::TwoFiles(TwoFiles::Covers), 2)),
-        "quiet" => Some(without_options(CommandWord::WithPair(WithPair::Quiet), 2)),
-        "blame" => Some(without_options(CommandWord::OneFile(OneFile::Blame), 1)),
-        _ => None,
-    }
+    first_row(commands(), word)
 }
 
 /// Whether `--gain` stands exactly where it is needed, and `--json` only where it is taken.

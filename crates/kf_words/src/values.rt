@@ -1,5 +1,5 @@
 //! The job of a command and the values after its word.
-ghost use Rattle.std.specs.Prelude.{◌≡◌, [], ◌∷◌, IfOk, IfSome, None, length, map, option_map, option_and_then};
+ghost use Rattle.std.specs.Prelude.{◌≡◌, [], ◌∷◌, IfOk, IfSome, IsSomeAnd, None, Ok, length, map, option_map, option_and_then};
 ghost use Rattle.kf_words.specs.CommandViews.{arguments_meant, on_gain, on_one, on_two, pair_task, task_meant, values_of};
 ghost use Rattle.kf_words.specs.GainWords.{gain_named};
 ghost use Rattle.kf_words.specs.Jobs.{gain_of, task_of_job, IsInRange};
@@ -18,6 +18,21 @@ fn name_of(alloc: Global, word: &str) -> Result<Name, Mem>
     ensures { IfOk result (λ name. name ≡ word.now) }
 {
     Ok(Name::new(word.to_string(alloc)?))
+}
+
+// What was read before, with what was read then; where there is no memory for this, what was read before is dropped.
+fn beside<A: Drop, B>(first: A, second: Result<B, Mem>) -> Result<(A, B), Mem>
+    ensures { IfOk result (λ both. (both.0 ≡ first) × (second ≡ Ok both.1)) }
+{
+    let second = second?;
+    Ok((first, second))
+}
+
+// The names of two files.
+fn two_names(alloc: Global, a: &str, b: &str) -> Result<(Name, Name), Mem>
+    ensures { IfOk result (λ names. (names.0 ≡ a.now) × (names.1 ≡ b.now)) }
+{
+    beside(name_of(alloc, a)?, name_of(alloc, b))
 }
 
 // The gain that `--gain` names where it stands.
@@ -82,61 +97,59 @@ fn with_pair(
     ensures turns { IfOk result (λ job. IfSome job (λ job. (task_of_job job).turns ≡ turns)) }
     ensures range { IfOk result (λ job. IfSome job (λ job. IsInRange (task_of_job job).command)) }
 {
-    Ok(match command {
+    match command {
         WithPair::Choice => {
             let Some((num, den)) = parse_probability(values[2]) else {
                 return Ok(None);
             };
-            Some(Job::Choice {
-                a: name_of(alloc, values[0])?,
-                b: name_of(alloc, values[1])?,
+            let (a, b) = two_names(alloc, values[0], values[1])?;
+            Ok(Some(Job::Choice {
+                a,
+                b,
                 num,
                 den,
                 turns,
-            })
+            }))
         }
         WithPair::Reach => {
             let Some((num, den)) = parse_threshold(values[1]) else {
                 return Ok(None);
             };
-            Some(Job::Reach {
+            Ok(Some(Job::Reach {
                 file: name_of(alloc, values[0])?,
                 num,
                 den,
                 turns,
-            })
+            }))
         }
         WithPair::Quiet => {
             let Some((from, to)) = parse_block(values[1]) else {
                 return Ok(None);
             };
-            Some(Job::Quiet {
+            Ok(Some(Job::Quiet {
                 file: name_of(alloc, values[0])?,
                 from,
                 to,
                 turns,
-            })
+            }))
         }
-    })
+    }
 }
 
 // The job of `refine`.
-fn refine_job(alloc: Global, a: &str, b: &str, json: bool, turns: u32) -> Result<Job, Mem>
-    ensures { IfOk result (λ job. task_of_job job ≡ on_files (Refine json) (a.now ∷ b.now ∷ []) turns) }
+fn refine_job(alloc: Global, a: &str, b: &str, json: bool, turns: u32) -> Result<Option<Job>, Mem>
+    ensures { IfOk result (λ job. IsSomeAnd job (λ job. task_of_job job ≡ on_files (Refine json) (a.now ∷ b.now ∷ []) turns)) }
 {
-    let a = name_of(alloc, a)?;
-    let b = name_of(alloc, b)?;
-    Ok(Job::Refine { a, b, json, turns })
+    let (a, b) = two_names(alloc, a, b)?;
+    Ok(Some(Job::Refine { a, b, json, turns }))
 }
 
 // The job of `check`.
-fn check_job(alloc: Global, cert: &str, a: &str, b: &str, turns: u32) -> Result<Job, Mem>
-    ensures { IfOk result (λ job. task_of_job job ≡ on_files (Check cert.now) (a.now ∷ b.now ∷ []) turns) }
+fn check_job(alloc: Global, cert: &str, a: &str, b: &str, turns: u32) -> Result<Option<Job>, Mem>
+    ensures { IfOk result (λ job. IsSomeAnd job (λ job. task_of_job job ≡ on_files (Check cert.now) (a.now ∷ b.now ∷ []) turns)) }
 {
-    let cert = name_of(alloc, cert)?;
-    let a = name_of(alloc, a)?;
-    let b = name_of(alloc, b)?;
-    Ok(Job::Check { cert, a, b, turns })
+    let (cert, (a, b)) = beside(name_of(alloc, cert)?, two_names(alloc, a, b))?;
+    Ok(Some(Job::Check { cert, a, b, turns }))
 }
 
 /// The job of a command and the values after its word, files' names or numbers; none where a value is no such number, or where the command
@@ -155,37 +168,30 @@ pub(crate) fn job_on(
     ensures turns { IfOk result (λ job. IfSome job (λ job. (task_of_job job).turns ≡ turns)) }
     ensures range { IfOk result (λ job. IfSome job (λ job. IsInRange (task_of_job job).command)) }
 {
-    Ok(match command {
+    match command {
         CommandWord::OneFile(command) => {
             let file = name_of(alloc, values[0])?;
-            Some(on_one_file(command, file, turns))
+            Ok(Some(on_one_file(command, file, turns)))
         }
         CommandWord::TwoFiles(command) => {
-            let a = name_of(alloc, values[0])?;
-            let b = name_of(alloc, values[1])?;
-            Some(on_two_files(command, a, b, turns))
+            let (a, b) = two_names(alloc, values[0], values[1])?;
+            Ok(Some(on_two_files(command, a, b, turns)))
         }
         CommandWord::UnderGain(command) => {
             let Some(gain) = gain_of_option(alloc, arguments.gain)? else {
                 return Ok(None);
             };
-            let file = name_of(alloc, values[0])?;
-            Some(under_gain(command, file, gain, turns))
+            let (gain, file) = beside(gain, name_of(alloc, values[0]))?;
+            Ok(Some(under_gain(command, file, gain, turns)))
         }
-        CommandWord::WithPair(command) => with_pair(alloc, command, values, turns)?,
+        CommandWord::WithPair(command) => with_pair(alloc, command, values, turns),
         CommandWord::Make => {
             let Some(n) = parse_observations(values[0]) else {
                 return Ok(None);
             };
-            Some(Job::Make { n, turns })
+            Ok(Some(Job::Make { n, turns }))
         }
-        CommandWord::Refine => Some(refine_job(
-            alloc,
-            values[0],
-            values[1],
-            arguments.json,
-            turns,
-        )?),
-        CommandWord::Check => Some(check_job(alloc, values[0], values[1], values[2], turns)?),
-    })
+        CommandWord::Refine => refine_job(alloc, values[0], values[1], arguments.json, turns),
+        CommandWord::Check => check_job(alloc, values[0], values[1], values[2], turns),
+    }
 }

@@ -1,8 +1,8 @@
 ghost use Rattle.std.specs.Prelude.{◌≡◌, ◌≤◌, IfOk, IfSome, IsErrOf, None, Some, map, option_map, string_bytes};
 ghost use Rattle.kf_words.specs.CommandViews.{arguments_meant};
 ghost use Rattle.kf_words.specs.Jobs.{task_of_job, HasTurns, IsInRange};
-ghost use Rattle.kf_words.specs.Task.{task_of, turns_of};
-ghost use Rattle.kf_words.specs.OfWords.{task_of_arguments};
+ghost use Rattle.kf_words.specs.Task.{task_of};
+ghost use Rattle.kf_words.specs.OfWords.{task_of_arguments, turns_of};
 
 use crate::arguments::{Arguments, arguments_of, matches_of};
 use crate::commands::{options_fit, row_of};

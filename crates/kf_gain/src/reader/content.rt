@@ -6,10 +6,10 @@ ghost use Rattle.serde_json.specs.View.{view};
 ghost use Rattle.kf_value.specs.Views.{items_of};
 ghost use Rattle.kf_gain.specs.declared.error.TableError.TheVariants as broken;
 ghost use Rattle.kf_json.specs.Json.{members as member_list, at_place, whole_of};
-ghost use Rattle.kf_gain.specs.Tables.{actions_at, gains_at, value_texts, action_names, is_value_text};
+ghost use Rattle.kf_gain.specs.Tables.{actions_at, gains_at, value_texts, is_value_text};
 ghost use Rattle.kf_json.specs.Rules.{are_distinct as distinct};
 ghost use Rattle.kf_gain.specs.Reading.{IsEntry, IsRead};
-ghost use Rattle.kf_gain.specs.Forms.{all_known, all_once};
+ghost use Rattle.kf_gain.specs.Forms.{all_known, all_once, action_names};
 
 use crate::{Action, GainEntry, GainEntryList, TableError};
 use kf_json::{are_distinct, members, text, whole_or_zero};

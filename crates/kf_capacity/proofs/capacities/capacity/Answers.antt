@@ -1,4 +1,4 @@
-use Rattle.std.proofs.Common.{◌≡◌, ◌≤◌, pos, to_z, Result, Ok, Err, Some, SomeIff, true≢false, sum_by, arith, sym, subst}
+use Rattle.std.proofs.Common.{◌≡◌, ◌≤◌, pos, to_z, Result, Ok, Err, Some, SomeIff, true≢false, arith, sym, subst}
 use Rattle.std.specs.Int.{w128}
 use Rattle.std.specs.Result.{IsOk, IsErr}
 use Rattle.std.proofs.lemmas.Int.{ints}
@@ -8,7 +8,6 @@ use Rattle.kf_frac.proofs.Scaling.{reduced_fit}
 use Rattle.kf_capacity.specs.Grids.{capacity_of}
 use Rattle.kf_capacity.specs.Views.{grid_tree}
 use Rattle.kf_capacity.proofs.capacities.capacity.Goals as goal
-use Rattle.kf_capacity.specs.Vulnerabilities.{greatest}
 
 not_both : {T E : Type 0} (r : Result T E) → IsOk r → IsErr r → ⊥
 not_both (Ok x) ok err = true≢false (sym err)
@@ -18,11 +17,10 @@ pub returns-clause-wide : goal.returns-clause-wide
 returns-clause-wide c =
     let sum = c.in_ok-sum.sum in
     let over = c.args.g.now.over in
-    let whole = sum_by greatest c.as_slice.result.now in
-    let found : c.sum_of_greatest.result ≡ Some sum = c.in_ok-sum.ensures.ok_part in
-    let exact : (whole ≤ limit) × (sum ≡ whole) = subst (λ o. SomeIff o (whole ≤ limit) whole) found c.sum_of_greatest.ensures in
-    let small : capacity_of (grid_tree c.args.g.now) ≤ limit = subst (λ cs. sum_by greatest cs ≤ limit) c.as_slice.ensures exact.0 in
+    let whole = capacity_of (grid_tree c.args.g.now) in
+    let found : c.sum_of_all.result ≡ Some sum = c.in_ok-sum.ensures.ok_part in
+    let exact : (whole ≤ limit) × (sum ≡ whole) = subst (λ o. SomeIff o (whole ≤ limit) whole) found c.sum_of_all.ensures in
     let same : to_z w128 sum ≡ pos sum = omega (arith, ints, exact.0, exact.1) in
     let fit : PartsFit (pos sum) over = record { num = omega (arith, ints, exact.0, exact.1); den = c.args.g.now.grid.narrow } in
     let fits = subst (λ n. PartsFit (reduced_num n over) (reduced_den n over)) (sym same) (reduced_fit (pos sum) over fit) in
-    (λ wide. absurd (not_both c.make.result (c.make.ensures.fits.1 fits) wide), λ wide. absurd (omega (arith, small, wide)))
+    (λ wide. absurd (not_both c.make.result (c.make.ensures.fits.1 fits) wide), λ wide. absurd (omega (arith, exact.0, wide)))

@@ -1,6 +1,6 @@
 use Rattle.std.proofs.Common.{◌<◌, arith, rules, ap, Err, inl, inr}
 use Rattle.std.proofs.lemmas.Result.{err_from_is_err_and}
-use Rattle.kf_capacity.specs.Compositions.{HaveSameRows}
+use Rattle.kf_capacity.specs.Cases.{HaveSameRows}
 use Rattle.kf_capacity.specs.Grids.{denominator}
 use Rattle.kf_capacity.specs.Views.{channel_tree}
 use Rattle.kf_capacity.proofs.Channels.{some_denominator}

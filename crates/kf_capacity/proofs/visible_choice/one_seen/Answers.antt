@@ -1,28 +1,28 @@
 use Rattle.std.proofs.Common.{◌≡◌, ◌*◌, ◌-◌, ◌/◌, ◌≤◌, ◌++◌, map, arith, subst, ap, ◌∙◌}
 use Rattle.kf_frac.specs.Fractions.{limit}
 use Rattle.kf_capacity.specs.Compositions.{times}
-use Rattle.kf_capacity.specs.Views.{grid_tree}
+use Rattle.kf_capacity.specs.Views.{listed_tree}
 use Rattle.kf_capacity.proofs.Fitting.{times_fit, either_grid}
 use Rattle.kf_capacity.proofs.visible_choice.one_seen.Goals as goal
 
 pub push_times-requires : goal.push_times-requires
 push_times-requires c =
-    let g = grid_tree c.args.g.now in
+    let g = listed_tree c.args.g.now in
     let narrow : c.in-Some.common * c.args.den ≤ limit = subst (λ n. c.in-Some.common * n ≤ limit) c.from.ensures c.in-Some-product.ensures.0 in
     rw (c.as_slice.ensures, c.from-2.ensures)
     (times_fit g c.args.g.now.grid.stochastic c.in-Some.common c.args.num c.args.den c.in-Some.ensures.least.left (omega arith) narrow)
 
 pub push_times-requires-2 : goal.push_times-requires-2
 push_times-requires-2 c =
-    let h = grid_tree c.args.h.now in
+    let h = listed_tree c.args.h.now in
     let narrow : c.in-Some.common * c.args.den ≤ limit = subst (λ n. c.in-Some.common * n ≤ limit) c.from.ensures c.in-Some-product.ensures.0 in
     rw (c.as_slice-2.ensures, c.from-3.ensures)
     (times_fit h c.args.h.now.grid.stochastic c.in-Some.common (c.args.den - c.args.num) c.args.den c.in-Some.ensures.least.right (omega arith) narrow)
 
 pub invariant_of-result : goal.invariant_of-result
 invariant_of-result c =
-    let g = grid_tree c.args.g.now in
-    let h = grid_tree c.args.h.now in
+    let g = listed_tree c.args.g.now in
+    let h = listed_tree c.args.h.now in
     let over : c.in-Some-product.over ≡ c.in-Some.common * c.args.den = c.in-Some-product.ensures.1 ∙ ap (λ n. c.in-Some.common * n) c.from.ensures in
     let narrow : c.in-Some-product.over ≤ limit = omega (arith, c.in-Some-product.ensures.0, c.in-Some-product.ensures.1) in
     let first : c.push_times.new.made.items ≡ map (times (c.in-Some.common / g.over * c.args.num)) g.columns =

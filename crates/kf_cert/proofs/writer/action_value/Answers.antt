@@ -4,7 +4,7 @@ use Rattle.serde_json.specs.View.{members_view, view}
 use Rattle.serde_json.specs.declared.value.Value.TheVariants.{Array}
 use Rattle.serde_json.proofs.Views.{view-Array, view-Object}
 use Rattle.kf_value.specs.Views.{items_of}
-use Rattle.kf_cert.specs.CertTexts.{gain_data}
+use Rattle.kf_cert.specs.Parts.{gain_data}
 use Rattle.kf_cert.proofs.Putting.{listed, text_put}
 use Rattle.kf_cert.proofs.writer.action_value.Goals as goal
 

@@ -1,6 +1,7 @@
 use Rattle.std.proofs.Common.{◌≡◌, ◌++◌, map, drop}
 use Rattle.serde_json.specs.View.{view}
-use Rattle.kf_cert.specs.CertTexts.{entry_data, row_entries}
+use Rattle.kf_cert.specs.CertTexts.{row_entries}
+use Rattle.kf_cert.specs.Parts.{entry_data}
 use Rattle.kf_cert.specs.Rows.{row_tree}
 use Rattle.kf_cert.proofs.writer.add_row.Given as goal
 

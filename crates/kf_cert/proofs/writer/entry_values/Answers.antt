@@ -1,7 +1,8 @@
 use Rattle.std.proofs.Common.{◌+◌, ◌++◌, ◌∙◌, ap, map}
 use Rattle.std.proofs.lemmas.List.{map-append}
 use Rattle.serde_json.specs.View.{view}
-use Rattle.kf_cert.specs.CertTexts.{entry_data, row_entries}
+use Rattle.kf_cert.specs.CertTexts.{row_entries}
+use Rattle.kf_cert.specs.Parts.{entry_data}
 use Rattle.kf_cert.specs.Rows.{row_tree, rows_tree}
 use Rattle.kf_cert.proofs.Pieces.{piece_added}
 use Rattle.kf_cert.proofs.writer.entry_values.Goals as goal

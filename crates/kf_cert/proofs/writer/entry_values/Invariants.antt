@@ -1,6 +1,6 @@
 use Rattle.std.proofs.Common.{◌≡◌, ◌++◌, map, drop}
 use Rattle.serde_json.specs.View.{view}
-use Rattle.kf_cert.specs.CertTexts.{entry_data}
+use Rattle.kf_cert.specs.Parts.{entry_data}
 use Rattle.kf_cert.specs.Rows.{rows_tree}
 use Rattle.kf_cert.proofs.writer.entry_values.Given as goal
 use Rattle.kf_cert.specs.Order.{rows_entries}

@@ -3,7 +3,7 @@ use Rattle.std.proofs.lemmas.List.{get_or_default, map-append}
 use Rattle.serde_json.specs.View.{view}
 use Rattle.kf_value.specs.Views.{items_of}
 use Rattle.kf_gain.specs.declared.table.GainEntry.{GainEntry}
-use Rattle.kf_cert.specs.CertTexts.{gain_data}
+use Rattle.kf_cert.specs.Parts.{gain_data}
 use Rattle.kf_cert.proofs.Pieces.{piece_added}
 use Rattle.kf_cert.proofs.writer.gain_values.Goals as goal
 

@@ -1,7 +1,7 @@
 use Rattle.std.proofs.Common.{◌≡◌, ◌++◌, map, drop}
 use Rattle.serde_json.specs.View.{view}
 use Rattle.kf_value.specs.Views.{items_of}
-use Rattle.kf_cert.specs.CertTexts.{gain_data}
+use Rattle.kf_cert.specs.Parts.{gain_data}
 use Rattle.kf_cert.proofs.writer.gain_values.Given as goal
 
 abbrev pub invariant-loop-entry : goal.invariant-loop-entry

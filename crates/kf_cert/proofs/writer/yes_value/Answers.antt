@@ -1,7 +1,7 @@
 use Rattle.std.proofs.Common.{codes, length, map, sym, ap, ◌∙◌}
 use Rattle.std.proofs.lemmas.List.{length-map}
 use Rattle.kf_refine.specs.Views.{matrix_tree}
-use Rattle.kf_cert.specs.CertTexts.{entry_data}
+use Rattle.kf_cert.specs.Parts.{entry_data}
 use Rattle.kf_cert.specs.Order.{rows_entries, widest}
 use Rattle.kf_cert.specs.Rows.{row_tree, rows_tree}
 use Rattle.serde_json.proofs.Views.{view-Object}

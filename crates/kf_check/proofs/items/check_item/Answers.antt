@@ -47,7 +47,7 @@ returns-in_err-stores-clause-answer c stood ts same many counted =
     rw (passed c.from_residual-in_err-stores.result c.in_err-stores.field-0.0 c.from_residual-in_err-stores.ensures.1)
     (λ other.
     turn.initial_fails (variables_in c.args.declared.now) stood (map item_tree c.args.before.now) same ts c.args.item.now.name.at c.args.item.now.name.text c.in-Some.slot _ known (variable_of c.index-variable.result.now) found.0 found.1
-    c.args.item.now.initial c.if-not-item.false c.if-stands.ensures (c.len.result + c.args.copies) c.args.stores (place ∙ sym many) counted c.in_err-stores.field-0.0 c.in_err-stores.ensures)
+    c.args.item.now.initial c.if-not-item.false c.if-stands.ensures (c.len.result + c.args.copies) c.args.stores (place ∙ sym many) counted c.in_err-stores.field-0.0 (rw c.in_err-stores.ensures.err at c.grow.ensures))
 
 pub returns-clause-answer : goal.returns-clause-answer
 returns-clause-answer c stood ts same many counted =
@@ -55,5 +55,6 @@ returns-clause-answer c stood ts same many counted =
     let found = turn.found_here c.args.declared.now.variables.items c.args.item.now.name.text c.in-Some.slot _ known c.index-variable.result.now c.index-variable.ensures in
     let all = length-map c.args.declared.now.variables.items variable_of in
     let place : c.len.result + c.args.copies ≡ length (variables_in c.args.declared.now) + c.args.copies = omega arith in
-    turn.initial_answer (variables_in c.args.declared.now) stood (map item_tree c.args.before.now) same ts c.args.item.now.name.at c.args.item.now.name.text c.in-Some.slot _ known (variable_of c.index-variable.result.now) found.0 found.1
-    c.args.item.now.initial c.if-not-item.false c.if-stands.ensures (c.len.result + c.args.copies) c.args.stores (place ∙ sym many) counted c.in_ok-stores.stores c.in_ok-stores.ensures c.args.copies place (item_of c.in_ok-read.read) c.in_ok-read.ensures
+    rw c.in_ok-stores.ensures.ok.1
+    (turn.initial_answer (variables_in c.args.declared.now) stood (map item_tree c.args.before.now) same ts c.args.item.now.name.at c.args.item.now.name.text c.in-Some.slot _ known (variable_of c.index-variable.result.now) found.0 found.1
+    c.args.item.now.initial c.if-not-item.false c.if-stands.ensures (c.len.result + c.args.copies) c.args.stores (place ∙ sym many) counted c.in_ok-stores.stores (rw c.in_ok-stores.ensures.ok.0 at c.grow.ensures) c.args.copies place (item_of c.in_ok-read.read) c.in_ok-read.ensures)

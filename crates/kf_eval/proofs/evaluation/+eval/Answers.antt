@@ -1,5 +1,4 @@
 use Rattle.std.proofs.Common.{◌≡◌, ◌+◌, rules, [], ◌∷◌, length, map, drop, refl, sym, ap, ◌∙◌, subst, arith}
-use Rattle.std.proofs.lemmas.List.{length-map}
 use Rattle.std.proofs.lemmas.Result.{err_from_is_err_and}
 use Rattle.kf_value.specs.Views.{value_tree}
 use Rattle.kf_value.proofs.ListLemmas.{left_step, left_end}
@@ -13,7 +12,7 @@ use Rattle.kf_core.specs.Each.{exs}
 use Rattle.kf_ops.specs.declared.row.Op.TheVariants as op
 use Rattle.kf_eval.specs.Answers.{Answers}
 use Rattle.kf_eval.specs.Kinds.{shape_kinds}
-use Rattle.kf_eval.proofs.Checking.{apply_tree, calls_row, needed, row_within, each_kinded, parts_kinded, members_kinded, fits_row, has_part, store_kinds, slot_within, slot_value, or_first, and_first, cond_second, needs_all, row_stops, row_answers, nth_kinded, first_stops, one_value, second_stops, two_values, values_start, values_step, values_fault, values_end}
+use Rattle.kf_eval.proofs.Checking.{apply_tree, calls_row, row_within, parts_kinded, members_kinded, fits_row, has_part, store_kinds, slot_within, slot_answers, or_first, and_first, cond_second, needs_all, row_stops, row_answers, nth_kinded, first_stops, one_value, second_stops, two_values, values_start, values_step, values_fault, values_end, called, arguments_kinded}
 use Rattle.kf_eval.proofs.evaluation.+eval.Goals as goal
 
 pub or-returns-then-is_true : goal.or-returns-then-is_true
@@ -40,24 +39,15 @@ operation-code_at-requires t c =
 
 pub operation-or-requires : goal.operation-or-requires
 operation-or-requires t c =
-    let ks = shape_kinds c.args.shape.now in
-    let calls = calls_row ks c.args.row (map ex_tree c.args.args.now) c.requires.kinded in
-    let enough = needed ks c.args.row (map ex_tree c.args.args.now) calls op.Or c.in-Or.ensures in
-    (search rules, (c.requires.store, (sym (length-map c.args.args.now ex_tree) ∙ enough, each_kinded ks calls.args)))
+    (search rules, (c.requires.store, called (shape_kinds c.args.shape.now) c.args.row c.args.args.now c.requires.kinded op.Or c.in-Or.ensures))
 
 pub operation-and-requires : goal.operation-and-requires
 operation-and-requires t c =
-    let ks = shape_kinds c.args.shape.now in
-    let calls = calls_row ks c.args.row (map ex_tree c.args.args.now) c.requires.kinded in
-    let enough = needed ks c.args.row (map ex_tree c.args.args.now) calls op.And c.in-And.ensures in
-    (search rules, (c.requires.store, (sym (length-map c.args.args.now ex_tree) ∙ enough, each_kinded ks calls.args)))
+    (search rules, (c.requires.store, called (shape_kinds c.args.shape.now) c.args.row c.args.args.now c.requires.kinded op.And c.in-And.ensures))
 
 pub operation-cond-requires : goal.operation-cond-requires
 operation-cond-requires t c =
-    let ks = shape_kinds c.args.shape.now in
-    let calls = calls_row ks c.args.row (map ex_tree c.args.args.now) c.requires.kinded in
-    let enough = needed ks c.args.row (map ex_tree c.args.args.now) calls op.Cond c.in-Cond.ensures in
-    (search rules, (c.requires.store, (sym (length-map c.args.args.now ex_tree) ∙ enough, each_kinded ks calls.args)))
+    (search rules, (c.requires.store, called (shape_kinds c.args.shape.now) c.args.row c.args.args.now c.requires.kinded op.Cond c.in-Cond.ensures))
 
 pub operation-strict-requires : goal.operation-strict-requires
 operation-strict-requires t c = (search rules, (c.requires.store, c.requires.kinded))
@@ -71,9 +61,8 @@ pub strict-value_of-requires : goal.strict-value_of-requires
 strict-value_of-requires t c =
     let ks = shape_kinds c.args.shape.now in
     let args = c.args.args.now in
-    let calls = calls_row ks c.args.row (map ex_tree args) c.requires.kinded in
     let long : length args ≡ 1 = omega (arith, c.in-len1.len_at_least, c.in-len1.len_below) in
-    (search (rules, the_lemmas), (c.requires.store, nth_kinded ks args 0 c.x-item.result (each_kinded ks calls.args) (omega (arith, long)) c.x-item.is))
+    (search (rules, the_lemmas), (c.requires.store, nth_kinded ks args 0 c.x-item.result (arguments_kinded ks c.args.row args c.requires.kinded) (omega (arith, long)) c.x-item.is))
 
 pub strict-returns-in_err-a-in-len1 : goal.strict-returns-in_err-a-in-len1
 strict-returns-in_err-a-in-len1 t c =
@@ -110,9 +99,8 @@ pub strict-value_of-requires-in-len2 : goal.strict-value_of-requires-in-len2
 strict-value_of-requires-in-len2 t c =
     let ks = shape_kinds c.args.shape.now in
     let args = c.args.args.now in
-    let calls = calls_row ks c.args.row (map ex_tree args) c.requires.kinded in
     let long : length args ≡ 2 = omega (arith, c.in-len2.len_at_least, c.in-len2.len_below) in
-    (search (rules, the_lemmas), (c.requires.store, nth_kinded ks args 0 c.x-item-then-args-lt3.result (each_kinded ks calls.args) (omega (arith, long)) c.x-item-then-args-lt3.is))
+    (search (rules, the_lemmas), (c.requires.store, nth_kinded ks args 0 c.x-item-then-args-lt3.result (arguments_kinded ks c.args.row args c.requires.kinded) (omega (arith, long)) c.x-item-then-args-lt3.is))
 
 pub strict-returns-in_err-a-in-len2 : goal.strict-returns-in_err-a-in-len2
 strict-returns-in_err-a-in-len2 t c =
@@ -128,9 +116,8 @@ pub strict-value_of-requires-in-len2-2 : goal.strict-value_of-requires-in-len2-2
 strict-value_of-requires-in-len2-2 t c =
     let ks = shape_kinds c.args.shape.now in
     let args = c.args.args.now in
-    let calls = calls_row ks c.args.row (map ex_tree args) c.requires.kinded in
     let long : length args ≡ 2 = omega (arith, c.in-len2.len_at_least, c.in-len2.len_below) in
-    (search (rules, the_lemmas), (c.requires.store, nth_kinded ks args 1 c.y-item.result (each_kinded ks calls.args) (omega (arith, long)) c.y-item.is))
+    (search (rules, the_lemmas), (c.requires.store, nth_kinded ks args 1 c.y-item.result (arguments_kinded ks c.args.row args c.requires.kinded) (omega (arith, long)) c.y-item.is))
 
 pub strict-returns-in_err-b-in-len2 : goal.strict-returns-in_err-b-in-len2
 strict-returns-in_err-b-in-len2 t c =
@@ -167,8 +154,7 @@ pub strict-values_of-requires : goal.strict-values_of-requires
 strict-values_of-requires t c =
     let ks = shape_kinds c.args.shape.now in
     let args = c.args.args.now in
-    let calls = calls_row ks c.args.row (map ex_tree args) c.requires.kinded in
-    (search rules, (c.requires.store, each_kinded ks calls.args))
+    (search rules, (c.requires.store, arguments_kinded ks c.args.row args c.requires.kinded))
 
 pub strict-apply_row-requires-in_default : goal.strict-apply_row-requires-in_default
 strict-apply_row-requires-in_default t c =
@@ -203,10 +189,10 @@ value_of-part_at-requires t c =
     has_part c.evaluation_laws.ensures.kinds (shape_kinds c.args.shape.now) (store_at (shape_types c.args.shape.now) c.args.store) are c.args.e.now c.deref.result.now c.in-Part.of c.in-Part.k
     (value_tree c.in_ok-whole-in-Part.whole) c.in-Part.is c.deref.ensures c.requires.kinded c.in_ok-whole-in-Part.ensures
 
-pub value_of-returns-in_ok-value_in-in-Slot : goal.value_of-returns-in_ok-value_in-in-Slot
-value_of-returns-in_ok-value_in-in-Slot t c =
-    slot_value (store_at (shape_types c.args.shape.now) c.args.store) c.args.e.now c.in-Slot.i c.from.result (value_tree c.in_ok-value_in-in-Slot.field-0) c.in-Slot.is c.from.ensures
-    c.in_ok-value_in-in-Slot.ensures.value
+pub value_of-returns-in-Slot : goal.value_of-returns-in-Slot
+value_of-returns-in-Slot t c =
+    slot_answers (store_at (shape_types c.args.shape.now) c.args.store) c.args.e.now c.in-Slot.i c.from.result c.value_in.result c.map_err-in-Slot.result c.in-Slot.is c.from.ensures
+    c.value_in.ensures.value c.map_err-in-Slot.ensures.cases
 
 pub values_of-loop-ex-init : goal.values_of-loop-ex-init
 values_of-loop-ex-init t c =
@@ -238,3 +224,31 @@ value_of-returns-in-Apply t c =
     let same =
     apply_tree c.args.e.now c.in-Apply.row c.from-in-Apply.result c.in-Apply.args c.as_slice.result.now c.in-Apply.is c.from-in-Apply.ensures c.as_slice.ensures in
     subst (λ (e : ExTree). Answers c.operation.result (ev (store_at (shape_types c.args.shape.now) c.args.store) e)) same c.operation.ensures
+
+pub or-value_of-requires : goal.or-value_of-requires
+or-value_of-requires t c =
+    (search (rules, the_lemmas), (c.requires.store, nth_kinded (shape_kinds c.args.shape.now) c.args.args.now 0 c.index-args-0.result c.requires.kinded (omega (arith, c.requires.two)) c.index-args-0.is))
+
+pub or-value_of-requires-else-is_true : goal.or-value_of-requires-else-is_true
+or-value_of-requires-else-is_true t c =
+    (search (rules, the_lemmas), (c.requires.store, nth_kinded (shape_kinds c.args.shape.now) c.args.args.now 1 c.index-args-1.result c.requires.kinded (omega (arith, c.requires.two)) c.index-args-1.is))
+
+pub and-value_of-requires : goal.and-value_of-requires
+and-value_of-requires t c =
+    (search (rules, the_lemmas), (c.requires.store, nth_kinded (shape_kinds c.args.shape.now) c.args.args.now 0 c.index-args-0.result c.requires.kinded (omega (arith, c.requires.two)) c.index-args-0.is))
+
+pub and-value_of-requires-then-is_true : goal.and-value_of-requires-then-is_true
+and-value_of-requires-then-is_true t c =
+    (search (rules, the_lemmas), (c.requires.store, nth_kinded (shape_kinds c.args.shape.now) c.args.args.now 1 c.index-args-1.result c.requires.kinded (omega (arith, c.requires.two)) c.index-args-1.is))
+
+pub cond-value_of-requires : goal.cond-value_of-requires
+cond-value_of-requires t c =
+    (search (rules, the_lemmas), (c.requires.store, nth_kinded (shape_kinds c.args.shape.now) c.args.args.now 0 c.index-args-0.result c.requires.kinded (omega (arith, c.requires.three)) c.index-args-0.is))
+
+pub cond-value_of-requires-then-is_true : goal.cond-value_of-requires-then-is_true
+cond-value_of-requires-then-is_true t c =
+    (search (rules, the_lemmas), (c.requires.store, nth_kinded (shape_kinds c.args.shape.now) c.args.args.now 1 c.index-args-1.result c.requires.kinded (omega (arith, c.requires.three)) c.index-args-1.is))
+
+pub cond-value_of-requires-else-is_true : goal.cond-value_of-requires-else-is_true
+cond-value_of-requires-else-is_true t c =
+    (search (rules, the_lemmas), (c.requires.store, nth_kinded (shape_kinds c.args.shape.now) c.args.args.now 2 c.index-args-2.result c.requires.kinded (omega (arith, c.requires.three)) c.index-args-2.is))

@@ -1,9 +1,11 @@
 use Rattle.std.proofs.Common.{Ok, sym, ap, ◌∙◌}
 use Rattle.kf_value.specs.Shapes.{shape_types}
 use Rattle.kf_core.specs.Runs.{store_at}
+use Rattle.kf_core.specs.Evaluation.{ev}
 use Rattle.kf_core.specs.Views.{ex_tree}
+use Rattle.kf_eval.specs.Answers.{Answers}
 use Rattle.kf_eval.specs.Kinds.{shape_kinds}
-use Rattle.kf_eval.proofs.Checking.{store_kinds, answer_at, answer_kind}
+use Rattle.kf_eval.proofs.Checking.{at_store, answer_kind, store_kinds}
 use Rattle.kf_eval.proofs.evaluation.eval.Goals as goal
 
 pub returns-in-Some-clause-kind : goal.returns-in-Some-clause-kind
@@ -13,7 +15,7 @@ returns-in-Some-clause-kind c = λ k kinded.
     (c.in-Some.ensures ∙ ap (λ v. Ok v) (sym c.value_from.ensures))
 
 pub returns-in-None-clause-value : goal.returns-in-None-clause-value
-returns-in-None-clause-value c = λ s is. answer_at c.args.shape.now c.args.store s (ex_tree c.args.e.now) c.value_of.result is c.value_of.ensures
+returns-in-None-clause-value c = λ s is. at_store c.args.shape.now c.args.store s is (λ t. Answers c.value_of.result (ev t (ex_tree c.args.e.now))) c.value_of.ensures
 
 pub returns-in-None-clause-kind : goal.returns-in-None-clause-kind
 returns-in-None-clause-kind c = λ k kinded.

@@ -29,3 +29,11 @@ loop-i-preserved c =
             all = passed pass c.loop-i.i c.loop-i.slots.items c.if-dist_reads.slots.items before.all is (sym c.dist_reads.ensures ∙ w.if-dist_reads.false);
           }
     ]
+
+pub returns-clause-within : goal.returns-clause-within
+returns-clause-within c = c.loop-i.invariant.within
+
+pub returns-clause-all : goal.returns-clause-all
+returns-clause-all c = λ i within is.
+    let long = types_length c.args.shape.now c.types.result.now c.as_slice-i-end.result.now c.types.ensures c.as_slice-i-end.ensures in
+    c.loop-i.invariant.all i (omega (arith, within, long, c.loop-i-test.false)) is

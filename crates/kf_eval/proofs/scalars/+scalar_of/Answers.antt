@@ -1,5 +1,4 @@
 use Rattle.std.proofs.Common.{◌+◌, ◌<◌, ◌&&◌, ◌||◌, rules, length, map, drop, sym, ap, ◌∙◌, subst, arith}
-use Rattle.std.proofs.lemmas.List.{length-map}
 use Rattle.kf_value.proofs.ListLemmas.{left_step, left_end}
 use Rattle.kf_value.specs.Shapes.{shape_types}
 use Rattle.kf_core.specs.Evaluation.{Evaluated, ev}
@@ -10,7 +9,7 @@ use Rattle.kf_core.specs.declared.ex.Ex.{the_lemmas}
 use Rattle.kf_ops.specs.declared.row.Op.TheVariants as op
 use Rattle.kf_eval.specs.Kinds.{shape_kinds}
 use Rattle.kf_eval.specs.Scalars.{Tells, scalar_tree}
-use Rattle.kf_eval.proofs.Checking.{and_first, apply_tree, calls_row, cond_second, each_kinded, needed, nth_kinded, or_first, row_within, slot_within}
+use Rattle.kf_eval.proofs.Checking.{and_first, apply_tree, calls_row, cond_second, nth_kinded, or_first, row_within, slot_within, called, arguments_kinded}
 use Rattle.kf_eval.proofs.Comparing.{pairs_end, pairs_start, pairs_step, tuples_compare, written_kinded}
 use Rattle.kf_eval.proofs.Finding.{listed_kinded, members_end, members_start, members_step, set_tells}
 use Rattle.kf_eval.proofs.Variables.{slot_tells}
@@ -44,63 +43,39 @@ operation-code_at-code-requires t c =
 
 pub operation-or-requires : goal.operation-or-requires
 operation-or-requires t c =
-    let ks = shape_kinds c.args.shape.now in
-    let calls = calls_row ks c.args.row (map ex_tree c.args.args.now) c.requires.kinded in
-    let enough = needed ks c.args.row (map ex_tree c.args.args.now) calls op.Or c.in-Or.ensures in
-    (search rules, (c.requires.store, (sym (length-map c.args.args.now ex_tree) ∙ enough, each_kinded ks calls.args)))
+    (search rules, (c.requires.store, called (shape_kinds c.args.shape.now) c.args.row c.args.args.now c.requires.kinded op.Or c.in-Or.ensures))
 
 pub operation-and-requires : goal.operation-and-requires
 operation-and-requires t c =
-    let ks = shape_kinds c.args.shape.now in
-    let calls = calls_row ks c.args.row (map ex_tree c.args.args.now) c.requires.kinded in
-    let enough = needed ks c.args.row (map ex_tree c.args.args.now) calls op.And c.in-And.ensures in
-    (search rules, (c.requires.store, (sym (length-map c.args.args.now ex_tree) ∙ enough, each_kinded ks calls.args)))
+    (search rules, (c.requires.store, called (shape_kinds c.args.shape.now) c.args.row c.args.args.now c.requires.kinded op.And c.in-And.ensures))
 
 pub operation-cond-requires : goal.operation-cond-requires
 operation-cond-requires t c =
-    let ks = shape_kinds c.args.shape.now in
-    let calls = calls_row ks c.args.row (map ex_tree c.args.args.now) c.requires.kinded in
-    let enough = needed ks c.args.row (map ex_tree c.args.args.now) calls op.Cond c.in-Cond.ensures in
-    (search rules, (c.requires.store, (sym (length-map c.args.args.now ex_tree) ∙ enough, each_kinded ks calls.args)))
+    (search rules, (c.requires.store, called (shape_kinds c.args.shape.now) c.args.row c.args.args.now c.requires.kinded op.Cond c.in-Cond.ensures))
 
 pub operation-same_parts-requires : goal.operation-same_parts-requires
 operation-same_parts-requires t c =
-    let ks = shape_kinds c.args.shape.now in
-    let calls = calls_row ks c.args.row (map ex_tree c.args.args.now) c.requires.kinded in
-    let enough = needed ks c.args.row (map ex_tree c.args.args.now) calls op.Equal c.in-Equal.ensures in
-    (search rules, (c.requires.store, (sym (length-map c.args.args.now ex_tree) ∙ enough, each_kinded ks calls.args)))
+    (search rules, (c.requires.store, called (shape_kinds c.args.shape.now) c.args.row c.args.args.now c.requires.kinded op.Equal c.in-Equal.ensures))
 
 pub operation-same_parts-requires-in-NotEqual : goal.operation-same_parts-requires-in-NotEqual
 operation-same_parts-requires-in-NotEqual t c =
-    let ks = shape_kinds c.args.shape.now in
-    let calls = calls_row ks c.args.row (map ex_tree c.args.args.now) c.requires.kinded in
-    let enough = needed ks c.args.row (map ex_tree c.args.args.now) calls op.NotEqual c.in-NotEqual.ensures in
-    (search rules, (c.requires.store, (sym (length-map c.args.args.now ex_tree) ∙ enough, each_kinded ks calls.args)))
+    (search rules, (c.requires.store, called (shape_kinds c.args.shape.now) c.args.row c.args.args.now c.requires.kinded op.NotEqual c.in-NotEqual.ensures))
 
 pub operation-is_listed-requires : goal.operation-is_listed-requires
 operation-is_listed-requires t c =
-    let ks = shape_kinds c.args.shape.now in
-    let calls = calls_row ks c.args.row (map ex_tree c.args.args.now) c.requires.kinded in
-    let enough = needed ks c.args.row (map ex_tree c.args.args.now) calls op.Elem c.in-Elem.ensures in
-    (search rules, (c.requires.store, (sym (length-map c.args.args.now ex_tree) ∙ enough, each_kinded ks calls.args)))
+    (search rules, (c.requires.store, called (shape_kinds c.args.shape.now) c.args.row c.args.args.now c.requires.kinded op.Elem c.in-Elem.ensures))
 
 pub operation-strict-requires : goal.operation-strict-requires
 operation-strict-requires t c =
-    let ks = shape_kinds c.args.shape.now in
-    let calls = calls_row ks c.args.row (map ex_tree c.args.args.now) c.requires.kinded in
-    (search rules, (c.requires.store, each_kinded ks calls.args))
+    (search rules, (c.requires.store, arguments_kinded (shape_kinds c.args.shape.now) c.args.row c.args.args.now c.requires.kinded))
 
 pub operation-strict-requires-in-None-same_parts : goal.operation-strict-requires-in-None-same_parts
 operation-strict-requires-in-None-same_parts t c =
-    let ks = shape_kinds c.args.shape.now in
-    let calls = calls_row ks c.args.row (map ex_tree c.args.args.now) c.requires.kinded in
-    (search rules, (c.requires.store, each_kinded ks calls.args))
+    (search rules, (c.requires.store, arguments_kinded (shape_kinds c.args.shape.now) c.args.row c.args.args.now c.requires.kinded))
 
 pub operation-strict-requires-in_default : goal.operation-strict-requires-in_default
 operation-strict-requires-in_default t c =
-    let ks = shape_kinds c.args.shape.now in
-    let calls = calls_row ks c.args.row (map ex_tree c.args.args.now) c.requires.kinded in
-    (search rules, (c.requires.store, each_kinded ks calls.args))
+    (search rules, (c.requires.store, arguments_kinded (shape_kinds c.args.shape.now) c.args.row c.args.args.now c.requires.kinded))
 
 pub same_parts-loop-i-init : goal.same_parts-loop-i-init
 same_parts-loop-i-init t c =
@@ -185,3 +160,31 @@ scalar_of-returns-in-Apply t c =
     let same =
     apply_tree c.args.e.now c.in-Apply.row c.from-in-Apply.result c.in-Apply.args c.as_slice.result.now c.in-Apply.is c.from-in-Apply.ensures c.as_slice.ensures in
     subst (λ (e : ExTree). Tells c.operation.result (ev (store_at (shape_types c.args.shape.now) c.args.store) e)) same c.operation.ensures
+
+pub or-scalar_of-requires : goal.or-scalar_of-requires
+or-scalar_of-requires t c =
+    (search (rules, the_lemmas), (c.requires.store, nth_kinded (shape_kinds c.args.shape.now) c.args.args.now 0 c.index-args-0.result c.requires.kinded (omega (arith, c.requires.two)) c.index-args-0.is))
+
+pub or-scalar_of-requires-else-is_true : goal.or-scalar_of-requires-else-is_true
+or-scalar_of-requires-else-is_true t c =
+    (search (rules, the_lemmas), (c.requires.store, nth_kinded (shape_kinds c.args.shape.now) c.args.args.now 1 c.index-args-1.result c.requires.kinded (omega (arith, c.requires.two)) c.index-args-1.is))
+
+pub and-scalar_of-requires : goal.and-scalar_of-requires
+and-scalar_of-requires t c =
+    (search (rules, the_lemmas), (c.requires.store, nth_kinded (shape_kinds c.args.shape.now) c.args.args.now 0 c.index-args-0.result c.requires.kinded (omega (arith, c.requires.two)) c.index-args-0.is))
+
+pub and-scalar_of-requires-then-is_true : goal.and-scalar_of-requires-then-is_true
+and-scalar_of-requires-then-is_true t c =
+    (search (rules, the_lemmas), (c.requires.store, nth_kinded (shape_kinds c.args.shape.now) c.args.args.now 1 c.index-args-1.result c.requires.kinded (omega (arith, c.requires.two)) c.index-args-1.is))
+
+pub cond-scalar_of-requires : goal.cond-scalar_of-requires
+cond-scalar_of-requires t c =
+    (search (rules, the_lemmas), (c.requires.store, nth_kinded (shape_kinds c.args.shape.now) c.args.args.now 0 c.index-args-0.result c.requires.kinded (omega (arith, c.requires.three)) c.index-args-0.is))
+
+pub cond-scalar_of-requires-then-is_true : goal.cond-scalar_of-requires-then-is_true
+cond-scalar_of-requires-then-is_true t c =
+    (search (rules, the_lemmas), (c.requires.store, nth_kinded (shape_kinds c.args.shape.now) c.args.args.now 1 c.index-args-1.result c.requires.kinded (omega (arith, c.requires.three)) c.index-args-1.is))
+
+pub cond-scalar_of-requires-else-is_true : goal.cond-scalar_of-requires-else-is_true
+cond-scalar_of-requires-else-is_true t c =
+    (search (rules, the_lemmas), (c.requires.store, nth_kinded (shape_kinds c.args.shape.now) c.args.args.now 2 c.index-args-2.result c.requires.kinded (omega (arith, c.requires.three)) c.index-args-2.is))

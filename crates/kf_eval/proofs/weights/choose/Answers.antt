@@ -1,5 +1,6 @@
 use Rattle.std.proofs.Common.{Ok, ◌+◌, ◌∙◌, map, drop, ap, arith}
 use Rattle.std.proofs.lemmas.List.{length-map, nil_from_length}
+use Rattle.std.proofs.lemmas.Result.{err_from_is_err_and}
 use Rattle.kf_value.proofs.ListLemmas.{left_step, left_end}
 use Rattle.kf_value.specs.Shapes.{shape_types}
 use Rattle.kf_core.specs.Runs.{store_at}
@@ -8,7 +9,7 @@ use Rattle.kf_eval.specs.Choices.{weighted_tree}
 use Rattle.kf_eval.specs.Gathering.{at_most_one}
 use Rattle.kf_eval.specs.Kinds.{shape_kinds}
 use Rattle.kf_eval.proofs.Placing.{trees}
-use Rattle.kf_eval.proofs.Weighing.{case_parts, cases_start, cases_pass, cases_add, cases_none, cases_weights, some_counted, none_counted}
+use Rattle.kf_eval.proofs.Weighing.{case_parts, cases_start, cases_pass, cases_add, cases_fault, cases_none, cases_weights, some_counted, none_counted}
 use Rattle.kf_eval.proofs.weights.choose.Goals as goal
 use Rattle.kf_eval.proofs.weights.choose.Goals.{in-Some+in_ok-add, in_default}
 
@@ -28,6 +29,19 @@ weighed-requires-clause-weight c =
     let here = left_step dx_case_tree c.args.cases.now c.loop-case.case-index c.case-item.result (omega arith) c.case-item.is in
     let so_far = rw here at c.loop-case.invariant in
     (case_parts so_far.kinded).1
+
+pub weighed-requires-clause-store : goal.weighed-requires-clause-store
+weighed-requires-clause-store c = c.requires.store
+
+pub returns-in_err-item : goal.returns-in_err-item
+returns-in_err-item c =
+    let here = left_step dx_case_tree c.args.cases.now c.loop-case.case-index c.case-item.result (omega arith) c.case-item.is in
+    let so_far = rw here at c.loop-case.invariant in
+    let p = err_from_is_err_and c.from_residual-in_err-item.result c.from_residual-in_err-item.ensures.1 in
+    rw (p.1, p.2)
+    (cases_fault (shape_kinds c.args.shape.now) (store_at (shape_types c.args.shape.now) c.args.store) (map dx_case_tree c.args.cases.now)
+    (map dx_case_tree (drop (c.loop-case.case-index + 1) c.args.cases.now)) (ex_tree c.case-item.result.value) (ex_tree c.case-item.result.weight) (trees c.loop-case.items.items)
+    c.loop-case.case-index so_far c.in_err-item.field-0.0 c.in_err-item.ensures.listed)
 
 pub loop-case-preserved : goal.loop-case-preserved
 loop-case-preserved c =

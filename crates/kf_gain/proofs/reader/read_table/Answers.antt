@@ -8,7 +8,8 @@ use Rattle.kf_json.specs.Json.{json_of}
 use Rattle.kf_gain.specs.declared.error.TableError.{TableError}
 use Rattle.kf_gain.specs.declared.error.TableError.TheVariants as broken
 use Rattle.kf_gain.specs.declared.table.GainTable.{GainTable}
-use Rattle.kf_gain.specs.Tables.{IsTable, IsTableOf, fault_in}
+use Rattle.kf_gain.specs.Tables.{IsTable, IsTableOf}
+use Rattle.kf_gain.specs.Forms.{fault_in}
 use Rattle.kf_gain.specs.Views.{table_tree}
 use Rattle.kf_gain.proofs.Judging.{answer_table, answer_fault}
 use Rattle.kf_gain.proofs.reader.read_table.Goals as goal

@@ -2,7 +2,7 @@ use Rattle.std.proofs.Common.{◌≡◌, ◌∙◌, ℕ, List, Option, sym, subs
 use Rattle.kf_ops.specs.Rows.{Row, operators}
 use Rattle.kf_ops.specs.Views.{row_of, rows_of}
 use Rattle.kf_ops.specs.declared.row.Op.{Op}
-use Rattle.kf_lex.specs.Words.{operator_with}
+use Rattle.kf_lex.specs.Operators.{operator_with}
 use Rattle.kf_lex.proofs.Spelling.{differs, found, unchosen}
 use Rattle.kf_lex.proofs.words.operator_with.Goals as goal
 

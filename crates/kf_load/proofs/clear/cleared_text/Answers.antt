@@ -31,3 +31,15 @@ pub returns-in-Err-Scale-clause-answer : goal.returns-in-Err-Scale-clause-answer
 returns-in-Err-Scale-clause-answer c source =
     let wide = c.in-Err-Scale.ensures.scale (ap Err c.in-Err-Scale.field-0-is) in
     too_wide c.args.turns (record { name = c.args.name.now; bytes = c.args.bytes.now; source = source; program = program_tree c.args.program }) wide.0 wide.1
+
+pub clear-requires : goal.clear-requires
+clear-requires c = record { checked = c.requires.checked; some_turns = c.requires.some_turns; few_turns = c.requires.few_turns }
+
+pub place-line-requires : goal.place-line-requires
+place-line-requires c = c.requires.short
+
+pub returns-in-Ok-clause-program : goal.returns-in-Ok-clause-program
+returns-in-Ok-clause-program c = ap program_tree c.in-Ok.ensures.cleared.0
+
+pub returns-in-Ok-clause-turns : goal.returns-in-Ok-clause-turns
+returns-in-Ok-clause-turns c = c.in-Ok.ensures.cleared.1

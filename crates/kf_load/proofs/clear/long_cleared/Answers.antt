@@ -1,6 +1,7 @@
 use Rattle.std.proofs.lemmas.Result.{err_from_is_err_and}
 use Rattle.kf_load.specs.Steps.{Gives}
-use Rattle.kf_load.specs.Texts.{cleared, long_enough}
+use Rattle.kf_load.specs.Texts.{cleared}
+use Rattle.kf_load.specs.Refusals.{long_enough}
 use Rattle.kf_load.specs.Views.{program_in, text_of}
 use Rattle.kf_load.proofs.Stepwise.{first_stops, next_answers}
 use Rattle.kf_load.proofs.clear.long_cleared.Goals as goal

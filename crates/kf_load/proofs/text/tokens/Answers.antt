@@ -1,5 +1,6 @@
 use Rattle.std.proofs.Common.{ap, codes}
-use Rattle.kf_load.specs.Texts.{fault, token_fault}
+use Rattle.kf_load.specs.Texts.{token_fault}
+use Rattle.kf_load.specs.Refusals.{fault}
 use Rattle.kf_load.proofs.Faults.{bad_tokens}
 use Rattle.kf_load.proofs.text.tokens.Goals as goal
 

@@ -1,5 +1,6 @@
 use Rattle.std.proofs.Common.{ap, codes}
-use Rattle.kf_load.specs.Texts.{fault, syntax_fault}
+use Rattle.kf_load.specs.Texts.{syntax_fault}
+use Rattle.kf_load.specs.Refusals.{fault}
 use Rattle.kf_load.proofs.Faults.{bad_source}
 use Rattle.kf_load.proofs.text.tree.Goals as goal
 

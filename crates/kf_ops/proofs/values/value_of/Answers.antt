@@ -1,4 +1,4 @@
-use Rattle.kf_ops.proofs.Readings.{value_stays, wide_stays}
+use Rattle.kf_ops.proofs.Readings.{value_stays}
 use Rattle.kf_ops.proofs.values.value_of.Goals as goal
 
 pub returns-in-Or-clause-memory : goal.returns-in-Or-clause-memory
@@ -31,23 +31,14 @@ returns-in-AtLeast-clause-memory c = value_stays _
 pub returns-in-Elem-clause-memory : goal.returns-in-Elem-clause-memory
 returns-in-Elem-clause-memory c = value_stays _
 
-pub returns-in-Some-clause-memory : goal.returns-in-Some-clause-memory
-returns-in-Some-clause-memory c = value_stays _
+pub returns-in-Add-clause-memory : goal.returns-in-Add-clause-memory
+returns-in-Add-clause-memory c = λ is. absurd (c.narrowed.ensures.memory is)
 
-pub returns-in-None-clause-memory : goal.returns-in-None-clause-memory
-returns-in-None-clause-memory c = wide_stays
+pub returns-in-Subtract-clause-memory : goal.returns-in-Subtract-clause-memory
+returns-in-Subtract-clause-memory c = λ is. absurd (c.narrowed-in-Subtract.ensures.memory is)
 
-pub returns-in-Some-checked_sub-clause-memory : goal.returns-in-Some-checked_sub-clause-memory
-returns-in-Some-checked_sub-clause-memory c = value_stays _
-
-pub returns-in-None-checked_sub-clause-memory : goal.returns-in-None-checked_sub-clause-memory
-returns-in-None-checked_sub-clause-memory c = wide_stays
-
-pub returns-in-Some-checked_mul-clause-memory : goal.returns-in-Some-checked_mul-clause-memory
-returns-in-Some-checked_mul-clause-memory c = value_stays _
-
-pub returns-in-None-checked_mul-clause-memory : goal.returns-in-None-checked_mul-clause-memory
-returns-in-None-checked_mul-clause-memory c = wide_stays
+pub returns-in-Multiply-clause-memory : goal.returns-in-Multiply-clause-memory
+returns-in-Multiply-clause-memory c = λ is. absurd (c.narrowed-in-Multiply.ensures.memory is)
 
 pub returns-in-Div-clause-memory : goal.returns-in-Div-clause-memory
 returns-in-Div-clause-memory c = λ is. absurd (c.quotient.ensures.memory is)
@@ -55,11 +46,8 @@ returns-in-Div-clause-memory c = λ is. absurd (c.quotient.ensures.memory is)
 pub returns-in-Mod-clause-memory : goal.returns-in-Mod-clause-memory
 returns-in-Mod-clause-memory c = λ is. absurd (c.remainder.ensures.memory is)
 
-pub returns-in-Some-checked_neg-clause-memory : goal.returns-in-Some-checked_neg-clause-memory
-returns-in-Some-checked_neg-clause-memory c = value_stays _
-
-pub returns-in-None-checked_neg-clause-memory : goal.returns-in-None-checked_neg-clause-memory
-returns-in-None-checked_neg-clause-memory c = wide_stays
+pub returns-in-Negate-clause-memory : goal.returns-in-Negate-clause-memory
+returns-in-Negate-clause-memory c = λ is. absurd (c.narrowed-in-Negate.ensures.memory is)
 
 pub returns-in-Size-clause-memory : goal.returns-in-Size-clause-memory
 returns-in-Size-clause-memory c = value_stays _
@@ -79,8 +67,5 @@ returns-in-Min-clause-memory c = value_stays _
 pub returns-in-Max-clause-memory : goal.returns-in-Max-clause-memory
 returns-in-Max-clause-memory c = value_stays _
 
-pub returns-in-Some-checked_abs-clause-memory : goal.returns-in-Some-checked_abs-clause-memory
-returns-in-Some-checked_abs-clause-memory c = value_stays _
-
-pub returns-in-None-checked_abs-clause-memory : goal.returns-in-None-checked_abs-clause-memory
-returns-in-None-checked_abs-clause-memory c = wide_stays
+pub returns-in-Abs-clause-memory : goal.returns-in-Abs-clause-memory
+returns-in-Abs-clause-memory c = λ is. absurd (c.narrowed-in-Abs.ensures.memory is)

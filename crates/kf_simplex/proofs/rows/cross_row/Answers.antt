@@ -3,6 +3,7 @@ use Rattle.std.proofs.lemmas.Int.{to_z-of_z, ints}
 use mir.Syntax.{w128}
 use Rattle.kf_simplex.proofs.Crossing.{crossing_first, crossing_push, crossing_skip, crossing_whole}
 use Rattle.kf_simplex.proofs.Entries.{ascends_less, made_ascends}
+use Rattle.kf_simplex.proofs.FlatRows.{passed_narrow}
 use Rattle.kf_simplex.proofs.rows.cross_row.Goals as goal
 use Rattle.kf_simplex.proofs.rows.cross_row.Goals.{then-number-ne0+in_ok-push, else-number-ne0}
 
@@ -17,6 +18,12 @@ next_pair-requires-clause-first c = let so_far = c.loop-pair.invariant in ascend
 
 pub next_pair-requires-clause-second : goal.next_pair-requires-clause-second
 next_pair-requires-clause-second c = let so_far = c.loop-pair.invariant in ascends_less 0 so_far.0 c.loop-pair.ys.now (omega arith) so_far.1.second.ascending
+
+pub crossed-number-requires-clause-p : goal.crossed-number-requires-clause-p
+crossed-number-requires-clause-p c = passed_narrow c.args.p c.ranges.p c.requires.p
+
+pub crossed-number-requires-clause-a : goal.crossed-number-requires-clause-a
+crossed-number-requires-clause-a c = passed_narrow c.args.a c.ranges.a c.requires.a
 
 pub loop-pair-preserved : goal.loop-pair-preserved
 loop-pair-preserved c =

@@ -1,7 +1,20 @@
 use Rattle.std.proofs.Common.{◌-ℤ◌, FitsSigned, arith, rules}
 use Rattle.std.proofs.lemmas.Int.{to_z-of_z, ints}
 use mir.Syntax.{w128}
+use Rattle.kf_simplex.proofs.FlatRows.{passed_narrow}
 use Rattle.kf_simplex.proofs.rows.crossed.Goals as goal
+
+pub product-requires-clause-a : goal.product-requires-clause-a
+product-requires-clause-a c = passed_narrow c.args.p c.ranges.p c.requires.p
+
+pub product-requires-clause-b : goal.product-requires-clause-b
+product-requires-clause-b c = passed_narrow c.args.x c.ranges.x c.requires.x
+
+pub product-requires-2-clause-a : goal.product-requires-2-clause-a
+product-requires-2-clause-a c = passed_narrow c.args.a c.ranges.a c.requires.a
+
+pub product-requires-2-clause-b : goal.product-requires-2-clause-b
+product-requires-2-clause-b c = passed_narrow c.args.y c.ranges.y c.requires.y
 
 pub returns-clause-value : goal.returns-clause-value
 returns-clause-value c =

@@ -1,5 +1,11 @@
-use Rattle.kf_simplex.proofs.Reducing.{changes_at, narrow_written}
+use Rattle.kf_simplex.proofs.Reducing.{changes_at, narrow_row, narrow_written}
 use Rattle.kf_simplex.proofs.rows.reduce_at.Goals as goal
+
+pub reduced-requires-clause-row : goal.reduced-requires-clause-row
+reduced-requires-clause-row c = narrow_row c.args.rows.now c.args.i c.index-rows-i-2.result c.requires.i c.index-rows-i-2.is c.requires.row
+
+pub reduced-requires-clause-chosen : goal.reduced-requires-clause-chosen
+reduced-requires-clause-chosen c = narrow_row c.args.rows.now c.args.r c.index-rows-r.result c.requires.r c.index-rows-r.is c.requires.chosen
 
 pub returns-clause-passed : goal.returns-clause-passed
 returns-clause-passed c =

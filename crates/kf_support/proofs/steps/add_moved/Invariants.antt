@@ -3,7 +3,7 @@ use Rattle.kf_value.specs.Shapes.{shape_types, shape_sizes}
 use Rattle.kf_value.specs.Types.{product}
 use Rattle.kf_core.specs.Runs.{replaced}
 use Rattle.kf_core.specs.Results.{then_ok}
-use Rattle.kf_core.specs.Support.{each_moved}
+use Rattle.kf_core.specs.Each.{each_moved}
 use Rattle.kf_eval.specs.Choices.{weighted_tree}
 use Rattle.kf_support.specs.Answers.{ways_to}
 use Rattle.kf_support.proofs.Stepping.{MovesOn}

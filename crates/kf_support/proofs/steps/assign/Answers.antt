@@ -6,7 +6,8 @@ use Rattle.kf_value.specs.Types.{product}
 use Rattle.kf_core.specs.Choices.{Weighted}
 use Rattle.kf_core.specs.Views.{dx_tree}
 use Rattle.kf_core.specs.Runs.{tried, replaced}
-use Rattle.kf_core.specs.Support.{Passed, each_moved}
+use Rattle.kf_core.specs.Support.{Passed}
+use Rattle.kf_core.specs.Each.{each_moved}
 use Rattle.kf_eval.specs.Choices.{weighted_trees}
 use Rattle.kf_support.specs.Answers.{ways_to}
 use Rattle.kf_support.specs.Carried.{capped, carry_step, assign_lead}

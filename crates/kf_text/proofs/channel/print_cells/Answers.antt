@@ -1,6 +1,6 @@
 use Rattle.std.proofs.Common.{[], slice_index}
 use Rattle.kf_channel.specs.Views.{rows_of, row_at, secrets_of}
-use Rattle.kf_text.specs.Texts.{cell_line}
+use Rattle.kf_text.specs.Parts.{cell_line}
 use Rattle.kf_text.proofs.Printing.{one_more, read_itself}
 use Rattle.kf_text.proofs.channel.print_cells.Goals as goal
 

@@ -1,7 +1,7 @@
 use Rattle.std.proofs.Common.{◌≡◌, ◌++◌, drop, slice_index}
 use Rattle.std.specs.List.{flat_map}
 use Rattle.kf_channel.specs.Views.{rows_of, secrets_of}
-use Rattle.kf_text.specs.Texts.{cell_line}
+use Rattle.kf_text.specs.Parts.{cell_line}
 use Rattle.kf_text.proofs.channel.print_cells.Given as goal
 
 abbrev pub invariant-loop-j : goal.invariant-loop-j

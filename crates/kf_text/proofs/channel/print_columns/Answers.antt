@@ -2,7 +2,7 @@ use Rattle.std.proofs.Common.{[], refl}
 use Rattle.std.specs.List.{flat_map, enumerate_from}
 use Rattle.kf_channel.specs.Views.{rows_of, row_at}
 use Rattle.kf_cert.proofs.Pieces.{piece_added}
-use Rattle.kf_text.specs.Texts.{column_line}
+use Rattle.kf_text.specs.Parts.{column_line}
 use Rattle.kf_text.proofs.Printing.{read_itself}
 use Rattle.kf_text.proofs.channel.print_columns.Goals as goal
 

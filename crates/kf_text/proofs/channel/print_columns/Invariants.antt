@@ -1,7 +1,7 @@
 use Rattle.std.proofs.Common.{◌≡◌, ◌++◌, drop}
 use Rattle.std.specs.List.{flat_map, enumerate_from}
 use Rattle.kf_channel.specs.Views.{rows_of}
-use Rattle.kf_text.specs.Texts.{column_line}
+use Rattle.kf_text.specs.Parts.{column_line}
 use Rattle.kf_text.proofs.channel.print_columns.Given as goal
 use Rattle.kf_text.specs.Parts.{columns_lines}
 

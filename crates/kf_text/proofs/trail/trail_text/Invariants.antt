@@ -1,6 +1,7 @@
 use Rattle.std.proofs.Common.{◌≡◌, ◌++◌, drop}
 use Rattle.std.specs.List.{flat_map, enumerate_from}
-use Rattle.kf_text.specs.Texts.{count_line, trail_text}
+use Rattle.kf_text.specs.Parts.{count_line}
+use Rattle.kf_text.specs.Texts.{trail_text}
 use Rattle.kf_text.proofs.trail.trail_text.Given as goal
 
 abbrev pub invariant-loop-i : goal.invariant-loop-i

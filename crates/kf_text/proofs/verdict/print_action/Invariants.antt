@@ -1,7 +1,8 @@
 use Rattle.std.proofs.Common.{◌≡◌, ◌++◌, drop}
 use Rattle.std.specs.List.{flat_map}
 use Rattle.kf_value.specs.Views.{items_of}
-use Rattle.kf_text.specs.VerdictTexts.{action_lines, gain_line}
+use Rattle.kf_text.specs.Parts.{gain_line}
+use Rattle.kf_text.specs.VerdictTexts.{action_lines}
 use Rattle.kf_text.proofs.verdict.print_action.Given as goal
 
 abbrev pub invariant-loop-entry : goal.invariant-loop-entry

@@ -1,7 +1,8 @@
 use Rattle.std.proofs.Common.{◌≡◌, ◌++◌, drop}
 use Rattle.std.specs.List.{flat_map}
 use Rattle.kf_value.specs.Views.{items_of}
-use Rattle.kf_text.specs.VerdictTexts.{action_lines, actions_lines}
+use Rattle.kf_text.specs.Parts.{actions_lines}
+use Rattle.kf_text.specs.VerdictTexts.{action_lines}
 use Rattle.kf_text.proofs.verdict.print_actions.Given as goal
 
 abbrev pub invariant-loop-action : goal.invariant-loop-action

@@ -2,7 +2,7 @@ use Rattle.std.proofs.Common.{map, refl}
 use Rattle.std.specs.List.{flat_map}
 use Rattle.kf_refine.specs.Views.{fraction_of}
 use Rattle.kf_cert.proofs.Pieces.{piece_added}
-use Rattle.kf_text.specs.VerdictTexts.{fractions_line}
+use Rattle.kf_text.specs.Parts.{fractions_line}
 use Rattle.kf_text.proofs.verdict.print_rows.Goals as goal
 
 pub loop-row-preserved : goal.loop-row-preserved

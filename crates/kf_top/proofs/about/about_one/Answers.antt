@@ -15,14 +15,14 @@ pub returns-in-Ok-clause-answer : goal.returns-in-Ok-clause-answer
 returns-in-Ok-clause-answer g c =
     let cleared = c.in-Ok.cleared in
     one_answers _ _ _ c.args.question c.args.turns c.args.name.now c.as_str.result.now c.as_str.ensures c.least_of-least.result c.least_of-least.ensures
-    (turns_of cleared) c.in-Ok.ensures.turns (program_in cleared) c.answer_one.result c.in-Ok.ensures.answer
-    (files_from _ _ _ _ _ c.in-Ok.ensures.unchanged c.in-Ok.ensures.counts _ _ c.answer_one.result _ c.answer_one.ensures.answer)
+    (turns_of cleared) c.in-Ok.ensures.turns (program_in cleared) c.answer_one-answer.result c.in-Ok.ensures.answer
+    (files_from _ _ _ _ _ c.in-Ok.ensures.unchanged c.in-Ok.ensures.counts _ _ c.answer_one-answer.result _ c.answer_one-answer.ensures.answer)
 
 pub returns-in-Ok-clause-counts : goal.returns-in-Ok-clause-counts
 returns-in-Ok-clause-counts g c =
     let command = command_of c.args.question in
-    counts_from (c.args.name.now ∷ tables_of command) _ _ _ c.answer_one.result c.in-Ok.ensures.counts
-    (more_names (tables_of command) (c.args.name.now ∷ tables_of command) (Contains-append_right (c.args.name.now ∷ []) (tables_of command)) _ _ c.answer_one.result c.answer_one.ensures.counts)
+    counts_from (c.args.name.now ∷ tables_of command) _ _ _ c.answer_one-answer.result c.in-Ok.ensures.counts
+    (more_names (tables_of command) (c.args.name.now ∷ tables_of command) (Contains-append_right (c.args.name.now ∷ []) (tables_of command)) _ _ c.answer_one-answer.result c.answer_one-answer.ensures.counts)
 
 pub returns-in-Err-clause-answer : goal.returns-in-Err-clause-answer
 returns-in-Err-clause-answer g c =

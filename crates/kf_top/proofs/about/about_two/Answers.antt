@@ -1,4 +1,4 @@
-use Rattle.std.proofs.Common.{ℕ, List, [], ◌∷◌, ◌++◌, Ok, Err, Result, Some}
+use Rattle.std.proofs.Common.{[], ◌∷◌, ◌++◌, Ok, Err, Result, Some}
 use Rattle.std.proofs.lemmas.List.Elements.{Contains-append_left, Contains-append_right}
 use Rattle.kf_load.specs.Steps.{After, Each, Gives}
 use Rattle.kf_load.specs.Stops.{file_as}
@@ -20,17 +20,17 @@ returns-in-Ok-clause-answer g c =
     let h = c.in-Ok.ensures.answer in
     let command = command_on_two c.args.question in
     two_answer _ _ _ command c.args.turns c.args.first.now c.args.second.now c.as_str.result.now c.as_str-2.result.now c.as_str.ensures c.as_str-2.ensures
-    (programs_in pair) c.answer_two.result h.0 h.1 h.2 h.3 (cleared_two c.args.question c.args.turns
+    (programs_in pair) c.answer_two-answer.result h.0 h.1 h.2 h.3 (cleared_two c.args.question c.args.turns
     (file_as c.as_str.result.now (Some h.0) ∷ file_as c.as_str-2.result.now (Some h.1) ∷ []) (Ok (programs_in pair)) h.4)
-    (turned _ _ _ command (turns_of pair.first) c.args.turns c.in-Ok.ensures.first_turns (programs_in pair) c.answer_two.result
-    (files_from _ _ _ _ _ c.in-Ok.ensures.unchanged c.in-Ok.ensures.counts _ _ c.answer_two.result _ c.answer_two.ensures.answer))
+    (turned _ _ _ command (turns_of pair.first) c.args.turns c.in-Ok.ensures.first_turns (programs_in pair) c.answer_two-answer.result
+    (files_from _ _ _ _ _ c.in-Ok.ensures.unchanged c.in-Ok.ensures.counts _ _ c.answer_two-answer.result _ c.answer_two-answer.ensures.answer))
 
 pub returns-in-Ok-clause-counts : goal.returns-in-Ok-clause-counts
 returns-in-Ok-clause-counts g c =
     let command = command_on_two c.args.question in
     let names = c.args.first.now ∷ c.args.second.now ∷ [] in
-    counts_from (names ++ tables_of command) _ _ _ c.answer_two.result c.in-Ok.ensures.counts
-    (more_names (tables_of command) (names ++ tables_of command) (Contains-append_right names (tables_of command)) _ _ c.answer_two.result c.answer_two.ensures.counts)
+    counts_from (names ++ tables_of command) _ _ _ c.answer_two-answer.result c.in-Ok.ensures.counts
+    (more_names (tables_of command) (names ++ tables_of command) (Contains-append_right names (tables_of command)) _ _ c.answer_two-answer.result c.answer_two-answer.ensures.counts)
 
 pub returns-in-Err-clause-answer : goal.returns-in-Err-clause-answer
 returns-in-Err-clause-answer g c =

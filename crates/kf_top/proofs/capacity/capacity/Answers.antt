@@ -3,7 +3,7 @@ use Rattle.kf_capacity.specs.Grids.{channel_grid}
 use Rattle.kf_capacity.specs.Views.{channel_tree}
 use Rattle.kf_load.specs.Views.{program_in}
 use Rattle.kf_support.specs.Cleared.{turns_of}
-use Rattle.kf_top.specs.Answer.{CapacityIn}
+use Rattle.kf_top.specs.Steps.{CapacityIn}
 use Rattle.kf_top.proofs.Capacities.{capacity_prints, capacity_stops, unread}
 use Rattle.kf_top.proofs.capacity.capacity.Goals as goal
 

@@ -1,8 +1,5 @@
 use Rattle.std.proofs.Common.{[], ◌∷◌}
-use Rattle.kf_load.specs.Steps.{Each}
-use Rattle.kf_load.specs.Texts.{TextOf}
 use Rattle.kf_load.specs.Views.{texts_in}
-use Rattle.kf_words.specs.Task.{Covers}
 use Rattle.kf_top.proofs.Commands.{texts_answer, texts_stop}
 use Rattle.kf_top.proofs.Readings.{counts_next, lift_counts, stop_counts_as}
 use Rattle.kf_top.specs.Stops.{lifted}

@@ -1,6 +1,6 @@
-use Rattle.std.proofs.Common.{[], ℕ, subst, sym, ◌∙◌}
+use Rattle.std.proofs.Common.{[], ℕ, subst}
 use Rattle.std.proofs.lemmas.Result.{err_from_is_err_and}
-use Rattle.kf_load.specs.Views.{program_in, programs_in, texts_in}
+use Rattle.kf_load.specs.Views.{programs_in, texts_in}
 use Rattle.kf_top.specs.Answer.{CommandOutcome}
 use Rattle.kf_top.specs.Outcome.{ReadyOf}
 use Rattle.kf_top.specs.Stops.{Answers}
@@ -19,5 +19,5 @@ pub returns-clause-answer : goal.returns-clause-answer
 returns-clause-answer c =
     let ts = texts_in c.args.first.now c.args.second.now c.args.texts in
     let ps = programs_in c.in_ok-pair.pair in
-    next_answers shown (ReadyOf Covers c.args.turns ts) (CommandOutcome Covers c.args.turns []) c.full_covers.result ps c.in_ok-pair.ensures.answer
-    (subst (λ (n : ℕ). Answers shown c.full_covers.result (CommandOutcome Covers n [] ps)) c.in_ok-pair.ensures.first_turns c.full_covers.ensures.answer)
+    next_answers shown (ReadyOf Covers c.args.turns ts) (CommandOutcome Covers c.args.turns []) c.full_covers-done.result ps c.in_ok-pair.ensures.answer
+    (subst (λ (n : ℕ). Answers shown c.full_covers-done.result (CommandOutcome Covers n [] ps)) c.in_ok-pair.ensures.first_turns c.full_covers-done.ensures.answer)

@@ -1,4 +1,4 @@
-use Rattle.std.proofs.Common.{Ok, ap, subst, ◌∙◌}
+use Rattle.std.proofs.Common.{Ok, subst, ◌∙◌}
 use Rattle.kf_ast.specs.Sources.{SourceTree}
 use Rattle.kf_load.specs.Stops as load
 use Rattle.kf_load.specs.Texts.{TextWith}
@@ -16,12 +16,12 @@ returns-in-Ok-clause-answer c =
 pub returns-in-Ok-clause-full : goal.returns-in-Ok-clause-full
 returns-in-Ok-clause-full c = is_full c.args.name.now c.args.text c.in-Ok.full c.requires.proper c.in-Ok.ensures.proper (c.in-Ok.ensures.source ∙ c.requires.full)
 
-pub returns-clause-answer : goal.returns-clause-answer
-returns-clause-answer c =
+pub returns-in-Err-clause-answer : goal.returns-in-Err-clause-answer
+returns-in-Err-clause-answer c =
     let name = c.args.name.now in
     let t = text_of name c.args.text in
     rw c.lift.ensures (lift_stops (TextWith name t.bytes _) c.in-Err.stop
     (subst (λ (tree : SourceTree). load.Stopped c.in-Err.stop (TextWith name t.bytes tree)) c.requires.full c.in-Err.ensures.answer))
 
-pub returns-clause-read : goal.returns-clause-read
-returns-clause-read c = rw c.lift.ensures (lift_own c.in-Err.stop c.in-Err.ensures.read)
+pub returns-in-Err-clause-read : goal.returns-in-Err-clause-read
+returns-in-Err-clause-read c = rw c.lift.ensures (lift_own c.in-Err.stop c.in-Err.ensures.read)

@@ -5,7 +5,8 @@ use Rattle.kf_load.specs.Views.{program_in}
 use Rattle.kf_channel.specs.Views.{rows_of, secrets_of}
 use Rattle.kf_support.specs.Cleared.{turns_of}
 use Rattle.kf_text.specs.Texts.{channel_text}
-use Rattle.kf_top.specs.Answer.{ChannelOf, prints}
+use Rattle.kf_top.specs.Answer.{prints}
+use Rattle.kf_top.specs.Steps.{ChannelOf}
 use Rattle.kf_top.proofs.Capacities.{unread}
 use Rattle.kf_top.proofs.hyper.channel.Goals as goal
 

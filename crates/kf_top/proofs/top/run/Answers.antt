@@ -3,7 +3,7 @@ use Rattle.kf_top.proofs.Ends.{causes_of_words, untouched, usage_of_words}
 use Rattle.kf_top.proofs.top.run.Goals as goal
 
 pub returns-in-Ok-clause-causes : goal.returns-in-Ok-clause-causes
-returns-in-Ok-clause-causes g c = c.carry_out.ensures.causes _ c.in-Ok.ensures.job
+returns-in-Ok-clause-causes g c = c.carry_out-status.ensures.causes _ c.in-Ok.ensures.job
 
 pub returns-in-Err-clause-causes : goal.returns-in-Err-clause-causes
 returns-in-Err-clause-causes g c =

@@ -1,4 +1,4 @@
-use Rattle.std.proofs.Common.{Ok, ap}
+use Rattle.std.proofs.Common.{Ok}
 use Rattle.kf_refine.specs.Views.{hyper_tree, verdict_tree}
 use Rattle.kf_top.specs.Answer.{shows}
 use Rattle.kf_top.proofs.Verdicts.{its_error, its_verdict, text_of}

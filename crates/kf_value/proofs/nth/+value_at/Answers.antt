@@ -1,12 +1,15 @@
-use Rattle.std.proofs.Common.{◌≡◌, ◌+◌, ◌/◌, ◌<◌, Some, pos, ◌+ℤ◌, to_z, of_z, w64, map, drop, slice_get, sym, ap, ◌∙◌, subst, arith}
+use Rattle.std.proofs.Common.{◌≡◌, ◌+◌, ◌/◌, ◌<◌, Some, pos, ◌+ℤ◌, to_z, of_z, w64, map, drop, slice_get, sym, ap, ◌∙◌, subst, arith, rules}
+use Rattle.kf_value.specs.declared.ty.Ty.{the_lemmas as type_lemmas}
+use Rattle.kf_value.specs.Forms.{IsWellFormed}
 use Rattle.kf_value.specs.Types.{type_parts, Range, TupleOf, SetOf, values, count}
 use Rattle.kf_value.specs.Sizes.{HasSize, HasNumber}
 use Rattle.kf_value.specs.TypeViews.{type_tree}
 use Rattle.kf_value.specs.Values.{Whole, Tuple, Set, parts}
 use Rattle.kf_value.specs.Views.{value_tree}
-use Rattle.kf_value.proofs.Trees.{type_tree-Bool, type_tree-Int, value_tree-Bool, value_tree-Int}
+use Rattle.kf_value.proofs.Trees.{type_tree-Bool, type_tree-Int, value_tree-Bool, value_tree-Int, value_tree-Tuple}
 use Rattle.std.specs.Prelude.{◌==◌}
 use Rattle.kf_value.proofs.ByForm.{truth_at, whole_place, range_sized, range_sum}
+use Rattle.kf_value.proofs.Alike.{tuple_tree}
 use Rattle.kf_value.proofs.ListLemmas.{left_step, left_end}
 use Rattle.kf_value.proofs.Finding.{find_tuple_start, find_weight, find_parts_step, find_tuple_end, find_with, find_without, find_elements_end}
 use Rattle.kf_value.proofs.nth.+value_at.Goals as goal
@@ -68,3 +71,16 @@ value_at-returns-in-Int-clause-place t c =
     rw (c.from.ensures) (range_sum c.in-Int.lo c.in-Int.hi c.args.n bounds below) in
     ap (λ u. slice_get (values u) c.args.n) type
     ∙ (whole_place c.in-Int.lo c.in-Int.hi c.args.n below ∙ (ap (λ i. Some (Whole i)) (sym sum) ∙ ap (λ v. Some v) (sym (value_tree-Int _))))
+
+pub value_at-parts_at-requires : goal.value_at-parts_at-requires
+value_at-parts_at-requires t c =
+    let type = tuple_tree c.args.ty.now c.in-Tuple.types c.as_slice.result.now c.in-Tuple.is c.as_slice.ensures in
+    (search (rules, type_lemmas), (subst HasSize type c.requires.sized, subst (λ u. c.args.n < count u) type c.requires.below))
+
+pub value_at-returns-in-Int-clause-formed : goal.value_at-returns-in-Int-clause-formed
+value_at-returns-in-Int-clause-formed t c = λ ok. subst IsWellFormed (sym (value_tree-Int _)) tt
+
+pub value_at-returns-in_ok-parts_at-in-Tuple-clause-place : goal.value_at-returns-in_ok-parts_at-in-Tuple-clause-place
+value_at-returns-in_ok-parts_at-in-Tuple-clause-place t c =
+    let type = tuple_tree c.args.ty.now c.in-Tuple.types c.as_slice.result.now c.in-Tuple.is c.as_slice.ensures in
+    rw (type, value_tree-Tuple c.in_ok-parts_at-in-Tuple.field-0) c.in_ok-parts_at-in-Tuple.ensures

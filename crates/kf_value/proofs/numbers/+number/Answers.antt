@@ -1,13 +1,19 @@
-use Rattle.std.proofs.Common.{◌≡◌, ◌*◌, ◌<◌, Some, map, slice_get, sym, ap, ◌∙◌, arith}
+use Rattle.std.proofs.Common.{◌≡◌, ℕ, ◌*◌, ◌<◌, Some, map, slice_get, sym, ap, ◌∙◌, subst, arith, rules, FitsSigned, w64}
+use Rattle.std.proofs.lemmas.Int.{to_z-of_z}
 use Rattle.std.proofs.lemmas.Nat.{one_shl}
-use Rattle.kf_value.specs.Types.{Boolean, TupleOf, SetOf, type_parts, values, count}
+use Rattle.kf_value.specs.declared.ty.Ty.{the_lemmas as type_lemmas}
+use Rattle.kf_value.specs.Forms.{IsWellFormed}
+use Rattle.kf_value.specs.Sizes.{HasSize}
+use Rattle.kf_value.specs.Types.{Boolean, Range, TupleOf, SetOf, type_parts, values, count}
 use Rattle.kf_value.specs.TypeViews.{type_tree}
-use Rattle.kf_value.specs.Values.{Tuple, Set, parts}
+use Rattle.kf_value.specs.Values.{Whole, Tuple, Set, parts}
 use Rattle.kf_value.specs.Views.{value_tree, type_trees}
-use Rattle.kf_value.proofs.ByForm.{place_below, truth_place, no_boolean, no_range, no_tuple, no_set_value}
+use Rattle.kf_value.proofs.Alike.{tuple_tree}
+use Rattle.kf_value.proofs.ByForm.{place_below, placed, range_sized, truth_place, no_boolean, no_range, no_tuple, no_set_value}
 use Rattle.kf_value.proofs.Numbering.{elements_start, elements_step, element_fits, element_missing, elements_end, parts_start, parts_step, product_fits, part_missing, parts_end, parts_unequal}
 use Rattle.kf_value.proofs.Sizing.{base_sized}
-use Rattle.kf_value.proofs.Trees.{type_tree-Bool, type_tree-Int, type_tree-Tuple, type_tree-Set, value_tree-Bool}
+use Rattle.kf_value.proofs.Trees.{type_tree-Bool, type_tree-Int, type_tree-Tuple, type_tree-Set, value_tree-Bool, value_tree-Int, value_tree-Tuple}
+use Rattle.kf_value.proofs.numbers.+number.Goals.{number-After-as_slice-in-Tuple-Tuple}
 use Rattle.kf_value.proofs.numbers.+number.Goals as goal
 
 pub number-returns-in_default : goal.number-returns-in_default
@@ -115,3 +121,40 @@ pub number_of_parts-returns : goal.number_of_parts-returns
 number_of_parts-returns t c =
     let place = parts_end c.args.types.now c.requires.sized c.args.parts.now c.loop-i.i c.loop-i.n (omega arith) (omega arith) c.loop-i.invariant in
     record { place = place; below = place_below (TupleOf (type_parts (map type_tree c.args.types.now))) (Tuple (parts (map value_tree c.args.parts.now))) (Some c.loop-i.n) place }
+
+pub number-number_in_range-requires : goal.number-number_in_range-requires
+number-number_in_range-requires t c =
+    let type = ap type_tree c.in-Int-Int.is-0 ∙ type_tree-Int c.in-Int-Int.lo c.in-Int-Int.hi in
+    let low : FitsSigned w64 c.in-Int-Int.lo = search rules in
+    let high : FitsSigned w64 c.in-Int-Int.hi = search rules in
+    rw (to_z-of_z w64 c.in-Int-Int.lo low, to_z-of_z w64 c.in-Int-Int.hi high)
+    (range_sized c.in-Int-Int.lo c.in-Int-Int.hi (subst HasSize type c.requires.sized))
+
+pub number-returns-in-Int-Int-clause-place : goal.number-returns-in-Int-Int-clause-place
+number-returns-in-Int-Int-clause-place t c =
+    let low : FitsSigned w64 c.in-Int-Int.lo = search rules in
+    let high : FitsSigned w64 c.in-Int-Int.hi = search rules in
+    let fits : FitsSigned w64 c.in-Int-Int.whole = search rules in
+    let lo = to_z-of_z w64 c.in-Int-Int.lo low in
+    let hi = to_z-of_z w64 c.in-Int-Int.hi high in
+    let type = ap type_tree c.in-Int-Int.is-0 ∙ type_tree-Int c.in-Int-Int.lo c.in-Int-Int.hi in
+    let value = ap value_tree c.in-Int-Int.is-1 ∙ value_tree-Int c.in-Int-Int.whole in
+    placed _ _ _ _ c.number_in_range.result ((λ k. Range (lo k) (hi k)) ∙ sym type)
+    (ap (λ i. Whole i) (to_z-of_z w64 c.in-Int-Int.whole fits) ∙ sym value) c.number_in_range.ensures.place
+
+module _ (t : ℕ) (c : number-After-as_slice-in-Tuple-Tuple t) where
+  tuple_type : type_tree c.args.ty.now ≡ TupleOf (type_parts (map type_tree c.as_slice.result.now))
+  tuple_type = tuple_tree c.args.ty.now c.in-Tuple-Tuple.types c.as_slice.result.now c.in-Tuple-Tuple.is-0 c.as_slice.ensures
+
+  tuple_value : value_tree c.args.v.now ≡ Tuple (parts (map value_tree c.as_slice-in-Tuple-Tuple.result.now))
+  tuple_value = ap value_tree c.in-Tuple-Tuple.is-1
+      ∙ (value_tree-Tuple c.in-Tuple-Tuple.parts ∙ ap (λ us. Tuple (parts (map value_tree us))) (sym c.as_slice-in-Tuple-Tuple.ensures))
+
+pub number-number_of_parts-requires : goal.number-number_of_parts-requires
+number-number_of_parts-requires t c =
+    (search (rules, type_lemmas), (subst HasSize (tuple_type t c) c.requires.sized, subst IsWellFormed (tuple_value t c) c.requires.formed))
+
+pub number-returns-in-Tuple-Tuple-clause-place : goal.number-returns-in-Tuple-Tuple-clause-place
+number-returns-in-Tuple-Tuple-clause-place t c =
+    let at = (goal.at.number-returns-in-Tuple-Tuple-clause-place t c).After-as_slice-in-Tuple-Tuple in
+    placed _ _ _ _ c.number_of_parts.result (sym (tuple_type t at)) (sym (tuple_value t at)) c.number_of_parts.ensures.place

@@ -1,8 +1,8 @@
-use Rattle.std.proofs.Common.{arith, ◌≤ℤ◌, Some}
-use Rattle.std.proofs.lemmas.Int.{ints}
+use Rattle.std.proofs.Common.{arith, ◌≤ℤ◌, Some, w64}
+use Rattle.std.proofs.lemmas.Int.{ints, to_z-of_z}
 use Rattle.kf_value.specs.Types.{Range}
 use Rattle.kf_value.specs.Values.{Whole}
-use Rattle.kf_value.proofs.ByForm.{number_of_whole, no_whole, range_number, place_below}
+use Rattle.kf_value.proofs.ByForm.{in_bounds_tells, number_of_whole, no_whole, range_number, place_below}
 use Rattle.kf_value.proofs.numbers.number_in_range.Goals as goal
 use Rattle.kf_value.proofs.numbers.number_in_range.Goals.{else-lo-whole-via-then-lo-whole+else-whole-hi, else-lo-whole-via-else-lo-whole}
 
@@ -20,3 +20,10 @@ returns-else-lo-whole-clause-place c =
       | else-lo-whole-via-then-lo-whole+else-whole-hi w ↦ grind (arith, ints)
       | else-lo-whole-via-else-lo-whole w ↦ grind (arith, ints)
     ])
+
+pub overflow_sub-result : goal.overflow_sub-result
+overflow_sub-result c =
+    let low : c.args.lo ≤ℤ c.args.whole = grind (arith, ints) in
+    let high : c.args.whole ≤ℤ c.args.hi = grind (arith, ints) in
+    let bounds = in_bounds_tells c.args.lo c.args.hi c.requires in
+    rw (to_z-of_z w64 c.args.whole c.ranges.whole, to_z-of_z w64 c.args.lo c.ranges.lo) (omega (arith, ints))

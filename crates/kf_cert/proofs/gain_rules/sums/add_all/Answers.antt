@@ -1,4 +1,4 @@
-use Rattle.std.proofs.Common.{rules, ◌≡◌, ◌+◌, ◌*◌, ◌==◌, ℕ, pos, to_z, of_z, ◌∙◌, ap, arith, get_or, unsigned_abs, if◌then◌else◌}
+use Rattle.std.proofs.Common.{rules, ◌≡◌, ◌*◌, ◌==◌, ℕ, pos, to_z, of_z, ◌∙◌, ap, arith, get_or, unsigned_abs, if◌then◌else◌}
 use Rattle.std.specs.Prelude.{◌*ℤ◌, ◌+ℤ◌, FitsSigned}
 use Rattle.std.specs.Int.{w128}
 use Rattle.std.proofs.lemmas.Int.{to_z-of_z, unsigned_abs-mul}

@@ -1,4 +1,4 @@
-use Rattle.kf_cert.specs.Certificates.{action_said}
+use Rattle.kf_cert.specs.Parts.{action_said}
 use Rattle.kf_cert.specs.Reading.{reads_action}
 use Rattle.kf_cert.specs.declared.cert.CertAction.{CertAction}
 use Rattle.std.proofs.Common.{◌∙◌, sym, ap, codes}

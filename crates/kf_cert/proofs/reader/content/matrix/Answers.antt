@@ -1,6 +1,6 @@
 use Rattle.std.proofs.Common.{map}
 use Rattle.kf_refine.specs.Views.{fraction_of}
-use Rattle.kf_cert.specs.Certificates.{row_said}
+use Rattle.kf_cert.specs.Parts.{row_said}
 use Rattle.kf_cert.specs.Reading.{reads_row}
 use Rattle.std.proofs.Common.{◌∙◌, ap, codes}
 use Rattle.std.proofs.lemmas.Result.{err_from_is_err_and}

@@ -1,6 +1,6 @@
 use Rattle.std.proofs.Common.{map}
 use Rattle.kf_refine.specs.Views.{fraction_of}
-use Rattle.kf_cert.specs.Certificates.{row_said}
+use Rattle.kf_cert.specs.Parts.{row_said}
 use Rattle.kf_cert.specs.Reading.{reads_row}
 use Rattle.kf_cert.proofs.Gathered.{Gathers}
 use Rattle.kf_cert.proofs.reader.content.matrix.Given as goal

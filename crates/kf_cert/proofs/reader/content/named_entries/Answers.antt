@@ -1,5 +1,5 @@
 use Rattle.std.proofs.Common.{map}
-use Rattle.kf_cert.specs.Certificates.{entry_said}
+use Rattle.kf_cert.specs.Parts.{entry_said}
 use Rattle.kf_cert.specs.Reading.{reads_entry}
 use Rattle.kf_cert.specs.Views.{entry_tree}
 use Rattle.std.proofs.Common.{◌∙◌, ap, codes}

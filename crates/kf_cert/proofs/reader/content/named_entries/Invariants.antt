@@ -1,4 +1,4 @@
-use Rattle.kf_cert.specs.Certificates.{entry_said}
+use Rattle.kf_cert.specs.Parts.{entry_said}
 use Rattle.kf_cert.specs.Reading.{reads_entry}
 use Rattle.kf_cert.specs.Views.{entry_tree}
 use Rattle.kf_cert.proofs.Gathered.{Gathers}

@@ -6,6 +6,18 @@ use Rattle.kf_eval.specs.Reads.{span}
 use Rattle.kf_eval.proofs.Remembering.{kept_at, kept_within, number_within, pushed_last, remembers, some_places}
 use Rattle.kf_eval.proofs.memo.Memo.find.Goals as goal
 
+pub chosen_in-requires-clause-kinded : goal.chosen_in-requires-clause-kinded
+chosen_in-requires-clause-kinded c = c.requires.kinded
+
+pub chosen_in-requires-2-clause-kinded : goal.chosen_in-requires-2-clause-kinded
+chosen_in-requires-2-clause-kinded c = c.requires.kinded
+
+pub number_at-number-requires-clause-within : goal.number_at-number-requires-clause-within
+number_at-number-requires-clause-within c = rw c.deref.ensures.value c.requires.memo.within
+
+pub returns-then-known-gt0-clause-memo : goal.returns-then-known-gt0-clause-memo
+returns-then-known-gt0-clause-memo c = c.requires.memo
+
 pub returns-then-is_empty-clause-found : goal.returns-then-is_empty-clause-found
 returns-then-is_empty-clause-found c =
     record {

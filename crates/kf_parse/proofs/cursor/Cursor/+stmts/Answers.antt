@@ -17,8 +17,8 @@ use Rattle.kf_parse.specs.Reading as r
 use Rattle.kf_parse.specs.Trimmed.{trimmed}
 use Rattle.kf_parse.proofs.Depths.{statements_step}
 use Rattle.kf_parse.proofs.Behind.{expect_got}
-use Rattle.kf_parse.proofs.Failing.{expected, fails, got_value}
-use Rattle.kf_parse.proofs.Followed.{read_as, stopped_as, read_on, read_same, fails_behind, not_followed, read_followed}
+use Rattle.kf_parse.proofs.Failing.{expected, fails, got_value, only_memory}
+use Rattle.kf_parse.proofs.Followed.{read_as, stopped_as, read_on, read_behind, not_there, read_same, fails_behind, not_followed, read_followed}
 use Rattle.kf_parse.proofs.Runs.{run_stops, run_stuck, run_deep, run_got, run_shorter}
 use Rattle.kf_parse.proofs.Shrinks.{statements_shrinks}
 use Rattle.kf_parse.proofs.cursor.Cursor.+stmts.Goals as goal
@@ -168,3 +168,31 @@ all_statements-returns-in_err-next-clause-reads t c =
 pub all_statements-returns-clause-reads : goal.all_statements-returns-clause-reads
 all_statements-returns-clause-reads t c =
     c.statements.invariant.rest ∙ run_stops trimmed c.args.self.now.src.now (r.statements trimmed c.args.self.now.src.now (c.args.depth - 1)) c.args.depth (trimmed_of (all_of stmt_tree) c.statements.list) c.statements.self.rest.now (sym c.at_statement.ensures ∙ c.statements-test.false)
+
+pub block-returns-in_err-expect-clause-reads : goal.block-returns-in_err-expect-clause-reads
+unfolding r.block
+block-returns-in_err-expect-clause-reads t c =
+    let p = err_from_is_err_and c.from_residual.result c.from_residual.ensures.1 in
+    rw (p.1, p.2) (not_there (trimmed_of (all_of stmt_tree)) (is (tok.Sign sign.BraceOpen)) _ c.args.self.now.rest.now c.in_err-expect.field-0.0
+    c.expect.new.self.rest.now c.in_err-expect.ensures.reads)
+
+pub block-returns-in_err-list-clause-reads : goal.block-returns-in_err-list-clause-reads
+unfolding r.block
+block-returns-in_err-list-clause-reads t c =
+    let h = stopped_as _ _ _ _ (rw c.expect.ensures.source at c.statements.ensures.reads) _ c.in_err-list.was in
+    let p = err_from_is_err_and c.from_residual-in_err-list.result c.from_residual-in_err-list.ensures.1 in
+    rw (p.1, p.2) (read_behind (trimmed_of (all_of stmt_tree)) (is (tok.Sign sign.BraceOpen)) _ c.args.self.now.rest.now c.expect.new.self.rest.now
+    c.in_ok-expect.field-0 (Err c.in_err-list.field-0.0) c.statements.new.self.rest.now c.in_ok-expect.ensures.reads
+    (fails (trimmed_of (all_of stmt_tree)) (trimmed_of (all_of stmt_tree)) _ _ c.in_err-list.field-0.0 c.statements.new.self.rest.now h))
+
+pub if_else-returns-in_err-test-clause-reads : goal.if_else-returns-in_err-test-clause-reads
+unfolding r.if_else
+if_else-returns-in_err-test-clause-reads t c =
+    let p = err_from_is_err_and c.from_residual.result c.from_residual.ensures.1 in
+    rw (p.1, p.2) (fails (trimmed_of dist_tree) (trimmed_of stmt_tree) _ _ c.in_err-test.field-0.0 c.dist.new.self.rest.now
+    c.in_err-test.ensures.reads)
+
+pub all_statements-returns-in_err-list-clause-reads : goal.all_statements-returns-in_err-list-clause-reads
+all_statements-returns-in_err-list-clause-reads t c =
+    let p = err_from_is_err_and c.from_residual-in_err-list.result c.from_residual-in_err-list.ensures.1 in
+    rw (p.1, p.2) (only_memory (trimmed_of (all_of stmt_tree)) _ (trimmed_of (all_of stmt_tree)) _ c.in_err-list.field-0.0 _ c.in_err-list.ensures)

@@ -1,14 +1,19 @@
-use Rattle.std.proofs.Common.{rules, arith, ℕ, map, List, [], ◌∷◌, ◌++◌, sym, ◌∙◌}
+use Rattle.std.proofs.Common.{rules, arith, ℕ, map, List, [], ◌∷◌, ◌++◌, Err, sym, ◌∙◌}
 use Rattle.std.proofs.lemmas.Grind.{common_steps}
 use Rattle.std.proofs.lemmas.List.{map-append}
+use Rattle.std.proofs.lemmas.Result.{err_from_is_err_and}
 use Rattle.kf_lex.specs.declared.token.Tok.TheVariants as tok
 use Rattle.kf_lex.specs.declared.token.Sign.TheVariants as s
+use Rattle.kf_lex.specs.declared.token.Word.TheVariants as w
 use Rattle.kf_ast.specs.TypeForms.{TypeForm}
-use Rattle.kf_ast.specs.Views.{type_form}
+use Rattle.kf_ast.specs.Views.{type_form, ty_items}
 use Rattle.kf_parse.specs.Outcomes.{Parser, ◌>>=◌, pure}
+use Rattle.kf_parse.specs.Tokens.{is}
 use Rattle.kf_parse.proofs.Shrinks.{type_shrinks, other_types_steps}
 use Rattle.kf_parse.specs.Reading as r
 use Rattle.kf_parse.proofs.Depths.{sets_step, sets_word, type_step}
+use Rattle.kf_parse.proofs.Failing.{fails}
+use Rattle.kf_parse.proofs.Followed.{read_on, read_behind, not_there}
 use Rattle.kf_parse.proofs.Turns.{stops, turn_stuck, turn_deep, turn_got, turn_shorter, made}
 use Rattle.kf_parse.proofs.cursor.Cursor.+types.Goals as goal
 
@@ -61,3 +66,66 @@ other_types-returns-clause-reads t c =
     let a = stops (tok.Sign s.Comma) (types_loop c.args.depth) (map type_form c.members.members.items) c.members.self.rest.now (sym c.at.ensures ∙ c.members-test.false) in
     let i = c.members.invariant.rest in
     first_of (search rules, grind (arith, common_steps))
+
+pub set_of-returns-in_err-expect-clause-reads : goal.set_of-returns-in_err-expect-clause-reads
+set_of-returns-in_err-expect-clause-reads t c =
+    let p = err_from_is_err_and c.from_residual.result c.from_residual.ensures.1 in
+    rw (p.1, p.2) (not_there type_form (is (tok.Word w.OfWord)) _ c.args.self.now.rest.now c.in_err-expect.field-0.0 c.expect.new.self.rest.now
+    c.in_err-expect.ensures.reads)
+
+pub set_of-returns-in_err-base-clause-reads : goal.set_of-returns-in_err-base-clause-reads
+set_of-returns-in_err-base-clause-reads t c =
+    let p = err_from_is_err_and c.from_residual-in_err-base.result c.from_residual-in_err-base.ensures.1 in
+    rw (p.1, p.2) (read_behind type_form (is (tok.Word w.OfWord)) _ c.args.self.now.rest.now c.expect.new.self.rest.now c.in_ok-expect.field-0
+    (Err c.in_err-base.field-0.0) c.sets.new.self.rest.now c.in_ok-expect.ensures.reads
+    (fails type_form type_form _ _ c.in_err-base.field-0.0 c.sets.new.self.rest.now c.in_err-base.ensures.reads))
+
+pub tuple_type-returns-in_err-type_tree-clause-reads : goal.tuple_type-returns-in_err-type_tree-clause-reads
+unfolding r.tuple_type
+tuple_type-returns-in_err-type_tree-clause-reads t c =
+    let p = err_from_is_err_and c.from_residual.result c.from_residual.ensures.1 in
+    rw (p.1, p.2) (fails type_form type_form _ _ c.in_err-type_tree.field-0.0 c.type_tree.new.self.rest.now c.in_err-type_tree.ensures.reads)
+
+pub tuple_type-returns-in_err-expect-clause-reads : goal.tuple_type-returns-in_err-expect-clause-reads
+unfolding r.tuple_type
+tuple_type-returns-in_err-expect-clause-reads t c =
+    let p = err_from_is_err_and c.from_residual-in_err-expect.result c.from_residual-in_err-expect.ensures.1 in
+    rw (p.1, p.2) (read_on type_form _ _ (type_form c.in_ok-type_tree.field-0) c.type_tree.new.self.rest.now (Err c.in_err-expect.field-0.0)
+    c.expect.new.self.rest.now c.in_ok-type_tree.ensures.reads
+    (not_there type_form (is (tok.Sign s.Comma)) _ c.type_tree.new.self.rest.now c.in_err-expect.field-0.0 c.expect.new.self.rest.now
+    c.in_err-expect.ensures.reads))
+
+pub tuple_type-returns-in_err-type_tree-2-clause-reads : goal.tuple_type-returns-in_err-type_tree-2-clause-reads
+unfolding r.tuple_type
+tuple_type-returns-in_err-type_tree-2-clause-reads t c =
+    let p = err_from_is_err_and c.from_residual-in_err-type_tree-2.result c.from_residual-in_err-type_tree-2.ensures.1 in
+    rw (p.1, p.2) (read_on type_form _ _ (type_form c.in_ok-type_tree.field-0) c.type_tree.new.self.rest.now (Err c.in_err-type_tree-2.field-0.0)
+    c.type_tree-2.new.self.rest.now c.in_ok-type_tree.ensures.reads
+    (read_behind type_form (is (tok.Sign s.Comma)) _ c.type_tree.new.self.rest.now c.expect.new.self.rest.now c.in_ok-expect.field-0
+    (Err c.in_err-type_tree-2.field-0.0) c.type_tree-2.new.self.rest.now c.in_ok-expect.ensures.reads
+    (fails type_form type_form _ _ c.in_err-type_tree-2.field-0.0 c.type_tree-2.new.self.rest.now c.in_err-type_tree-2.ensures.reads)))
+
+pub tuple_type-returns-clause-reads : goal.tuple_type-returns-clause-reads
+unfolding r.tuple_type
+tuple_type-returns-clause-reads t c =
+    read_on type_form _ _ (type_form c.in_ok-type_tree.field-0) c.type_tree.new.self.rest.now c.tuple_of.result c.tuple_of.new.self.rest.now
+    c.in_ok-type_tree.ensures.reads
+    (read_behind type_form (is (tok.Sign s.Comma)) _ c.type_tree.new.self.rest.now c.expect.new.self.rest.now c.in_ok-expect.field-0
+    c.tuple_of.result c.tuple_of.new.self.rest.now c.in_ok-expect.ensures.reads
+    (read_on type_form _ _ (type_form c.in_ok-type_tree-2.field-0) c.type_tree-2.new.self.rest.now c.tuple_of.result c.tuple_of.new.self.rest.now
+    c.in_ok-type_tree-2.ensures.reads
+    (rw (c.in_ok-push-2.ensures.items, c.in_ok-push.ensures.items, c.new-members.ensures.items) at c.tuple_of.ensures.reads)))
+
+pub tuple_of-returns-in_err-members-clause-reads : goal.tuple_of-returns-in_err-members-clause-reads
+tuple_of-returns-in_err-members-clause-reads t c =
+    let p = err_from_is_err_and c.from_residual.result c.from_residual.ensures.1 in
+    rw (p.1, p.2) (fails (λ l. map type_form (ty_items l)) type_form _ _ c.in_err-members.field-0.0 c.other_types.new.self.rest.now
+    c.in_err-members.ensures.reads)
+
+pub tuple_of-returns-in_err-expect-clause-reads : goal.tuple_of-returns-in_err-expect-clause-reads
+tuple_of-returns-in_err-expect-clause-reads t c =
+    let p = err_from_is_err_and c.from_residual-in_err-expect.result c.from_residual-in_err-expect.ensures.1 in
+    rw (p.1, p.2) (read_on type_form _ _ (map type_form (ty_items c.in_ok-members.members)) c.other_types.new.self.rest.now
+    (Err c.in_err-expect.field-0.0) c.expect.new.self.rest.now c.in_ok-members.ensures.reads
+    (not_there type_form (is (tok.Sign s.ParenClose)) _ c.other_types.new.self.rest.now c.in_err-expect.field-0.0 c.expect.new.self.rest.now
+    c.in_err-expect.ensures.reads))

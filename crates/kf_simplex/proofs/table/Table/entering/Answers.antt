@@ -5,7 +5,7 @@ use mir.Syntax.{w128}
 use Rattle.kf_simplex.specs.Entries.{no_entry}
 use Rattle.kf_simplex.specs.Flat.{entries_at}
 use Rattle.kf_simplex.proofs.Crossing.{head_here}
-use Rattle.kf_simplex.proofs.Merging.{none_before, none_more}
+use Rattle.kf_simplex.proofs.Merging.{none_at_all, none_before, none_more}
 use Rattle.kf_simplex.proofs.Reducing.{entries_read}
 use Rattle.kf_simplex.proofs.table.Table.entering.Goals as goal
 
@@ -36,3 +36,9 @@ loop-e-preserved c =
     let same : c.as_slice-e-items.result.now ≡ entries_at c.args.self.now.rows.items c.args.self.now.equations =
     c.as_slice-e-items.ensures.value ∙ entries_read c.args.self.now.rows.items c.args.self.now.equations c.index.result.now (omega (arith, c.args.self.now.rows_len)) c.index.ensures in
     none_more (entries_at c.args.self.now.rows.items c.args.self.now.equations) c.as_slice-e-items.result.now c.loop-e.e-index c.loop-e.invariant.0 same c.loop-e-test.true p c.loop-e.invariant.1 c.loop-e.invariant.2
+
+pub returns : goal.returns
+returns c =
+    let same : c.as_slice-e-items.result.now ≡ entries_at c.args.self.now.rows.items c.args.self.now.equations =
+    c.as_slice-e-items.ensures.value ∙ entries_read c.args.self.now.rows.items c.args.self.now.equations c.index.result.now (omega (arith, c.args.self.now.rows_len)) c.index.ensures in
+    λ j l. none_at_all (entries_at c.args.self.now.rows.items c.args.self.now.equations) c.as_slice-e-items.result.now c.loop-e.e-index c.loop-e.invariant.0 same (omega arith) c.loop-e.invariant.1 c.loop-e.invariant.2 j

@@ -2,6 +2,9 @@ use Rattle.std.proofs.Common.{◌∙◌}
 use Rattle.kf_simplex.proofs.FlatBuild.{whole_part}
 use Rattle.kf_simplex.proofs.table.Table.pivot.Goals as goal
 
+pub reduce_rows-requires-clause-narrow : goal.reduce_rows-requires-clause-narrow
+reduce_rows-requires-clause-narrow c = rw c.deref_mut.ensures.value c.requires.narrow
+
 pub returns-clause-rows : goal.returns-clause-rows
 returns-clause-rows c =
     let same = c.reduce_rows.auto.rows ∙ c.deref_mut.ensures.len ∙ c.args.self.now.rows.ok.0 in

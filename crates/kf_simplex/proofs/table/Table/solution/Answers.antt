@@ -28,6 +28,13 @@ loop-i-preserved c =
           w.if-column-self.false c.loop-i.invariant)
     ]
 
+pub quotient-requires-clause-positive : goal.quotient-requires-clause-positive
+quotient-requires-clause-positive c =
+    let f : FitsSigned w128 c.cell.result = search rules in
+    let column : c.index-column.result.now ≡ get_or c.args.self.now.basis.items c.loop-i.i 0 =
+    c.index-column.ensures ∙ get_or_default c.args.self.now.basis.items c.loop-i.i c.index-column.result.now 0 (omega (arith, c.args.self.now.basis_len)) in
+    simp to_z-of_z (rw (c.cell.ensures, column) (c.requires.positive c.loop-i.i c.loop-i-test.true (rw column at c.if-column-self.true)))
+
 pub quotient-requires-clause-num : goal.quotient-requires-clause-num
 quotient-requires-clause-num c =
     let f : FitsSigned w128 c.cell-right.result = search rules in

@@ -1,7 +1,7 @@
 -- Rows in flat lists: their common factors, cross products and places.
-use Rattle.std.proofs.Common.{◌≡◌, ℕ, zero, suc, ◌+◌, ◌*◌, ◌/◌, ◌<◌, ◌≤◌, ◌^◌, sym, ap, ◌∙◌, subst, arith, ⊎_elim, ◌⊎◌, inl, inr, unsigned_abs, List, FitsSigned, to_z, of_z}
+use Rattle.std.proofs.Common.{◌≡◌, ℕ, zero, suc, ◌+◌, ◌*◌, ◌/◌, ◌<◌, ◌≤◌, ◌^◌, refl, sym, ap, ◌∙◌, subst, arith, ⊎_elim, ◌⊎◌, inl, inr, unsigned_abs, List, FitsSigned, to_z, of_z}
 use Rattle.std.proofs.Math.IntN.{ℤ, pos, negsuc, ◌*ℤ◌, neg_ℤ}
-use Rattle.std.proofs.Math.Nat.{mul-div_cancel', mul-le-mul, mul-le-mul_left, eq-zero_of_zero-dvd, one-dvd, mul-dvd-mul_left}
+use Rattle.std.proofs.Math.Nat.{mul-div_cancel', mul-le-mul, mul-le-mul_left, mul-le-mul_right, eq-zero_of_zero-dvd, one-dvd, mul-dvd-mul_left}
 use Rattle.std.proofs.lemmas.Int.{ints, fits_signed_mul, to_z-of_z, unsigned_abs-mul}
 use Rattle.std.proofs.lemmas.Bool.{cases_lt}
 use Rattle.std.proofs.lemmas.Nat.Gcd.{dvd_trans, dvd-zero, le_of_dvd}
@@ -9,6 +9,8 @@ use Rattle.std.specs.Int.{IsGcd, ◌∣◌}
 use lib.Signed.{◌<ℤ◌, quot_z}
 use borrow.Author.Differences.{neg_is, product_is}
 use mir.Syntax.{w128}
+use Rattle.kf_frac.specs.Divisors.{gcd_of}
+use Rattle.kf_frac.proofs.CommonDivisors.{gcd_is, gcd_of_equals}
 use Rattle.kf_simplex.specs.Cells.{IsCommonGcd, IsNarrowNumber, IsReduced}
 use Rattle.kf_simplex.specs.Base.{at}
 
@@ -31,6 +33,24 @@ pub exact_quotient : (a d : ℤ) → pos 0 <ℤ d → unsigned_abs d ∣ unsigne
 exact_quotient (pos n) (pos m) h v = omega (arith, ints, mul-div_cancel' m v)
 exact_quotient (negsuc n) (pos m) h v = let q = product_is (pos m) (neg_ℤ (pos (suc n / m))) in omega (arith, ints, q, ap (λ (z : ℕ). m * z) (neg_is (pos (suc n / m))).0, ap (λ (z : ℕ). m * z) (neg_is (pos (suc n / m))).1, mul-div_cancel' m v)
 exact_quotient a (negsuc m) h v = absurd (omega (arith, ints))
+
+shared_bound : (m n g : ℕ) → g ∣ m → g ∣ n → g ≡ gcd_of m n → m ≤ 2 ^ 62 → n ≤ 2 ^ 62 → g ≤ 2 ^ 62
+shared_bound (suc m) n g first second is h k = omega (arith, h, le_of_dvd (omega arith) first)
+shared_bound zero (suc n) g first second is h k = omega (arith, k, le_of_dvd (omega arith) second)
+shared_bound zero zero g first second is h k = omega (arith, is, gcd_of_equals 0 0 refl)
+
+-- what two narrow numbers share divides both and is narrow, and so is what is left of each
+pub shared_facts : (p a : ℤ) (m n g : ℕ) → m ≡ unsigned_abs p → n ≡ unsigned_abs a → g ≡ gcd_of m n → IsNarrowNumber p → IsNarrowNumber a
+    → (g ∣ unsigned_abs p) × (g ∣ unsigned_abs a) × (g ≤ 2 ^ 62)
+shared_facts p a m n g size other is h k =
+    let divides : (g ∣ m) × (g ∣ n) = rw is ((gcd_is m n).0, (gcd_is m n).1) in
+    (rw (sym size) divides.0, rw (sym other) divides.1, shared_bound m n g divides.0 divides.1 is (omega (arith, size, h)) (omega (arith, other, k)))
+
+pub narrow_share : (d r p : ℤ) → pos 0 <ℤ d → d *ℤ r ≡ p → IsNarrowNumber p → IsNarrowNumber r
+narrow_share d r p up is h =
+    let sizes : unsigned_abs d * unsigned_abs r ≡ unsigned_abs p = sym (unsigned_abs-mul d r) ∙ ap unsigned_abs is in
+    let some : 1 ≤ unsigned_abs d = omega (arith, ints) in
+    omega (arith, sizes, h, mul-le-mul_right (unsigned_abs r) some)
 
 pub zero_from_abs : (z : ℤ) → unsigned_abs z ≡ 0 → z ≡ pos 0
 zero_from_abs (pos n) e = omega (arith, ints)

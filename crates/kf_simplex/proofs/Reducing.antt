@@ -1,6 +1,10 @@
 -- Rows in a list, of which one after the other goes through a pivot.
 use Rattle.std.proofs.Common.{◌≡◌, ◌≢◌, ℕ, zero, suc, ◌+◌, ◌^◌, ◌<◌, ◌≤◌, refl, sym, ap, ◌∙◌, subst, arith, ⊎_elim, ◌⊎◌, inl, inr, List, [], ◌∷◌, length, set, get_or, unsigned_abs, Bool, false}
-use Rattle.std.proofs.Math.IntN.{ℤ, pos, ◌-ℤ◌, ◌*ℤ◌}
+use Rattle.std.proofs.Math.IntN.{ℤ, pos, ◌-ℤ◌, ◌*ℤ◌, *ℤ-zero}
+use Rattle.std.proofs.lemmas.Int.{ints}
+use Rattle.kf_frac.proofs.Ring.{mul_assoc, ring}
+use Rattle.kf_simplex.proofs.Signs.{product_positive}
+use lib.Signed.{◌<ℤ◌}
 use Rattle.std.proofs.lemmas.Bool.{cases_eq, cases_lt}
 use Rattle.std.specs.Prelude.{IsTrue, Result, Ok, Err, IfOk}
 use Rattle.kf_simplex.specs.declared.row.Entry.{Entry}
@@ -50,6 +54,20 @@ reduced_row_along old old' new new' e f r = record {
   positive = r.positive;
   times = λ k. ap (λ (z : ℤ). r.factor *ℤ z) (sym (f k)) ∙ r.times k ∙ e k;
   primitive = λ m nz d all. r.primitive m (λ (z : old m ≡ pos 0). nz (sym (e m) ∙ z)) d (λ (k : ℕ). rw (f k) (all k));
+}
+
+scaled : (d p a p' a' x y : ℤ) → d *ℤ p' ≡ p → d *ℤ a' ≡ a → d *ℤ (p' *ℤ x -ℤ a' *ℤ y) ≡ p *ℤ x -ℤ a *ℤ y
+scaled d p a p' a' x y e f = rw (sym e, sym f) (simp ring (omega (arith, ints)))
+
+-- crossed by two numbers, or by these over what they share, a row comes to the same
+pub reduced_row_scaled : (d p a p' a' : ℤ) (xs ys new : ℕ → ℤ) → pos 0 <ℤ d → d *ℤ p' ≡ p → d *ℤ a' ≡ a
+    → IsReducedRow (λ k. p' *ℤ xs k -ℤ a' *ℤ ys k) new → IsReducedRow (λ k. p *ℤ xs k -ℤ a *ℤ ys k) new
+reduced_row_scaled d p a p' a' xs ys new up e f r = record {
+  factor = d *ℤ r.factor;
+  positive = product_positive d r.factor up r.positive;
+  times = λ k. mul_assoc d r.factor (new k) ∙ (ap (λ (z : ℤ). d *ℤ z) (r.times k) ∙ scaled d p a p' a' (xs k) (ys k) e f);
+  primitive = λ m nz n all. r.primitive m
+      (λ (z : p' *ℤ xs m -ℤ a' *ℤ ys m ≡ pos 0). nz (sym (scaled d p a p' a' (xs m) (ys m) e f) ∙ (ap (λ (z : ℤ). d *ℤ z) z ∙ *ℤ-zero d))) n all;
 }
 
 -- ---- one row

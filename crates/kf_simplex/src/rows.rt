@@ -72,13 +72,16 @@ fn common_factor(row: &Row) -> u128
     g
 }
 
-// A number over a divisor of it.
+// A number over a divisor of it, by one division of 64 bits where both fit.
 fn quotient(x: i128, g: i128) -> i128
     requires positive { pos 0 <ℤ g }
     requires divides { unsigned_abs g ∣ unsigned_abs x }
     ensures { g *ℤ result ≡ x }
 {
-    x / g
+    match (i64::try_from(x), i64::try_from(g)) {
+        (Ok(x), Ok(g)) => i128::from(x / g),
+        _ => x / g,
+    }
 }
 
 // Each number over a common divisor.
@@ -137,6 +140,20 @@ fn primitive(alloc: Global, row: Row) -> Result<Row, AllocError>
     }
 }
 
+// The greatest common divisor of two numbers, or 1 where both are 0.
+fn shared(p: i128, a: i128) -> i128
+    requires p { IsNarrowNumber p }
+    requires a { IsNarrowNumber a }
+    ensures positive { pos 0 <ℤ result }
+    ensures first { unsigned_abs result ∣ unsigned_abs p }
+    ensures second { unsigned_abs result ∣ unsigned_abs a }
+{
+    match gcd(p.unsigned_abs(), a.unsigned_abs()) {
+        0 => 1,
+        shared => shared as i128,
+    }
+}
+
 // The row made 0 at column `c` by the chosen row, without common factor.
 fn reduced(alloc: Global, row: &Row, chosen: &Row, c: usize) -> Result<Row, AllocError>
     requires row { AllNarrow (number_in row.now.entries.items) }
@@ -146,7 +163,8 @@ fn reduced(alloc: Global, row: &Row, chosen: &Row, c: usize) -> Result<Row, Allo
 {
     let p = number_at(chosen, c);
     let a = number_at(row, c);
-    let crossed = cross_row(alloc, row, chosen, p, a)?;
+    let shared = shared(p, a);
+    let crossed = cross_row(alloc, row, chosen, quotient(p, shared), quotient(a, shared))?;
     primitive(alloc, crossed)
 }
 

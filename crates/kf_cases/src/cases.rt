@@ -58,8 +58,14 @@ pub struct Case {
 }
 
 impl Case {
+    ghost use Rattle.std.specs.Prelude.{◌≡◌, [], None};
+
     /// A run without words and files, over files and sinks that don't fail.
-    pub fn new(alloc: Global) -> Self {
+    pub fn new(alloc: Global) -> Self
+        ensures words { result.words.items ≡ [] }
+        ensures files { result.files.items ≡ [] }
+        ensures status { result.status ≡ None }
+    {
         Case {
             words: Vec::new(alloc),
             files: Vec::new(alloc),

@@ -1,3 +1,5 @@
+ghost use Rattle.std.specs.Prelude.{◌<◌};
+
 use crate::cases::Case;
 use crate::errors::CaseError;
 use crate::keys::read_case;
@@ -66,7 +68,9 @@ fn print_difference(rt: &impl Print, name: &str, case: &Case, given: &Given) -> 
 }
 
 // Runs a case and counts it. Its first line has its name.
-fn try_case(rt: &(impl Print + AllocGlobal), text: &str, tally: &mut Tally) -> io::Result<()> {
+fn try_case(rt: &(impl Print + AllocGlobal), text: &str, tally: &mut Tally) -> io::Result<()>
+    ensures { 0 < tally.old.differ → 0 < tally.new.differ }
+{
     let (name, lines) = text.split_once('\n').unwrap_or((text, ""));
     match read_case(rt.alloc(), lines) {
         Ok(case) => match run_case(rt.alloc(), &case) {
@@ -86,7 +90,9 @@ fn try_case(rt: &(impl Print + AllocGlobal), text: &str, tally: &mut Tally) -> i
 }
 
 // Counts a case that can't be read or run as one that differs.
-fn not_run(rt: &impl Print, name: &str, error: CaseError, tally: &mut Tally) -> io::Result<()> {
+fn not_run(rt: &impl Print, name: &str, error: CaseError, tally: &mut Tally) -> io::Result<()>
+    ensures { 0 < tally.new.differ }
+{
     tally.count(false);
     match error {
         CaseError::Unreadable => println!(rt; "{name}: can't be read"),

@@ -1,4 +1,4 @@
-ghost use Rattle.std.specs.Prelude.{◌<◌, IfSome};
+ghost use Rattle.std.specs.Prelude.{◌≡◌, ◌<◌, ◌++◌, ◌∷◌, [], ℕ, List, IfSome, OnOk};
 
 use crate::errors::CaseError;
 use std::alloc::Global;
@@ -47,7 +47,10 @@ fn add_repeated(alloc: Global, bytes: &mut Vec<u8>, text: &str) -> Result<(), Ca
 }
 
 /// Adds the bytes of a content line.
-pub fn add_content(alloc: Global, bytes: &mut Vec<u8>, line: &str) -> Result<(), CaseError> {
+pub fn add_content(alloc: Global, bytes: &mut Vec<u8>, line: &str) -> Result<(), CaseError>
+    ensures line { (text : List ℕ) → line.now ≡ 124 ∷ text → OnOk result (bytes.new.items ≡ bytes.old.items ++ text ++ 10 ∷ []) }
+    ensures text { (text : List ℕ) → line.now ≡ 58 ∷ text → OnOk result (bytes.new.items ≡ bytes.old.items ++ text) }
+{
     match line.as_bytes() {
         [b'|', text @ ..] => {
             bytes.extend_from_slice(text)?;

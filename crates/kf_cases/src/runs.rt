@@ -1,3 +1,5 @@
+ghost use Rattle.std.specs.Prelude.{◌≢◌, ◌≤◌, IfOk, None};
+
 use crate::cases::{Case, NamedFile, Stream};
 use crate::errors::CaseError;
 use kf_entry::start;
@@ -54,8 +56,11 @@ fn sink_of(alloc: Global, stream: &Stream) -> Result<MemSink, CaseError> {
     Ok(MemSink::new(alloc, stream.room, stream.piece, fail)?)
 }
 
-/// What comes of a case's words over its files and sinks.
-pub fn run_case(alloc: Global, case: &Case) -> Result<Given, CaseError> {
+/// What comes of a case's words over its files and sinks; a case that wants no status isn't run.
+pub fn run_case(alloc: Global, case: &Case) -> Result<Given, CaseError>
+    ensures wanted { IfOk result (λ given. case.now.status ≢ None) }
+    ensures bound { IfOk result (λ given. given.status ≤ 13) }
+{
     if case.status.is_none() || case.read_piece == 0 {
         return Err(CaseError::Unreadable);
     }

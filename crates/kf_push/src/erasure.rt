@@ -1,17 +1,15 @@
 //! Columns erased: all that told them apart is gone.
 
-ghost use Rattle.std.specs.Prelude.{◌≡◌, ◌≢◌, ◌≤◌, ◌<◌, ◌+◌, ◌^◌, [], ◌∷◌, ℕ, All, IfOk, OnOk, sum_by};
+ghost use Rattle.std.specs.Prelude.{◌≡◌, ◌≢◌, ◌≤◌, ◌<◌, [], ◌∷◌, ℕ, All, IfOk, sum_by};
 ghost use Rattle.kf_frac.specs.Fractions.{limit};
 ghost use Rattle.kf_column.specs.Columns.{total, weight_at};
 ghost use Rattle.kf_column.specs.Joint.{mass};
 ghost use Rattle.kf_column.specs.Shapes.{IsBelow};
-ghost use Rattle.kf_hyper.specs.Sums.{ArePositive, Gains, summed};
 ghost use Rattle.kf_push.specs.Erased.{IsErased};
 
-use kf_hyper::{Column, ColumnList, Columns, Entry, column_of};
+use kf_hyper::{Column, ColumnList, Columns, gathered};
 use kf_value::Mem;
 use std::alloc::Global;
-use std::collections::BTreeMap;
 
 /// One column alone.
 pub fn alone(alloc: Global, scale: u128, column: Column) -> Result<Columns, Mem>
@@ -25,21 +23,6 @@ pub fn alone(alloc: Global, scale: u128, column: Column) -> Result<Columns, Mem>
     Ok(Columns::new(scale, ColumnList::new(columns)))
 }
 
-/// Adds each entry's weight at its value.
-fn add_entries(sums: &mut BTreeMap<u64, u128>, entries: &[Entry]) -> Result<(), Mem>
-    requires positive { ArePositive entries.now }
-    requires fits { total (summed sums.old.entries) + total entries.now < 2 ^ 128 }
-    ensures gains { OnOk result (Gains (weight_at entries.now) (total entries.now) (summed sums.old.entries) (summed sums.new.entries)) }
-    ensures positive { OnOk result (ArePositive (summed sums.old.entries) → ArePositive (summed sums.new.entries)) }
-    ensures below { OnOk result ((size : ℕ) → IsBelow size entries.now → IsBelow size (summed sums.old.entries) → IsBelow size (summed sums.new.entries)) }
-{
-    for entry in entries {
-        let before = sums.get(&entry.value).copied().unwrap_or(0);
-        sums.insert(entry.value, before + entry.weight)?;
-    }
-    Ok(())
-}
-
 /// The sum of all columns: what is left of them where nothing tells them apart.
 pub fn sum_of(alloc: Global, columns: &Columns) -> Result<Column, Mem>
     requires some { columns.now.columns ≢ [] }
@@ -47,11 +30,15 @@ pub fn sum_of(alloc: Global, columns: &Columns) -> Result<Column, Mem>
     ensures total { IfOk result (λ sum. total sum ≡ mass columns.now.columns) }
     ensures below { IfOk result (λ sum. (size : ℕ) → All (IsBelow size) columns.now.columns → IsBelow size sum) }
 {
-    let mut sums = BTreeMap::new(alloc);
-    for column in columns.columns().as_slice() {
-        add_entries(&mut sums, column.entries().as_slice())?;
+    let columns = columns.columns().as_slice();
+    if let [column] = columns {
+        return column.copy(alloc);
     }
-    column_of(alloc, sums)
+    let mut entries = Vec::new(alloc);
+    for column in columns {
+        entries.extend_from_slice(column.entries().as_slice())?;
+    }
+    Ok(gathered(entries))
 }
 
 /// Over the same scale no column where there is none, and else the one column that is the sum of all.

@@ -181,6 +181,10 @@ apply_tree e row n args xs is same items =
     ap (λ (k : ℕ). Apply k (exs (map ex_tree xs))) same ∙ ap (λ (ys : List Ex). Apply row (exs (map ex_tree ys))) items
     ∙ sym (ap ex_tree is ∙ ex_tree-Apply row args)
 
+pub call_kinded : (ks : List KindTree) (e : Ex) (row n : ℕ) (args : ExList) (xs : List Ex) → e ≡ ex.Apply row args → n ≡ row → xs ≡ ex_items args → IsKinded ks (ex_tree e)
+    → IsKinded ks (Apply n (exs (map ex_tree xs)))
+call_kinded ks e row n args xs is same items h = subst (IsKinded ks) (sym (apply_tree e row n args xs is same items)) h
+
 pub slot_within : (shape : Shape) (e : Ex) (i n : ℕ) → e ≡ ex.Slot i → n ≡ i → IsKinded (shape_kinds shape) (ex_tree e) → n < length (shape_types shape)
 slot_within shape e i n is same h =
     let shown = subst (IsKinded (shape_kinds shape)) (ap ex_tree is ∙ ex_tree-Slot i) h in

@@ -1,21 +1,22 @@
 -- Where a weight stands in an ascending list, by a binary search; and weights over a number, one after the other.
-use Rattle.std.proofs.Common.{◌≡◌, ℕ, zero, suc, ◌+◌, ◌/◌, ◌≤◌, ◌<◌, List, [], ◌∷◌, ◌++◌, length, map, take, drop, get_or, Ok, Err, refl, sym, ap, ◌∙◌, arith}
+use Rattle.std.proofs.Common.{◌≡◌, ℕ, zero, suc, ◌+◌, ◌/◌, ◌≤◌, ◌<◌, List, [], ◌∷◌, ◌++◌, length, map, take, drop, get_or, slice_get, true, Some, Ok, Err, refl, sym, ap, subst, ◌∙◌, arith}
 use Rattle.std.specs.Prelude.{set}
 use Rattle.std.specs.declared.cmp.Ordering.{Ordering}
 use Rattle.std.specs.declared.cmp.Ordering.TheVariants.{Less, Equal, Greater}
-use Rattle.std.specs.Ordering.{ordering_index, match_ordering}
+use Rattle.std.specs.Ordering.{is_lt, ordering_index, match_ordering}
 use Rattle.std.specs.List.{AllByRecursion as Each, insert, take-map}
 use Rattle.std.specs.List.Sorted.{IsNonDecreasingBy, IsBinarySearchResult, IsSearchInRange}
 use Rattle.std.proofs.lemmas.List.{append-nil, map-append, drop-map, drop_all, take_all, get_or_default}
 use Rattle.std.proofs.lemmas.List.Edits.{map_over_more}
 use Rattle.std.proofs.lemmas.List.Sums.{sum_by-cons}
+use Rattle.std.proofs.lemmas.Option.{get_or_from_slice_get, same_Some}
 use Rattle.std.proofs.lemmas.Nat.Gcd.{dvd_trans, IsGcd-from_zero}
 use Rattle.std.proofs.Math.Nat.{div-one, one-dvd}
 use Rattle.kf_frac.specs.Divisors.{gcd_of}
 use Rattle.kf_frac.proofs.CommonDivisors.{gcd_is, gcd_is_the, gcd_swap}
 use Rattle.kf_value.specs.Values.{ValueTree, order}
 use Rattle.kf_value.specs.Views.{value_tree}
-use Rattle.kf_value.proofs.Orders.{same}
+use Rattle.kf_value.proofs.Orders.{goes_on, same}
 use Rattle.kf_value.proofs.Sorting.{sorted-head, sorted-tail}
 use Rattle.kf_core.specs.Choices as core
 use Rattle.kf_core.specs.Choices.{common_factor, total}
@@ -86,6 +87,19 @@ module _ (w : core.Weighted) where
       ∙ ap (λ ws. weighted_tree x ∷ ws)
       (parted xs i (omega arith) (λ k d low high. below (suc k) d (omega arith) (omega arith)) (λ k d low high. above (suc k) d (omega arith) (omega arith)))
 
+  -- where the last value comes before it, it stands behind all of them
+  pub put_last : (xs : List Weighted) → Ascend xs → (k : ℕ) (x : Weighted) → k + 1 ≡ length xs → slice_get xs k ≡ Some x → order (value_tree x.value) w.value ≡ Less
+      → added w (trees xs) ≡ trees xs ++ w ∷ []
+  put_last [] ascends k x last at less = absurd (omega (arith, last))
+  put_last (y ∷ []) ascends zero x last at less =
+      ap (placed y []) (turned (value_tree y.value) w.value Less (subst (λ z. order (value_tree z.value) w.value ≡ Less) (sym (same_Some y x at)) less))
+  put_last (y ∷ z ∷ zs) ascends zero x last at less = absurd (omega (arith, last))
+  put_last (y ∷ ys) ascends (suc k) x last at less =
+      let next : order (value_tree y.value) (value_tree x.value) ≡ Less =
+      ap (λ z. order (value_tree y.value) (value_tree z.value)) (sym (get_or_from_slice_get ys k x x at)) ∙ later_greater y ys ascends k x (omega (arith, last)) in
+      ap (placed y ys) (turned (value_tree y.value) w.value Less (goes_on (value_tree y.value) (value_tree x.value) w.value next less))
+      ∙ ap (λ ws. weighted_tree y ∷ ws) (put_last ys (rest_ascend y ys ascends) k x (omega (arith, last)) at less)
+
   pub found_at : (read xs : List Weighted) (i : ℕ) (x : Weighted) → read ≡ xs → Ascend xs → IsSearchInRange (Ok i) (length read)
       → IsBinarySearchResult (λ (y : Weighted). order (value_tree y.value) w.value) read (Ok i) → x ≡ get_or xs i x → trees (set xs i (more x)) ≡ added w (trees xs)
   found_at read xs i x same_list ascends within found is =
@@ -109,6 +123,11 @@ weight_at (y ∷ ys) zero x within is =
     let same_weight : x.weight ≡ y.weight = ap (λ z. z.weight) is in
     omega (arith, same_weight, sum_by-cons (λ w. w.weight) (weighted_tree y) (trees ys))
 weight_at (y ∷ ys) (suc i) x within is = omega (arith, sum_by-cons (λ w. w.weight) (weighted_tree y) (trees ys), weight_at ys i x (omega arith) is)
+
+pub less_is : (o : Ordering) → is_lt o ≡ true → o ≡ Less
+less_is Less h = refl
+less_is Equal h = absurd (cc)
+less_is Greater h = absurd (cc)
 
 -- ---- the common factor
 

@@ -1,5 +1,5 @@
 -- The truth or the whole number that a variable holds, by its number in its type.
-use Rattle.std.proofs.Common.{◌≡◌, ℕ, ℤ, zero, suc, pos, negsuc, ◌<◌, ◌+ℤ◌, ◌-ℤ◌, ◌≤ℤ◌, Bool, true, false, length, slice_get, Some, refl, sym, ap, ◌∙◌, subst, arith, get_or, zero-add, FitsSigned, to_z, of_z, w64}
+use Rattle.std.proofs.Common.{◌≡◌, ℕ, ℤ, zero, suc, pos, negsuc, ◌<◌, ◌+ℤ◌, ◌-ℤ◌, ◌≤ℤ◌, Bool, true, false, length, slice_get, Some, refl, sym, ap, ◌∙◌, subst, arith, get_or, zero-add, Ok, FitsSigned, to_z, of_z, w64}
 use Rattle.std.specs.Prelude.{int_le, ◌&&◌, ◌==◌, if◌then◌else◌, List, Option, None, IfSome}
 use Rattle.std.specs.Option.{option_map}
 use Rattle.std.specs.List.{range_with_len}
@@ -16,8 +16,6 @@ use Rattle.kf_core.specs.Evaluation.{ev}
 use Rattle.kf_core.specs.Views.{ex_tree}
 use Rattle.kf_core.specs.declared.ex.Ex.{Ex}
 use Rattle.kf_core.specs.declared.ex.Ex.TheVariants as ex
-use Rattle.kf_eval.specs.Scalars.{Tells, scalar_tree}
-use Rattle.kf_eval.specs.declared.scalar.Scalar.{Scalar}
 use Rattle.kf_eval.proofs.Checking.{slot_value}
 
 truth_at : (n : ℕ) → n < 2 → slice_get (values Boolean) n ≡ Some (Truth (n == 1))
@@ -79,7 +77,7 @@ module _ (t : TypeTree) (lo hi step : ℤ) (n : ℕ) (is : t ≡ Range lo hi) (s
       ap (λ u. slice_get (values u) n) is ∙ (whole_at lo hi n few ∙ ap (λ i. Some (Whole i)) (sym sum))
 
 -- what a variable's value tells of the expression that names it
-pub slot_tells : (s : List ValueTree) (e : Ex) (i n : ℕ) (r : Option Scalar) → e ≡ ex.Slot i → n ≡ i → IfSome r (λ x. slice_get s n ≡ Some (scalar_tree x))
-    → Tells r (ev s (ex_tree e))
-slot_tells s e i n None is same at = tt
-slot_tells s e i n (Some x) is same at = slot_value s e i n (scalar_tree x) is same at
+pub slot_tells : {A : Type 0} (tree : A → ValueTree) (s : List ValueTree) (e : Ex) (i n : ℕ) (r : Option A) → e ≡ ex.Slot i → n ≡ i
+    → IfSome r (λ x. slice_get s n ≡ Some (tree x)) → IfSome r (λ x. ev s (ex_tree e) ≡ Ok (tree x))
+slot_tells tree s e i n None is same at = tt
+slot_tells tree s e i n (Some x) is same at = slot_value s e i n (tree x) is same at

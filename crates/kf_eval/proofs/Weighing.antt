@@ -1,15 +1,16 @@
 -- What each form of distribution answers, from what its expressions answer.
 use Rattle.std.proofs.Common.{◌≡◌, ℕ, zero, suc, ℤ, pos, negsuc, ◌+◌, ◌-◌, ◌*◌, ◌/◌, ◌^◌, ◌<◌, ◌≤◌, ◌+ℤ◌, ◌-ℤ◌, ◌<ℤ◌, ◌≤ℤ◌, Bool, true, false, List, [], ◌∷◌, ◌++◌, length, map, Ok, Err, refl, sym, ap, subst, ◌∙◌, arith}
-use Rattle.std.specs.Prelude.{◌==◌, IfOk, int_lt, unsigned_abs, nat_lt, if◌then◌else◌}
+use Rattle.std.specs.Prelude.{◌==◌, Option, Some, None, IfOk, IfSome, int_lt, unsigned_abs, nat_lt, if◌then◌else◌}
 use Rattle.std.specs.List.{All, range_with_len}
 use Rattle.std.specs.List.Sorted.{IsStrictlySortedBy}
 use Rattle.std.proofs.Math.Nat.{div-le_self}
 use Rattle.std.proofs.lemmas.Bool.Decides.{nat_tests}
 use Rattle.std.proofs.lemmas.Int.{ints}
 use Rattle.std.proofs.lemmas.List.{append_assoc, append-nil, map-append, length-map}
+use Rattle.std.proofs.lemmas.List.Elements.{recursion_from_All}
 use Rattle.std.proofs.lemmas.List.FromFn.{length-range_with_len, map-range_with_len_more}
 use Rattle.std.proofs.lemmas.List.Sums.{sum_by-cons}
-use Rattle.kf_value.specs.Values.{ValueTree, Whole, Set, parts, order, whole, elements}
+use Rattle.kf_value.specs.Values.{ValueTree, Truth, Whole, Tuple, Set, parts, order, whole, elements}
 use Rattle.kf_value.specs.Forms.{IsWellFormed, HasKind}
 use Rattle.kf_value.specs.Kinds.{KindTree, WholeKind}
 use Rattle.kf_value.specs.Types.{Range, values, counted}
@@ -29,6 +30,10 @@ use Rattle.kf_core.specs.Choices.{Chosen, ChoiceFault, Arithmetic, NoWeight, Neg
 use Rattle.kf_core.specs.Dxs.{DxCaseTree, DxShape, DxTree, case_of, dx_at, Sure, UniformSet, UniformRange, Choose}
 use Rattle.kf_core.specs.Evaluation.{Evaluated, ev}
 use Rattle.kf_core.specs.Exs.{ExTree}
+use Rattle.kf_core.specs.Views.{dx_shape, ex_tree}
+use Rattle.kf_core.specs.declared.dx.DxNode.{DxNode}
+use Rattle.kf_core.specs.declared.dx.DxNode.TheVariants as dx
+use Rattle.kf_core.specs.declared.ex.Ex.{Ex}
 use Rattle.kf_core.proofs.Gcds.{over}
 use Rattle.kf_core.proofs.Plain.{plain_choices, sure_choice}
 use Rattle.kf_core.specs.Each.{cases_listed}
@@ -51,9 +56,6 @@ above_zero (pos (suc n)) h some = omega (arith, ints)
 above_zero (negsuc n) h some = absurd (omega (arith, ints, h))
 
 module _ (a z : ℤ) (same : a ≡ z) where
-  pub reads_negative : int_lt a (pos 0) ≡ true → z <ℤ pos 0
-  reads_negative h = let below : a <ℤ pos 0 = grind (arith, ints) in subst (λ x. x <ℤ pos 0) same below
-
   pub reads_positive : int_lt a (pos 0) ≡ false → (z ≡ pos 0 → ⊥) → pos 0 <ℤ z
   reads_positive h some = let above : pos 0 ≤ℤ a = grind (arith, ints) in above_zero z (subst (λ x. pos 0 ≤ℤ x) same above) some
 
@@ -64,14 +66,17 @@ module _ (a b x y : ℤ) (first : a ≡ x) (last : b ≡ y) where
   at_most : int_lt b a ≡ false → a ≤ℤ b
   at_most h = grind (arith, ints)
 
-  pub reads_long : (n : ℕ) → n ≡ unsigned_abs (a -ℤ b) → int_lt b a ≡ false → 65536 ≤ n → pos 65536 ≤ℤ (y -ℤ x)
-  reads_long n is h long = let below = at_most h in let far : pos 65536 ≤ℤ (b -ℤ a) = omega (arith, ints) in rw (← first, ← last) far
-
   pub reads_short : (n : ℕ) → n ≡ unsigned_abs (a -ℤ b) → int_lt b a ≡ false → n < 65536 → (y -ℤ x) <ℤ pos 65536
   reads_short n is h short = let below = at_most h in let near : (b -ℤ a) <ℤ pos 65536 = omega (arith, ints) in rw (← first, ← last) near
 
   pub reads_span : (n : ℕ) → n ≡ unsigned_abs (a -ℤ b) → int_lt b a ≡ false → a +ℤ pos (n + 1 - 1) ≡ y
   reads_span n is h = let below = at_most h in let there : a +ℤ pos (n + 1 - 1) ≡ b = omega (arith, ints) in there ∙ last
+
+pub whole_is : (v : ValueTree) → HasKind v WholeKind → v ≡ Whole (whole v)
+whole_is (Truth b) h = absurd h
+whole_is (Whole z) h = refl
+whole_is (Tuple vs) h = absurd h
+whole_is (Set vs) h = absurd h
 
 -- how many there are, by a test for none
 pub some_counted : (n : ℕ) (b : Bool) → b ≡ (n == 0) → b ≡ false → 1 ≤ n
@@ -130,12 +135,24 @@ once_weights vs ws ascends some few same =
     let small : total (trees ws) ≡ length vs = ap total same ∙ total_once vs in
     (ap finished (some_there vs some) ∙ (ap (λ us. Ok us) (plain_choices vs ascends some) ∙ ap (λ us. Ok us) (sym same)), omega (arith, small, few))
 
+sure_chosen : (s : List ValueTree) (x : ExTree) (v : ValueTree) → ev s x ≡ Ok v → choices s (Sure x) ≡ Ok (once v ∷ [])
+sure_chosen s x v known = ap (λ (e : Evaluated). finished (with_value e (λ u. Ok (once u ∷ [])))) known ∙ ap (λ us. Ok us) (sure_choice v)
+
+-- the value of an expression, where there is one, is all that is chosen
+abbrev pub SurelyChosen : Chosen → Option Value → Type 0
+SurelyChosen defined o = IfSome o (λ v. defined ≡ Ok (once (value_tree v) ∷ []))
+
+pub sure_told : (s : List ValueTree) (node : DxNode) (x : Ex) (o : Option Value) → node ≡ dx.Sure x → IfSome o (λ v. ev s (ex_tree x) ≡ Ok (value_tree v))
+    → SurelyChosen (choices s (dx_shape node)) o
+sure_told s node x None is told = tt
+sure_told s node x (Some v) is told = ap (λ n. choices s (dx_shape n)) is ∙ sure_chosen s (ex_tree x) (value_tree v) told
+
 pub sure_weights : (s : List ValueTree) (x : ExTree) (v : Value) (before after : List Weighted) → ev s x ≡ Ok (value_tree v) → before ≡ []
     → after ≡ before ++ record { value = v; weight = 1 } ∷ [] → AreWeightsOf (choices s (Sure x)) after
 sure_weights s x v before after known empty grown =
     let same : trees after ≡ once (value_tree v) ∷ [] = once_pushed [] before after v (ap trees empty) grown in
     let small : total (trees after) ≡ 1 = ap total same ∙ total_once (value_tree v ∷ []) in
-    (ap (λ (e : Evaluated). finished (with_value e (λ u. Ok (once u ∷ [])))) known ∙ (ap (λ us. Ok us) (sure_choice (value_tree v)) ∙ ap (λ us. Ok us) (sym same)), omega (arith, small))
+    (sure_chosen s x (value_tree v) known ∙ ap (λ us. Ok us) (sym same), omega (arith, small))
 
 -- ---- the elements of a set
 
@@ -171,10 +188,6 @@ pub numbers_are : (a b : ℤ) → values (Range a b) ≡ numbers_from a (counted
 unfolding values
 numbers_are a b = refl
 
-counted_long : (z : ℤ) → pos 65536 ≤ℤ z → nat_lt 65536 (counted z) ≡ true
-counted_long (pos n) h = let long : 65536 ≤ n = omega (arith, ints, h) in grind (arith, nat_tests)
-counted_long (negsuc n) h = absurd (omega (arith, ints, h))
-
 counted_short : (z : ℤ) → z <ℤ pos 65536 → nat_lt 65536 (counted z) ≡ false
 counted_short (pos n) h = let short : n < 65536 = omega (arith, ints, h) in grind (arith, nat_tests)
 counted_short (negsuc n) h = refl
@@ -189,9 +202,6 @@ from_none a b h =
     let short = counted_short (b -ℤ a) (omega (arith, ints, h)) in
     ap (λ long. finished (if long then Err RangeLong else some_of (map once (values (Range a b))))) short
     ∙ ap (λ vs. finished (some_of (map once vs))) (numbers_are a b ∙ ap (numbers_from a) none)
-
-pub from_long : (a b : ℤ) → pos 65536 ≤ℤ (b -ℤ a) → finished (each_from a b) ≡ Err RangeLong
-from_long a b h = ap (λ long. finished (if long then Err RangeLong else some_of (map once (values (Range a b))))) (counted_long (b -ℤ a) h)
 
 pub from_short : (a b : ℤ) → (b -ℤ a) <ℤ pos 65536 → finished (each_from a b) ≡ finished (some_of (map once (values (Range a b))))
 from_short a b h = ap (λ long. finished (if long then Err RangeLong else some_of (map once (values (Range a b))))) (counted_short (b -ℤ a) h)
@@ -212,10 +222,6 @@ number_weights a n ws some few same =
     once_weights (values (Range a last)) ws (values_ascend (Range a last)) (omega (arith, size_is, some)) (omega (arith, size_is, few)) (same ∙ ap (map once) (sym listed))
 
 -- ---- cases
-
-pub weighed_negative : (e : Evaluated) (z : ℤ) → z <ℤ pos 0 → weighed e z ≡ Err NegativeWeight
-weighed_negative e (pos n) h = absurd (omega (arith, ints, h))
-weighed_negative e (negsuc n) h = refl
 
 pub weighed_some : (e : Evaluated) (v : ValueTree) (z : ℤ) → e ≡ Ok v → pos 0 <ℤ z → weighed e z ≡ Ok (record { value = v; weight = unsigned_abs z } ∷ [])
 weighed_some e v (pos zero) known h = absurd (omega (arith, ints, h))
@@ -338,3 +344,10 @@ pub are_kinded : ChoicesKeepKinds → (ks : List KindTree) (s : List ValueTree) 
     → choices s (shape_in d) ≡ Ok ws → (1 ≤ length ws) × All (λ w. HasKind w.value k × IsWellFormed w.value) ws
 are_kinded keeps ks s are (dx_at at d) k ws kinded known =
     subst (λ (r : Chosen). IfOk r (λ us. (1 ≤ length us) × All (λ w. HasKind w.value k × IsWellFormed w.value) us)) known (keeps ks s at d k are kinded)
+
+pub sure_kinded : ChoicesKeepKinds → (ks : List KindTree) (s : List ValueTree) → AreOfKinds ks s → (d : DxTree) (k : KindTree) (o : Option Value) → DistKinded ks d k
+    → SurelyChosen (choices s (shape_in d)) o → IfSome o (λ v. HasKind (value_tree v) k × IsWellFormed (value_tree v))
+sure_kinded keeps ks s are d k None kinded told = tt
+sure_kinded keeps ks s are d k (Some v) kinded told =
+    let ws = once (value_tree v) ∷ [] in
+    (recursion_from_All (λ w. HasKind w.value k × IsWellFormed w.value) ws (are_kinded keeps ks s are d k ws kinded told).1).0

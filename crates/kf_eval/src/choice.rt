@@ -48,6 +48,23 @@ pub struct Choice {
     pub total: u128,
 }
 
+impl Choice {
+    ghost use Rattle.std.specs.Prelude.{◌≡◌, [], ◌∷◌, OnOk};
+    ghost use Rattle.kf_value.specs.Views.{value_tree};
+    ghost use Rattle.kf_eval.specs.Choices.{weighted_trees};
+
+    /// Makes it the choice of this value for certain, in the memory that it has.
+    pub(crate) fn become_sure(&mut self, value: Value) -> Result<(), Mem>
+        ensures items { OnOk result (weighted_trees self.new ≡ record { value = value_tree value; weight = 1 } ∷ []) }
+        ensures total { OnOk result (self.new.total ≡ 1) }
+    {
+        self.items.items.clear();
+        self.items.items.push(Weighted { value, weight: 1 })?;
+        self.total = 1;
+        Ok(())
+    }
+}
+
 /// Why a distribution chooses nothing in a store.
 #[derive(Clone, Copy, Debug, PartialEq, Eq)]
 pub enum ChoiceError {

@@ -23,7 +23,6 @@ ghost use Rattle.kf_eval.specs.Kinds.{shape_kinds, IsKinded, AreKinded};
 
 use crate::fault::EvalError;
 use crate::parts::{code_at, part_at, value_in};
-use crate::scalar::value_from;
 use crate::scalars::scalar_of;
 use crate::sets::set_of;
 use kf_core::{Ex, evaluation_laws};
@@ -44,7 +43,7 @@ pub fn eval(alloc: Global, e: &Ex, shape: &Shape, store: u64) -> Result<Value, E
 {
     evaluation_laws();
     match scalar_of(e, shape, store) {
-        Some(scalar) => Ok(value_from(scalar)),
+        Some(value) => Ok(value),
         None => value_of(alloc, e, shape, store),
     }
 }

@@ -14,7 +14,7 @@ ghost use Rattle.kf_eval.specs.Memos.{IsChosen, number_in};
 ghost use Rattle.kf_eval.specs.Reads.{span};
 
 use crate::choice::{Choice, ChoiceError, Weighted};
-use crate::outcomes::choices_in;
+use crate::outcomes::{choices_in, sure_in};
 use crate::read_slots::slots_read;
 use kf_core::{Dx, choice_laws};
 use kf_value::{Mem, Shape, store_laws};
@@ -138,6 +138,12 @@ impl Memo {
         ensures fault { IfErr result (λ e. (s : List ValueTree) → IsStore (shape_types shape.now) store s → IsChoiceFaultOf (choices_of s (dx_shape dist.now.node)) e) }
     {
         if self.places.is_empty() {
+            if let Some(value) = sure_in(dist, shape, store) {
+                if !self.choices.is_empty() {
+                    self.choices[0].become_sure(value)?;
+                    return Ok(0);
+                }
+            }
             let room = room_of(alloc, &mut self.choices);
             let choice = chosen_in(alloc, room, shape, dist, store)?;
             self.choices.clear();

@@ -1,24 +1,26 @@
 //! What a distribution chooses in a store.
 
-ghost use Rattle.std.specs.Prelude.{◌≡◌, [], ◌<◌, ◌≤◌, ◌+◌, ◌^◌, List, length, map, IfOk, IfSome, OnOk};
+ghost use Rattle.std.specs.Prelude.{◌≡◌, [], ◌∷◌, ◌<◌, ◌≤◌, ◌+◌, ◌^◌, List, length, map, IfOk, IfSome, Ok};
 ghost use Rattle.std.specs.List.{All};
 ghost use Rattle.kf_value.specs.Values.{ValueTree};
 ghost use Rattle.kf_value.specs.Forms.{IsWellFormed, HasKind};
 ghost use Rattle.kf_value.specs.Kinds.{KindTree};
 ghost use Rattle.kf_value.specs.Shapes.{shape_types, shape_size};
 ghost use Rattle.kf_value.specs.Numbers.{IsStore};
+ghost use Rattle.kf_value.specs.Views.{value_tree};
 ghost use Rattle.kf_core.specs.Runs.{store_at};
 ghost use Rattle.kf_core.specs.Checked.{DistKinded};
-ghost use Rattle.kf_core.specs.Choices.{choices as choices_of};
+ghost use Rattle.kf_core.specs.Choices.{choices as choices_of, once};
 ghost use Rattle.kf_core.specs.Views.{dx_tree, dx_shape};
 ghost use Rattle.kf_eval.specs.Choices.{AnswersChoice, weighted_trees};
 ghost use Rattle.kf_eval.specs.Gathering.{AnswersWeights};
 ghost use Rattle.kf_eval.specs.Kinds.{shape_kinds};
 
 use crate::choice::{Choice, ChoiceError, Weighted, WeightedList};
+use crate::scalars::scalar_of;
 use crate::weights::{choose, flip, sure, total_of, uniform_range, uniform_set};
 use kf_core::{Dx, DxNode, choice_laws, evaluation_laws};
-use kf_value::Shape;
+use kf_value::{Shape, Value};
 use std::alloc::Global;
 
 /// What a checked distribution chooses in a store, named by its number in the shape.
@@ -60,6 +62,22 @@ pub(crate) fn choices_in(
         items: WeightedList::new(items),
         total,
     })
+}
+
+/// The value that a distribution chooses for certain, where this is a truth or a whole number. `None` promises nothing.
+pub(crate) fn sure_in(d: &Dx, shape: &Shape, store: u64) -> Option<Value>
+    requires store { store < shape_size shape.now }
+    requires kinded { (k : KindTree) × DistKinded (shape_kinds shape.now) (dx_tree d.now) k }
+    ensures chosen { IfSome result (λ v. choices_of (store_at (shape_types shape.now) store) (dx_shape d.now.node) ≡ Ok (once (value_tree v) ∷ [])) }
+    ensures kind { (k : KindTree) → DistKinded (shape_kinds shape.now) (dx_tree d.now) k
+        → IfSome result (λ v. HasKind (value_tree v) k × IsWellFormed (value_tree v)) }
+{
+    evaluation_laws();
+    choice_laws();
+    match &d.node {
+        DxNode::Sure(x) => scalar_of(x, shape, store),
+        _ => None,
+    }
 }
 
 fn weights_of(

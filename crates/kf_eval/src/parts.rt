@@ -3,14 +3,13 @@
 ghost use Rattle.std.specs.Prelude.{◌≡◌, ◌<◌, length, slice_get, Some, IfOk, IfSome};
 ghost use Rattle.kf_value.specs.Forms.{IsWellFormed};
 ghost use Rattle.kf_value.specs.Shapes.{shape_types, shape_size};
+ghost use Rattle.kf_value.specs.Values.{Truth, Whole};
 ghost use Rattle.kf_value.specs.Views.{value_tree};
 ghost use Rattle.kf_ops.specs.Rows.{operators as rows};
 ghost use Rattle.kf_core.specs.Runs.{store_at};
 ghost use Rattle.kf_core.specs.Evaluation.{operator_at as operator_of, part_of};
 ghost use Rattle.kf_eval.specs.Kinds.{HasPart};
-ghost use Rattle.kf_eval.specs.Scalars.{scalar_tree};
 
-use crate::scalar::Scalar;
 use kf_ops::{Op, operator_at};
 use kf_value::{Mem, Shape, Ty, Value, value_at};
 use std::alloc::Global;
@@ -45,15 +44,26 @@ pub fn value_in(alloc: Global, shape: &Shape, store: u64, i: usize) -> Result<Va
     value_at(alloc, ty, shape.slot(store, i))
 }
 
-/// The value of the variable at `i` in a store, where it is a truth or a whole number.
-pub(crate) fn scalar_in_slot(shape: &Shape, store: u64, i: usize) -> Option<Scalar>
+/// The whole number that the variable at `i` holds in a store, where it is of such a type.
+pub(crate) fn whole_in_slot(shape: &Shape, store: u64, i: usize) -> Option<i64>
     requires store { store < shape_size shape.now }
     requires within { i < length (shape_types shape.now) }
-    ensures { IfSome result (λ s. slice_get (store_at (shape_types shape.now) store) i ≡ Some (scalar_tree s)) }
+    ensures { IfSome result (λ z. slice_get (store_at (shape_types shape.now) store) i ≡ Some (Whole z)) }
 {
     match &shape.types().as_slice()[i] {
-        Ty::Bool => Some(Scalar::Truth(shape.slot(store, i) == 1)),
-        Ty::Int { lo, .. } => Some(Scalar::Whole(*lo + i64::from(shape.slot(store, i)))),
-        Ty::Tuple(_) | Ty::Set(_) => None,
+        Ty::Int { lo, .. } => Some(*lo + i64::from(shape.slot(store, i))),
+        Ty::Bool | Ty::Tuple(_) | Ty::Set(_) => None,
+    }
+}
+
+/// The truth that the variable at `i` holds in a store, where it is of that type.
+pub(crate) fn truth_in_slot(shape: &Shape, store: u64, i: usize) -> Option<bool>
+    requires store { store < shape_size shape.now }
+    requires within { i < length (shape_types shape.now) }
+    ensures { IfSome result (λ b. slice_get (store_at (shape_types shape.now) store) i ≡ Some (Truth b)) }
+{
+    match &shape.types().as_slice()[i] {
+        Ty::Bool => Some(shape.slot(store, i) == 1),
+        Ty::Int { .. } | Ty::Tuple(_) | Ty::Set(_) => None,
     }
 }

@@ -1,24 +1,28 @@
 //! The weights that each form of distribution gives its values.
 
-ghost use Rattle.std.specs.Prelude.{◌≡◌, [], ◌<◌, ◌≤◌, ◌+◌, ◌^◌, List, length, map, pos, ◌-◌, ◌+ℤ◌, ◌≤ℤ◌, IfOk, IfSome, Ok};
+ghost use Rattle.std.specs.Prelude.{◌≡◌, [], ◌<◌, ◌≤◌, ◌+◌, ◌^◌, List, length, map, pos, ◌-◌, ◌+ℤ◌, ◌≤ℤ◌, IfOk, IfSome, MatchResult, Ok};
 ghost use Rattle.std.specs.List.Sorted.{IsStrictlySortedBy};
 ghost use Rattle.kf_value.specs.Kinds.{KindTree, SetKind, WholeKind};
 ghost use Rattle.kf_value.specs.Shapes.{shape_size, shape_types};
 ghost use Rattle.kf_value.specs.Types.{Range, values};
-ghost use Rattle.kf_value.specs.Values.{ValueTree, order, whole};
+ghost use Rattle.kf_value.specs.Values.{ValueTree, Whole, order, whole};
 ghost use Rattle.kf_value.specs.Views.{value_tree};
 ghost use Rattle.kf_core.specs.Runs.{store_at};
 ghost use Rattle.kf_core.specs.Checked.{CasesKinded, Kinded};
 ghost use Rattle.kf_core.specs.Results.{then_ok};
 ghost use Rattle.kf_core.specs.Choices.{case_listed, choices as choices_of, lowest, gathered, once, some_of, total};
 ghost use Rattle.kf_core.specs.Dxs.{Choose, Flip, Sure, UniformRange, UniformSet};
+ghost use Rattle.kf_core.specs.Evaluation.{ev};
 ghost use Rattle.kf_core.specs.Views.{dx_case_tree, ex_tree};
+ghost use Rattle.kf_eval.specs.Answers.{IsFaultOf};
 ghost use Rattle.kf_eval.specs.Choices.{weighted_tree};
 ghost use Rattle.kf_eval.specs.Gathering.{AnswersCase, AnswersWeights};
 ghost use Rattle.kf_eval.specs.Kinds.{IsKinded, shape_kinds};
 
 use crate::choice::{ChoiceError, Weighted};
 use crate::evaluation::eval;
+use crate::fault::EvalError;
+use crate::scalars::whole_of;
 use crate::weighted::{add, in_lowest_terms};
 use kf_core::{DxCase, Ex};
 use kf_value::{Shape, Value};
@@ -72,8 +76,8 @@ pub fn uniform_range(
     requires last { Kinded (shape_kinds shape.now) (ex_tree y.now) WholeKind }
     ensures { AnswersWeights result (choices_of (store_at (shape_types shape.now) store) (UniformRange (ex_tree x.now) (ex_tree y.now))) }
 {
-    let first = number_in(&eval(alloc, x, shape, store)?);
-    let last = number_in(&eval(alloc, y, shape, store)?);
+    let first = whole(alloc, x, shape, store)?;
+    let last = whole(alloc, y, shape, store)?;
     let span = first.abs_diff(last);
     if first > last {
         Err(ChoiceError::NoWeight)
@@ -143,7 +147,7 @@ fn weighed(
     ensures listed { AnswersCase result (case_listed (store_at (shape_types shape.now) store) (dx_case_tree case.now)) }
     ensures within { IfOk result (λ item. IfSome item (λ w. (0 < w.weight) × (w.weight < 2 ^ 63))) }
 {
-    let weight = number_in(&eval(alloc, &case.weight, shape, store)?);
+    let weight = whole(alloc, &case.weight, shape, store)?;
     if weight < 0 {
         return Err(ChoiceError::NegativeWeight);
     }
@@ -155,6 +159,19 @@ fn weighed(
         value,
         weight: u128::from(weight.unsigned_abs()),
     }))
+}
+
+/// The whole number that an expression of that kind is.
+fn whole(alloc: Global, x: &Ex, shape: &Shape, store: u64) -> Result<i64, EvalError>
+    requires store { store < shape_size shape.now }
+    requires kinded { Kinded (shape_kinds shape.now) (ex_tree x.now) WholeKind }
+    ensures { let defined = ev (store_at (shape_types shape.now) store) (ex_tree x.now) in
+        MatchResult result (λ n. defined ≡ Ok (Whole n)) (IsFaultOf defined) }
+{
+    match whole_of(x, shape, store) {
+        Some(number) => Ok(number),
+        None => Ok(number_in(&eval(alloc, x, shape, store)?)),
+    }
 }
 
 /// The number that a value is, which is a whole number.

@@ -1,4 +1,4 @@
-use Rattle.std.proofs.Common.{Ok, sym, ap, ◌∙◌}
+use Rattle.std.proofs.Common.{Ok}
 use Rattle.kf_value.specs.Shapes.{shape_types}
 use Rattle.kf_core.specs.Runs.{store_at}
 use Rattle.kf_core.specs.Evaluation.{ev}
@@ -11,8 +11,8 @@ use Rattle.kf_eval.proofs.evaluation.eval.Goals as goal
 pub returns-in-Some-clause-kind : goal.returns-in-Some-clause-kind
 returns-in-Some-clause-kind c = λ k kinded.
     let are = store_kinds c.evaluation_laws.ensures.stores c.args.shape.now c.args.store c.requires.store in
-    answer_kind c.evaluation_laws.ensures.kinds (shape_kinds c.args.shape.now) (store_at (shape_types c.args.shape.now) c.args.store) are (ex_tree c.args.e.now) k (Ok c.value_from.result) kinded
-    (c.in-Some.ensures ∙ ap (λ v. Ok v) (sym c.value_from.ensures))
+    answer_kind c.evaluation_laws.ensures.kinds (shape_kinds c.args.shape.now) (store_at (shape_types c.args.shape.now) c.args.store) are (ex_tree c.args.e.now) k (Ok c.in-Some.value) kinded
+    c.in-Some.ensures
 
 pub returns-in-None-clause-value : goal.returns-in-None-clause-value
 returns-in-None-clause-value c = λ s is. at_store c.args.shape.now c.args.store s is (λ t. Answers c.value_of.result (ev t (ex_tree c.args.e.now))) c.value_of.ensures

@@ -1,8 +1,10 @@
-use Rattle.std.proofs.Common.{◌≡◌, ◌<◌, ap, ◌∙◌, refl, ◌++◌, ◌∷◌, [], slice_get, set, length, arith}
+use Rattle.std.proofs.Common.{rules, ◌≡◌, ◌<◌, ap, ◌∙◌, refl, ◌++◌, ◌∷◌, [], slice_get, set, length, arith}
 use Rattle.kf_value.specs.Shapes.{shape_sizes}
-use Rattle.kf_core.specs.Views.{dx_tree}
+use Rattle.kf_value.specs.Views.{value_tree}
+use Rattle.kf_core.specs.Views.{dx_shape, dx_tree}
 use Rattle.kf_eval.specs.Memos.{number_in}
 use Rattle.kf_eval.specs.Reads.{span}
+use Rattle.kf_eval.proofs.Chosen.{first_set, surely_chosen}
 use Rattle.kf_eval.proofs.Remembering.{kept_at, kept_within, number_within, pushed_last, remembers, some_places}
 use Rattle.kf_eval.proofs.memo.Memo.find.Goals as goal
 
@@ -67,4 +69,16 @@ returns-clause-found c =
       choice = c.in_ok-choice-2.choice;
       there = pushed_last c.args.self.now.choices.items c.push-2.new.self.items c.in_ok-choice-2.choice c.len-2.result c.in_ok-push-2.ensures.items (c.len-2.ensures ∙ c.push-2.new.self.ok.0);
       chosen = c.in_ok-choice-2.ensures.choice;
+    }
+
+pub returns-then-not-is_empty-clause-found : goal.returns-then-not-is_empty-clause-found
+returns-then-not-is_empty-clause-found c =
+    let cs = c.args.self.now.choices in
+    let some : 0 < length cs.items = omega (arith, some_places cs.len c.is_empty-in-Some.result c.is_empty-in-Some.ensures (search rules), cs.ok.0) in
+    let dist = c.args.dist.now in
+    record {
+      choice = c.become_sure.new.self;
+      there = first_set cs.items c.become_sure.new.self some;
+      chosen = surely_chosen c.args.shape.now dist.at (dx_shape dist.node) c.args.store c.become_sure.new.self (value_tree c.in-Some.value) c.in_ok-become_sure.ensures.items
+          c.requires.store c.in-Some.ensures.chosen c.in_ok-become_sure.ensures.total c.in-Some.ensures.kind c.requires.kinded;
     }

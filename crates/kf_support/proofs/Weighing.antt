@@ -1,14 +1,11 @@
 -- What choices are where a pass is defined.
-use Rattle.std.proofs.Common.{Bool, true, false, not, ◌||◌, ◌≡◌, ℕ, ◌+◌, ◌<◌, ◌≤◌, List, [], ◌∷◌, length, map, drop, get_or, All, Ok, Err, Some, slice_get, refl, sym, ap, subst, ◌∙◌, arith}
-use Rattle.std.proofs.lemmas.List.Elements.{All-head, recursion_from_All}
-use Rattle.std.proofs.lemmas.List.Sums.{sum_by-cons}
-use Rattle.kf_value.specs.Values.{ValueTree, truth}
+use Rattle.std.proofs.Common.{Bool, true, false, not, ◌||◌, ◌≡◌, ℕ, ◌+◌, ◌<◌, List, [], ◌∷◌, length, map, drop, get_or, All, Ok, Some, slice_get, refl, sym, ap, subst, ◌∙◌}
+use Rattle.std.proofs.lemmas.List.Elements.{recursion_from_All}
+use Rattle.kf_value.specs.Values.{truth}
 use Rattle.kf_value.proofs.ListLemmas.{each_at, mapped_read, left_step}
 use Rattle.kf_value.specs.declared.shape.Shape.{Shape}
-use Rattle.kf_core.specs.Dxs.{DxShape, DxTree}
-use Rattle.kf_core.specs.Results.{then_ok}
-use Rattle.kf_core.specs.Choices.{Weighted, Chosen, listed, lowest, gathered, choices, total}
-use Rattle.kf_core.specs.ChoiceLaws.{ChoicesAreShares}
+use Rattle.kf_core.specs.Dxs.{DxTree}
+use Rattle.kf_core.specs.Choices.{Weighted, Chosen}
 use Rattle.std.specs.Bool.{beq}
 use Rattle.std.specs.List.{list_any}
 use Rattle.kf_value.specs.Views.{value_tree}
@@ -30,21 +27,6 @@ fault_placed defined error.NoWeight at is = ap (placed_at at) is
 fault_placed defined error.NegativeWeight at is = ap (placed_at at) is
 fault_placed defined error.RangeLong at is = ap (placed_at at) is
 fault_placed defined error.Mem at is = tt
-
-listed_some : (r : Chosen) (ws : List Weighted) → then_ok r (λ ls. Ok (lowest (gathered ls))) ≡ Ok ws → (ls : List Weighted) × (r ≡ Ok ls)
-listed_some (Ok ls) ws h = (ls, refl)
-listed_some (Err f) ws h = absurd (cc)
-
-positive_total : (ws : List Weighted) → All (λ w. 0 < w.weight) ws → 1 ≤ length ws → 1 ≤ total ws
-positive_total [] all some = absurd (omega arith)
-positive_total (w ∷ ws) all some =
-    let first : 0 < w.weight = All-head (λ w. 0 < w.weight) w ws all in
-    omega (arith, first, sum_by-cons (λ (w : Weighted). w.weight) w ws)
-
-pub some_total : ChoicesAreShares → (s : List ValueTree) (d : DxShape) (ws : List Weighted) → choices s d ≡ Ok ws → 1 ≤ length ws → 1 ≤ total ws
-some_total shares s d ws chosen some =
-    let ls = listed_some (listed s d) ws chosen in
-    positive_total ws (shares s d ls.0 ws ls.1 chosen).positive some
 
 -- what holds of all choices holds of the one that is read
 pub choice_holds : (P : Weighted → Type 0) (cs : List coded.Weighted) (i : ℕ) (c : coded.Weighted) → i < length cs → c ≡ get_or cs i c → All P (map weighted_tree cs) → P (weighted_tree c)

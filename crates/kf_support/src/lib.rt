@@ -13,5 +13,4 @@ mod ways;
 pub use cleared::Cleared;
 pub use faults::{Halt, RunFault};
 pub use moves::{copied_store, moved, store_behind};
-pub use steps::chosen_in;
 pub use support::clear;

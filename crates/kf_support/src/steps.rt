@@ -21,8 +21,8 @@ ghost use Rattle.kf_support.specs.Carried.{carry_step, with_all, assign_lead, ob
 use crate::faults::{Halt, RunFault, fault_of};
 use crate::moves::{copied_store, moved};
 use crate::ways::{FEW, scaled, settled, shortened};
-use kf_core::{Dx, Program, choice_laws};
-use kf_eval::{Choice, Memo, Weighted, choices, is_always_sure};
+use kf_core::{Dx, Program};
+use kf_eval::{Memo, Weighted, is_always_sure};
 use kf_value::{Mem, Shape, is_true};
 use std::alloc::Global;
 
@@ -31,23 +31,6 @@ use std::alloc::Global;
 pub struct Branches {
     pub taken: Vec<(u64, u128)>,
     pub left: Vec<(u64, u128)>,
-}
-
-/// What the distribution chooses in a store, or its fault as one of the pass.
-fn choices_in(alloc: Global, shape: &Shape, dist: &Dx, store: u64) -> Result<Choice, Halt>
-    requires store { store < shape_size shape.now }
-    requires kinded { (k : KindTree) × DistKinded (shape_kinds shape.now) (dx_tree dist.now) k }
-    ensures choice { IfOk result (λ c. tried (shape_types shape.now) (dx_tree dist.now) store ≡ Ok (weighted_trees c)) }
-    ensures total { IfOk result (λ c. c.total ≡ total (weighted_trees c)) }
-    ensures some { IfOk result (λ c. 1 ≤ c.total) }
-    ensures formed { IfOk result (λ c. All (λ w. IsWellFormed w.value) (weighted_trees c)) }
-    ensures fault { IfErr result (λ e. IsHaltOf (tried (shape_types shape.now) (dx_tree dist.now) store) e) }
-{
-    choice_laws();
-    match choices(alloc, dist, shape, store) {
-        Ok(choice) => Ok(choice),
-        Err(error) => Err(fault_of(error, dist.at)),
-    }
 }
 
 /// Where the memo keeps what the distribution chooses in a store, or its fault as one of the pass.
@@ -69,24 +52,6 @@ fn find_in(
     match memo.find(alloc, shape, dist, store) {
         Ok(place) => Ok(place),
         Err(error) => Err(fault_of(error, dist.at)),
-    }
-}
-
-/// What the distribution chooses in a store; none where it has a fault there.
-pub fn chosen_in(alloc: Global, shape: &Shape, dist: &Dx, store: u64) -> Result<Option<Choice>, Mem>
-    requires store { store < shape_size shape.now }
-    requires kinded { (k : KindTree) × DistKinded (shape_kinds shape.now) (dx_tree dist.now) k }
-    ensures choice { IfOk result (λ o. IfSome o (λ c. tried (shape_types shape.now) (dx_tree dist.now) store ≡ Ok (weighted_trees c))) }
-    ensures total { IfOk result (λ o. IfSome o (λ c. c.total ≡ total (weighted_trees c))) }
-    ensures some { IfOk result (λ o. IfSome o (λ c. 1 ≤ c.total)) }
-    ensures formed { IfOk result (λ o. IfSome o (λ c. All (λ w. IsWellFormed w.value) (weighted_trees c))) }
-    ensures fault { result ≡ Ok None → (f : Halted) × (tried (shape_types shape.now) (dx_tree dist.now) store ≡ Err f) }
-{
-    match choices_in(alloc, shape, dist, store) {
-        Ok(choice) => Ok(Some(choice)),
-        Err(Halt::Fault { .. }) => Ok(None),
-        Err(Halt::Scale) => Ok(None),
-        Err(Halt::Mem) => Err(Mem),
     }
 }
 

@@ -8,6 +8,7 @@ mod Locating
 mod Splits
 mod Moving
 mod Assigning
+mod Choosing
 mod Tabling
 mod TablingRows
 mod Walking

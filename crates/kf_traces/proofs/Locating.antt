@@ -1,10 +1,10 @@
 -- What a map does when weight is added on a store, and where a part stands in an ascending list, by a binary search.
-use Rattle.std.proofs.Common.{◌≡◌, ℕ, zero, suc, ◌+◌, ◌^◌, ◌≤◌, ◌<◌, List, [], ◌∷◌, ◌++◌, length, map, take, drop, get_or, slice_set, Option, None, Ok, Err, unwrap_or, sum_by, refl, sym, ap, subst, ◌∙◌, arith, zero-add, ◌⊎◌, ⊎_elim, inl, inr}
+use Rattle.std.proofs.Common.{◌≡◌, ℕ, zero, suc, ◌+◌, ◌^◌, ◌≤◌, ◌<◌, List, [], ◌∷◌, ◌++◌, length, map, take, drop, get_or, slice_set, Option, Some, None, Ok, Err, unwrap_or, sum_by, refl, sym, ap, subst, ◌∙◌, arith, zero-add, ◌⊎◌, ⊎_elim, inl, inr}
 use Rattle.std.specs.declared.cmp.Ordering.{Ordering}
 use Rattle.std.specs.declared.cmp.Ordering.TheVariants.{Less, Equal, Greater}
 use Rattle.std.specs.Ordering.{nat_cmp, ordering_index, ordering_reverse, match_ordering}
 use Rattle.std.specs.BTreeMap.{insert_entry, is_at}
-use Rattle.std.specs.Cmp.{nat_cmp_total}
+use Rattle.std.proofs.lemmas.Cmp.{nat_cmp_total, tied_itself}
 use Rattle.std.specs.Map.{lookup, keys_of, values_of}
 use Rattle.std.specs.List.{AllByRecursion as Each, insert, take-map}
 use Rattle.std.specs.List.Sorted.{IsStrictlySortedBy, IsNonDecreasingBy, IsBinarySearchResult, IsSearchInRange}
@@ -28,8 +28,11 @@ orderings Equal = inr (inl refl)
 orderings Greater = inr (inr refl)
 
 module _ (n w : ℕ) where
+  abbrev there : Weights → Option ℕ
+  there es = lookup (is_at (nat_cmp n)) es
+
   abbrev before : Weights → ℕ
-  before es = unwrap_or (lookup (is_at (nat_cmp n)) es) 0
+  before es = unwrap_or (there es) 0
 
   abbrev put : Weights → Weights
   put es = insert_entry nat_cmp es n (before es + w)
@@ -56,12 +59,30 @@ module _ (n w : ℕ) where
   put_is (e ∷ es) sorted =
       ⊎_elim (put_less e es sorted) (⊎_elim (put_equal e es) (λ (r : nat_cmp n e.0 ≡ Greater). put_greater e es r (put_is es (sorted_rest e es sorted)))) (orderings (nat_cmp n e.0))
 
-  -- as a map gives it
-  pub weight_added : (es fs : Weights) (had : ℕ) → IsStrictlySortedBy nat_cmp (keys_of es) → had ≡ before es → fs ≡ insert_entry nat_cmp es n (had + w) → fs ≡ with_weight es n w
-  weight_added es fs had sorted was is = is ∙ ap (λ m. insert_entry nat_cmp es n (m + w)) was ∙ put_is es sorted
+  -- a second value takes the place of the first
+  twice : (es : Weights) (a b : ℕ) → insert_entry nat_cmp (insert_entry nat_cmp es n a) n b ≡ insert_entry nat_cmp es n b
+  twice [] a b = rw (tied_itself nat_cmp_total n) refl
+  twice (e ∷ es) a b = twice_at (nat_cmp n e.0) refl (twice es a b)
+    where
+      twice_at : (r : Ordering) → nat_cmp n e.0 ≡ r → insert_entry nat_cmp (insert_entry nat_cmp es n a) n b ≡ insert_entry nat_cmp es n b
+          → insert_entry nat_cmp (match_ordering r ((n, a) ∷ e ∷ es) ((e.0, a) ∷ es) (e ∷ insert_entry nat_cmp es n a)) n b ≡ match_ordering r ((n, b) ∷ e ∷ es) ((e.0, b) ∷ es) (e ∷ insert_entry nat_cmp es n b)
+      twice_at Less is later = rw (tied_itself nat_cmp_total n) refl
+      twice_at Equal is later = rw is refl
+      twice_at Greater is later = rw is (ap (λ fs. e ∷ fs) later)
 
-  pub weight_fits : (es : Weights) (had : ℕ) → had ≡ before es → sum_of es + w < 2 ^ 127 → had + w < 2 ^ 128
-  weight_fits es had was fits =
+  -- as a map gives it that had no weight there
+  pub weight_new : (es fs : Weights) → IsStrictlySortedBy nat_cmp (keys_of es) → None ≡ there es → fs ≡ insert_entry nat_cmp es n w → fs ≡ with_weight es n w
+  weight_new es fs sorted none is = is ∙ ap (insert_entry nat_cmp es n) (sym (zero-add w) ∙ ap (λ o. unwrap_or o 0 + w) none) ∙ put_is es sorted
+
+  -- and one that had some, to which the new weight is added
+  pub weight_more : (es gs fs : Weights) (had : ℕ) → IsStrictlySortedBy nat_cmp (keys_of es) → Some had ≡ there es → gs ≡ insert_entry nat_cmp es n w → fs ≡ insert_entry nat_cmp gs n (had + w)
+      → fs ≡ with_weight es n w
+  weight_more es gs fs had sorted some put more =
+      more ∙ ap (λ gs. insert_entry nat_cmp gs n (had + w)) put ∙ twice es w (had + w) ∙ ap (λ o. insert_entry nat_cmp es n (unwrap_or o 0 + w)) some ∙ put_is es sorted
+
+  pub weight_fits : (es : Weights) (had : ℕ) → Some had ≡ there es → sum_of es + w < 2 ^ 127 → had + w < 2 ^ 128
+  weight_fits es had some fits =
+      let was : had ≡ before es = ap (λ o. unwrap_or o 0) some in
       let small : before es ≤ sum_by (λ (n : ℕ). n) (values_of es) = lookup-le-sum (is_at (nat_cmp n)) es in
       omega (arith, was, small, sum-values es, fits)
     where

@@ -14,10 +14,12 @@ ghost use Rattle.kf_traces.specs.Laws.{sum_of};
 ghost use Rattle.kf_traces.specs.Traced.{with_moves, assign_all, copy_all};
 ghost use Rattle.kf_traces.specs.Views.{Fits};
 
+use crate::choices::chosen_in;
 use crate::parts::add_weight;
 use kf_core::{Dx, Program};
-use kf_eval::Weighted;
-use kf_support::{chosen_in, copied_store, moved};
+use kf_eval::{Memo, Weighted};
+use kf_frac::quotient;
+use kf_support::{copied_store, moved};
 use kf_value::{Mem, Shape};
 use std::alloc::Global;
 use std::collections::BTreeMap;
@@ -64,9 +66,11 @@ pub fn assign(
     ensures fits { IfOk result (λ m. Fits (shape_size shape.now) m.entries) }
 {
     let mut reached = BTreeMap::new(alloc);
+    let mut memo = Memo::new(alloc, shape, dist, stores.len())?;
     for (store, weight) in stores {
-        if let Some(choice) = chosen_in(alloc, shape, dist, *store)? {
-            let share = *weight / choice.total;
+        if let Some(place) = chosen_in(alloc, shape, dist, &mut memo, *store)? {
+            let choice = memo.at(place);
+            let share = quotient(*weight, choice.total);
             add_moves(
                 shape,
                 slot,

@@ -2,6 +2,7 @@
 #![tactic(auto)]
 
 mod assigns;
+mod choices;
 mod columns;
 mod laws;
 mod parts;

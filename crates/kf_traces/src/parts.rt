@@ -2,8 +2,10 @@
 
 ghost use Rattle.std.specs.Prelude.{◌≡◌, ◌+◌, ◌*◌, ◌^◌, ◌<◌, length, map, IfSome, OnOk};
 ghost use Rattle.std.specs.List.{All};
+ghost use Rattle.std.specs.List.Sorted.{IsBinarySearchResult, IsSearchInRange};
 ghost use Rattle.kf_value.specs.Forms.{IsWellFormed};
 ghost use Rattle.kf_value.specs.Shapes.{shape_size, shape_types};
+ghost use Rattle.kf_value.specs.Values.{order};
 ghost use Rattle.kf_value.specs.Views.{value_tree};
 ghost use Rattle.kf_core.specs.Choices.{total};
 ghost use Rattle.kf_eval.specs.Choices.{weighted_tree};
@@ -16,6 +18,7 @@ use kf_eval::Weighted;
 use kf_support::store_behind;
 use kf_value::{Mem, Shape, Value, compare};
 use std::alloc::Global;
+use std::cmp::Ordering;
 use std::collections::BTreeMap;
 
 /// A value that is leaked, and the stores behind it, each with its weight.
@@ -30,15 +33,30 @@ pub fn add_weight(stores: &mut BTreeMap<u64, u128>, store: u64, weight: u128) ->
     requires within { sum_of stores.old.entries + weight < 2 ^ 127 }
     ensures { OnOk result (stores.new.entries ≡ with_weight stores.old.entries store weight) }
 {
-    let before = stores.get(&store).copied().unwrap_or(0);
-    stores.insert(store, before + weight)?;
+    if let Some(before) = stores.insert(store, weight)? {
+        stores.insert(store, before + weight)?;
+    }
     Ok(())
 }
 
+/// The place of the part of a value, or else the one where it is to go. The place `first` is looked at before the others.
+fn place_of(parts: &[Part], value: &Value, first: usize) -> Result<usize, usize>
+    ensures within { IsSearchInRange result (length parts.now) }
+    ensures found { IsBinarySearchResult (λ p. order (value_tree p.value) (value_tree value.now)) parts.now result }
+{
+    match parts.get(first) {
+        Some(part) if compare(&part.value, value) == Ordering::Equal => Ok(first),
+        _ => parts.binary_search_by(|part| compare(&part.value, value)),
+    }
+}
+
 /// Adds weight on a store in the part of a value.
+///
+/// The part at `first` is tried before a search.
 pub fn add_part(
     alloc: Global,
     parts: &mut Vec<Part>,
+    first: usize,
     value: &Value,
     store: u64,
     weight: u128,
@@ -47,7 +65,7 @@ pub fn add_part(
     requires within { parts_sum (map part_of parts.old.items) + weight < 2 ^ 127 }
     ensures { OnOk result (map part_of parts.new.items ≡ with_part (map part_of parts.old.items) (value_tree value.now) store weight) }
 {
-    match parts.binary_search_by(|part| compare(&part.value, value)) {
+    match place_of(parts.as_slice(), value, first) {
         Ok(place) => add_weight(&mut parts[place].stores, store, weight)?,
         Err(place) => {
             let mut stores = BTreeMap::new(alloc);
@@ -62,7 +80,8 @@ pub fn add_part(
 /// Adds the shares of a store, so many times as each choice weighs, each to the store behind the choice.
 ///
 /// `into` is the place of the variable that takes the value; without one the store stays. A value that isn't of the
-/// variable's type leads nowhere.
+/// variable's type leads nowhere. The parts of earlier stores mostly have the same values in the same order, so that a
+/// choice finds its part with no search.
 pub fn add_shares(
     alloc: Global,
     shape: &Shape,
@@ -82,9 +101,9 @@ pub fn add_shares(
         ≡ with_shares (lead_of (shape_types shape.now) into) (map part_of parts.old.items) store share (map weighted_tree choices.now)) }
     ensures below { OnOk result (PartsBelow (shape_size shape.now) (map part_of parts.new.items)) }
 {
-    for choice in choices {
+    for (i, choice) in choices.iter().enumerate() {
         if let Some(after) = store_behind(shape, into, store, &choice.value) {
-            add_part(alloc, parts, &choice.value, after, share * choice.weight)?;
+            add_part(alloc, parts, i, &choice.value, after, share * choice.weight)?;
         }
     }
     Ok(())

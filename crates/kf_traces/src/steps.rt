@@ -13,9 +13,11 @@ ghost use Rattle.kf_traces.specs.Laws.{sum_of};
 ghost use Rattle.kf_traces.specs.Traced.{split as split_of};
 ghost use Rattle.kf_traces.specs.Views.{part_of, PartsBelow};
 
+use crate::choices::chosen_in;
 use crate::parts::{Part, add_shares};
 use kf_core::Dx;
-use kf_support::chosen_in;
+use kf_eval::Memo;
+use kf_frac::quotient;
 use kf_value::{Mem, Shape};
 use std::alloc::Global;
 use std::collections::BTreeMap;
@@ -40,21 +42,20 @@ pub fn split(
         ≡ split_of (lead_of (shape_types shape.now) into) (tried (shape_types shape.now) (dx_tree dist.now)) [] stores.now.entries) }
 {
     let mut parts = Vec::new(alloc);
+    let mut memo = Memo::new(alloc, shape, dist, stores.len())?;
     for (store, weight) in stores {
-        match chosen_in(alloc, shape, dist, *store)? {
-            Some(choice) => {
-                let share = *weight / choice.total;
-                add_shares(
-                    alloc,
-                    shape,
-                    into,
-                    &mut parts,
-                    *store,
-                    share,
-                    choice.items.as_slice(),
-                )?;
-            }
-            None => {}
+        if let Some(place) = chosen_in(alloc, shape, dist, &mut memo, *store)? {
+            let choice = memo.at(place);
+            let share = quotient(*weight, choice.total);
+            add_shares(
+                alloc,
+                shape,
+                into,
+                &mut parts,
+                *store,
+                share,
+                choice.items.as_slice(),
+            )?;
         }
     }
     Ok(parts)

@@ -1,29 +1,25 @@
-use Rattle.std.proofs.Common.{◌<◌, rules, ap, ◌∙◌, arith, length}
+use Rattle.std.proofs.Common.{◌<◌, ap, ◌∙◌, arith, length}
 use Rattle.std.specs.Ordering.{nat_cmp}
 use Rattle.std.specs.BTreeMap.{insert_entry}
-use Rattle.std.proofs.lemmas.Fn.{always_returns_same}
-use Rattle.kf_value.specs.Values.{order}
 use Rattle.kf_value.specs.Views.{value_tree}
 use Rattle.kf_traces.proofs.Locating.{found_at, put_at, sum_at}
 use Rattle.kf_traces.proofs.parts.add_part.Goals as goal
 
 pub add_weight-requires : goal.add_weight-requires
 add_weight-requires c =
-    let inside : c.in-Ok.place < length c.args.parts.now.items = rw (← c.deref.ensures.value) c.in-Ok.ensures.bound in
+    let inside : c.in-Ok.place < length c.args.parts.now.items = rw (← c.as_slice.ensures.value) c.in-Ok.ensures.within in
     let small = sum_at c.args.parts.now.items c.in-Ok.place c.index_mut.result.now inside c.index_mut.ensures.value in
     omega (arith, small, c.requires.within)
 
 pub returns-in_ok-add_weight-in-Ok : goal.returns-in_ok-add_weight-in-Ok
 returns-in_ok-add_weight-in-Ok c =
-    let found = c.in-Ok.ensures.position (λ p. order (value_tree p.value) (value_tree c.args.value.now)) (always_returns_same _ _ _ (λ a r g called. search rules)) in
-    found_at (value_tree c.args.value.now) c.args.store c.args.weight c.deref.result.now c.args.parts.now.items c.in-Ok.place c.index_mut.result.now _ c.deref.ensures.value c.requires.ascending
-    c.in-Ok.ensures.bound found c.index_mut.ensures.value
+    found_at (value_tree c.args.value.now) c.args.store c.args.weight c.as_slice.result.now c.args.parts.now.items c.in-Ok.place c.index_mut.result.now _ c.as_slice.ensures.value c.requires.ascending
+    c.in-Ok.ensures.within c.in-Ok.ensures.found c.index_mut.ensures.value
     (ap (λ es. record { value = value_tree c.index_mut.result.now.value; stores = es }) c.in_ok-add_weight-in-Ok.ensures)
 
 pub returns-in_ok-insert-in-Err-2 : goal.returns-in_ok-insert-in-Err-2
 returns-in_ok-insert-in-Err-2 c =
-    let found = c.in-Err.ensures.position (λ p. order (value_tree p.value) (value_tree c.args.value.now)) (always_returns_same _ _ _ (λ a r g called. search rules)) in
     let alone = c.in_ok-insert-in-Err.ensures.entries ∙ ap (λ es. insert_entry nat_cmp es c.args.store c.args.weight) c.new-stores.ensures.empty in
     let value = c.in_ok-value-in-Err.ensures in
-    put_at (value_tree c.args.value.now) c.args.store c.args.weight c.deref.result.now c.args.parts.now.items c.insert-in-Err.new.self.items c.in-Err.place _ c.deref.ensures.value c.requires.ascending
-    c.in-Err.ensures.bound found (λ i. record { value = value i; stores = alone i }) c.in_ok-insert-in-Err-2.ensures.items
+    put_at (value_tree c.args.value.now) c.args.store c.args.weight c.as_slice.result.now c.args.parts.now.items c.insert-in-Err.new.self.items c.in-Err.place _ c.as_slice.ensures.value c.requires.ascending
+    c.in-Err.ensures.within c.in-Err.ensures.found (λ i. record { value = value i; stores = alone i }) c.in_ok-insert-in-Err-2.ensures.items

@@ -2,6 +2,7 @@ use Rattle.std.proofs.Common.{[], map}
 use Rattle.kf_value.specs.Shapes.{shape_size, shape_types}
 use Rattle.kf_core.specs.Views.{dx_tree}
 use Rattle.kf_core.specs.Runs.{tried}
+use Rattle.kf_eval.specs.Memos.{IsMemoOf}
 use Rattle.kf_support.specs.Moves.{store_behind}
 use Rattle.kf_traces.specs.Traced.{split as split_of}
 use Rattle.kf_traces.specs.Views.{part_of}
@@ -12,4 +13,7 @@ abbrev pub invariant-loop-store : goal.invariant-loop-store
 invariant-loop-store l =
     let tries = tried (shape_types l.shape) (dx_tree l.dist) in
     let go = store_behind (shape_types l.shape) l.into in
-    SplitsOn go tries (shape_size l.shape) l.store-iterator (split_of go tries [] l.stores.entries) (map part_of l.parts.items)
+    record {
+      on : SplitsOn go tries (shape_size l.shape) l.store-iterator (split_of go tries [] l.stores.entries) (map part_of l.parts.items);
+      memo : IsMemoOf l.shape (dx_tree l.dist) l.memo;
+    }

@@ -1,12 +1,12 @@
 -- Texts that are appended piece by piece.
-use Rattle.std.proofs.Common.{◌≡◌, ℕ, zero, suc, ◌<◌, ℤ, List, [], ◌∷◌, ◌++◌, length, map, drop, get_or, sym, ◌∙◌, ap, append_assoc, append-nil, codes, refl, ◌-◌, ◌+◌, take, arith}
+use Rattle.std.proofs.Common.{◌≡◌, ℕ, zero, suc, ◌<◌, ℤ, List, [], ◌∷◌, ◌++◌, length, map, drop, get_or, sym, ◌∙◌, ap, append_assoc, append-nil, codes, refl, ◌≢◌, ◌-◌, ◌+◌, take, arith}
 use Rattle.std.proofs.lemmas.List.{take_rest}
 use Rattle.std.specs.List.{flat_map}
-use Rattle.std.specs.Fmt.{signed_decimal}
+use Rattle.std.specs.Fmt.{decimal, signed_decimal}
 use Rattle.kf_frac.specs.declared.frac.Frac.{Frac}
 use Rattle.kf_frac.specs.Fractions.{fraction_text, reduced_num, reduced_den}
 use Rattle.kf_frac.specs.Parts.{IsFraction, denominator_text}
-use Rattle.kf_frac.proofs.LowestTerms.{text_of_reduced}
+use Rattle.kf_frac.proofs.LowestTerms.{text_of_reduced, text_of_whole, text_of_quotient}
 use Rattle.kf_value.specs.declared.target_item.TargetItem.{TargetItem}
 use Rattle.kf_value.specs.Targets.{target_text}
 use Rattle.kf_value.specs.TypeViews.{item_of}
@@ -24,6 +24,16 @@ share_text f n d num den =
 -- and so is one that is n / d
 pub same_text : (f : Frac) (n : ℤ) (d : ℕ) → IsFraction f n d → own_text f ≡ fraction_text n d
 same_text f n d is = share_text f n d is.num is.den
+
+-- a fraction is written as its numerator alone where its denominator is 1, and as both parts where it isn't
+module _ (f : Frac) (n : ℤ) (d : ℕ) (num : n ≡ f.num) (den : d ≡ f.den) where
+  pub whole_text : d ≡ 1 → signed_decimal n ≡ own_text f
+  whole_text one = text_of_whole f.num n f.den f.reduced num (sym den ∙ one)
+
+  pub quotient_text : d ≢ 1 → signed_decimal n ++ (codes "/" ++ decimal d) ≡ own_text f
+  quotient_text more =
+      ap (λ (m : ℕ). signed_decimal n ++ (codes "/" ++ decimal m)) den
+      ∙ text_of_quotient f.num n f.den f.reduced num (λ one. more (den ∙ one))
 
 -- an item after the first, with what stands before it
 abbrev pub further_text : TargetItem → List ℕ

@@ -9,7 +9,9 @@ ghost use Rattle.kf_text.specs.AttackTexts.{attack_text as text_of_attack, reach
 ghost use Rattle.kf_text.specs.AttackViews.{own_attack_lines, own_best_lines, own_score_line, own_value_line, own_worth_line, IsPrintable};
 ghost use Rattle.kf_text.specs.Texts.{line};
 
-use crate::items::{print_bytes, print_fraction, print_line, print_text};
+use crate::items::{
+    print_bytes, print_count, print_frac, print_fraction, print_line, print_number,
+};
 use crate::report::print_gain;
 use kf_attack::{Attack, AttackList, Best, Reach, Score, WeighedValue};
 use kf_frac::Frac;
@@ -28,9 +30,8 @@ fn print_value(
     requires { weighed.now.value < target_size (items_of target.now) }
     ensures { OnOk result (out.new.items ≡ out.old.items ++ own_value_line (items_of target.now) weighed.now) }
 {
-    let chance = weighed.chance;
-    let end = format!(in alloc; " {chance}\n")?;
-    print_line(alloc, target, weighed.value, &end, out)
+    print_line(alloc, target, weighed.value, b" ", out)?;
+    print_fraction(b"", weighed.chance, out)
 }
 
 // Appends the lines of values.
@@ -50,33 +51,22 @@ fn print_values(
 }
 
 // Appends the line of an action and its expected gain.
-fn print_score(
-    alloc: Global,
-    actions: &[Action],
-    score: &Score,
-    out: &mut Vec<u8>,
-) -> Result<(), Mem>
+fn print_score(actions: &[Action], score: &Score, out: &mut Vec<u8>) -> Result<(), Mem>
     requires { score.now.action < length actions.now }
     ensures { OnOk result (out.new.items ≡ out.old.items ++ own_score_line actions.now score.now) }
 {
-    let gain = score.score;
     print_bytes(b"  ", out)?;
     print_bytes(actions[score.action].name.as_str().as_bytes(), out)?;
-    print_text(format!(in alloc; " {gain}\n")?, out)
+    print_fraction(b" ", score.score, out)
 }
 
 // Appends the lines of actions.
-fn print_scores(
-    alloc: Global,
-    actions: &[Action],
-    scores: &[Score],
-    out: &mut Vec<u8>,
-) -> Result<(), Mem>
+fn print_scores(actions: &[Action], scores: &[Score], out: &mut Vec<u8>) -> Result<(), Mem>
     requires { All (λ s. s.action < length actions.now) scores.now }
     ensures { OnOk result (out.new.items ≡ out.old.items ++ flat_map (own_score_line actions.now) scores.now) }
 {
     for score in scores {
-        print_score(alloc, actions, score, out)?;
+        print_score(actions, score, out)?;
     }
     Ok(())
 }
@@ -104,24 +94,21 @@ fn print_best(
 {
     match best {
         Best::Values(values) => print_values(alloc, target, values.as_slice(), out),
-        Best::Scores(scores) => print_scores(alloc, actions(gain), scores.as_slice(), out),
+        Best::Scores(scores) => print_scores(actions(gain), scores.as_slice(), out),
     }
 }
 
 // Appends the line of an inner's outer and of what the best is worth.
-fn print_worth(
-    alloc: Global,
-    hyper: &Hyper,
-    i: usize,
-    worth: Frac,
-    out: &mut Vec<u8>,
-) -> Result<(), Mem>
+fn print_worth(hyper: &Hyper, i: usize, worth: Frac, out: &mut Vec<u8>) -> Result<(), Mem>
     requires { i < length (inners_of hyper.now) }
     ensures { OnOk result (out.new.items ≡ out.old.items ++ own_worth_line (scale_of hyper.now) i (inner_at hyper.now i) worth) }
 {
     let outer = hyper.outer(i);
-    print_text(format!(in alloc; "inner {i} outer {outer}")?, out)?;
-    print_fraction(alloc, b" value ", worth, out)
+    print_bytes(b"inner ", out)?;
+    print_number(i, out)?;
+    print_bytes(b" outer ", out)?;
+    print_frac(outer, out)?;
+    print_fraction(b" value ", worth, out)
 }
 
 // Appends the lines of the attack at the inner `i`.
@@ -138,7 +125,7 @@ fn print_attack(
     ensures { OnOk result (out.new.items ≡ out.old.items
         ++ own_attack_lines (target_of hyper.now) (scale_of hyper.now) (actions_of (gain_tree gain.now)) (inner_at hyper.now) (i, attack.now)) }
 {
-    print_worth(alloc, hyper, i, attack.worth, out)?;
+    print_worth(hyper, i, attack.worth, out)?;
     print_best(alloc, hyper.target(), gain, &attack.best, out)
 }
 
@@ -150,7 +137,7 @@ pub fn attack_text(alloc: Global, h: &Hyper, g: &Gain, a: &AttackList) -> Result
         → IfOk result (λ text. text.items ≡ text_of_attack (gain_tree g.now) (target_of h.now) (scale_of h.now) (inners_of h.now) trees) }
 {
     let mut out = Vec::new(alloc);
-    print_gain(alloc, g, &mut out)?;
+    print_gain(g, &mut out)?;
     let attacks = a.as_slice();
     for i in 0..attacks.len() {
         print_attack(alloc, h, g, i, &attacks[i], &mut out)?;
@@ -163,9 +150,8 @@ pub fn reach_text(alloc: Global, r: &Reach) -> Result<Vec<u8>, Mem>
     ensures { (scale : ℕ) (tree : ReachTree) → ShowsReach scale tree r.now → IfOk result (λ text. text.items ≡ text_of_reach scale tree) }
 {
     let mut out = Vec::new(alloc);
-    let tries = r.tries;
-    print_text(format!(in alloc; "tries {tries}\n")?, &mut out)?;
-    print_fraction(alloc, b"posterior ", r.posterior, &mut out)?;
-    print_fraction(alloc, b"before ", r.before, &mut out)?;
+    print_count(b"tries ", r.tries, &mut out)?;
+    print_fraction(b"posterior ", r.posterior, &mut out)?;
+    print_fraction(b"before ", r.before, &mut out)?;
     Ok(out)
 }

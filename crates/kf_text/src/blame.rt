@@ -1,39 +1,47 @@
-ghost use Rattle.std.specs.Prelude.{◌≡◌, ◌++◌, ℕ, List, IfOk, OnOk, flat_map};
+ghost use Rattle.std.specs.Prelude.{◌≡◌, ◌++◌, [], ℕ, List, IfOk, OnOk, codes, flat_map};
 ghost use Rattle.std.specs.List.{enumerate_from};
 ghost use Rattle.kf_quiet.specs.Views.{ShowBlames};
 ghost use Rattle.kf_quiet.specs.Summaries.{SummaryTree};
 ghost use Rattle.kf_text.specs.BlameTexts.{blame_text as text_of_blame};
 ghost use Rattle.kf_text.specs.BlameViews.{own_blame_line, own_without_line};
 
-use crate::items::{print_bytes, print_fraction, print_text};
+use crate::items::{print_bytes, print_fraction, print_number};
 use kf_quiet::{Blame, BlameList};
 use kf_value::Mem;
 use std::alloc::Global;
 
-// Appends the line of a blame, behind what it is a blame of.
-fn print_blame(alloc: Global, name: &[u8], blame: Blame, out: &mut Vec<u8>) -> Result<(), Mem>
-    ensures { OnOk result (out.new.items ≡ out.old.items ++ own_blame_line name.now blame) }
+// Appends the line of a blame after what it is a blame of.
+fn print_blame(blame: Blame, out: &mut Vec<u8>) -> Result<(), Mem>
+    ensures { OnOk result (out.new.items ≡ out.old.items ++ own_blame_line [] blame) }
 {
-    let inners = blame.inners;
-    print_bytes(name, out)?;
-    print_text(format!(in alloc; " inners {inners}")?, out)?;
-    print_fraction(alloc, b" bayes ", blame.bayes, out)
+    print_bytes(b" inners ", out)?;
+    print_number(blame.inners, out)?;
+    print_fraction(b" bayes ", blame.bayes, out)
+}
+
+// Appends the line of the whole program.
+fn print_all(blame: Blame, out: &mut Vec<u8>) -> Result<(), Mem>
+    ensures { OnOk result (out.new.items ≡ out.old.items ++ own_blame_line (codes "all") blame) }
+{
+    print_bytes(b"all", out)?;
+    print_blame(blame, out)
 }
 
 // Appends the line where the outermost statement of this number is quiet.
-fn print_without(alloc: Global, i: usize, blame: Blame, out: &mut Vec<u8>) -> Result<(), Mem>
+fn print_without(i: usize, blame: Blame, out: &mut Vec<u8>) -> Result<(), Mem>
     ensures { OnOk result (out.new.items ≡ out.old.items ++ own_without_line (i, blame)) }
 {
-    let name = format!(in alloc; "without {i}")?;
-    print_blame(alloc, name.as_bytes(), blame, out)
+    print_bytes(b"without ", out)?;
+    print_number(i, out)?;
+    print_blame(blame, out)
 }
 
 // Appends the lines of the outermost statements, numbered from 0.
-fn print_others(alloc: Global, others: &[Blame], out: &mut Vec<u8>) -> Result<(), Mem>
+fn print_others(others: &[Blame], out: &mut Vec<u8>) -> Result<(), Mem>
     ensures { OnOk result (out.new.items ≡ out.old.items ++ flat_map own_without_line (enumerate_from 0 others.now)) }
 {
     for i in 0..others.len() {
-        print_without(alloc, i, others[i], out)?;
+        print_without(i, others[i], out)?;
     }
     Ok(())
 }
@@ -48,7 +56,7 @@ pub fn blame_text(alloc: Global, b: &BlameList) -> Result<Vec<u8>, Mem>
     let [all, others @ ..] = b.as_slice() else {
         return Ok(out);
     };
-    print_blame(alloc, b"all", *all, &mut out)?;
-    print_others(alloc, others, &mut out)?;
+    print_all(*all, &mut out)?;
+    print_others(others, &mut out)?;
     Ok(out)
 }

@@ -6,7 +6,7 @@ ghost use Rattle.kf_text.specs.CapacityTexts.{capacity_text as text_of_capacity,
 ghost use Rattle.kf_text.specs.CapacityViews.{own_algebra_lines, own_capacity_line};
 ghost use Rattle.kf_text.specs.Texts.{line};
 
-use crate::items::{print_fraction, print_text};
+use crate::items::{print_count, print_fraction};
 use kf_capacity::Grid;
 use kf_frac::Frac;
 use kf_value::Mem;
@@ -18,18 +18,17 @@ pub fn capacity_text(alloc: Global, f: Frac) -> Result<Vec<u8>, Mem>
     ensures numbers { (g : GridTree) → IsFraction f (pos (capacity_of g)) g.over → IfOk result (λ text. text.items ≡ text_of_capacity g) }
 {
     let mut out = Vec::new(alloc);
-    print_fraction(alloc, b"capacity ", f, &mut out)?;
+    print_fraction(b"capacity ", f, &mut out)?;
     Ok(out)
 }
 
 // Appends how many rows and columns a grid has.
-fn print_size(alloc: Global, g: &Grid, out: &mut Vec<u8>) -> Result<(), Mem>
+fn print_size(g: &Grid, out: &mut Vec<u8>) -> Result<(), Mem>
     ensures { OnOk result (out.new.items ≡ out.old.items ++ (line (codes "rows " ++ decimal (grid_tree g.now).rows)
         ++ line (codes "columns " ++ decimal (length (grid_tree g.now).columns)))) }
 {
-    let rows = g.rows();
-    let columns = g.columns();
-    print_text(format!(in alloc; "rows {rows}\ncolumns {columns}\n")?, out)
+    print_count(b"rows ", g.rows(), out)?;
+    print_count(b"columns ", g.columns(), out)
 }
 
 /// The printed size of two channels put together, and three capacities: that of the first, of the second, and of both.
@@ -46,9 +45,9 @@ pub fn algebra_text(
         → IfOk result (λ text. text.items ≡ text_of_algebra a b (grid_tree g.now)) }
 {
     let mut out = Vec::new(alloc);
-    print_size(alloc, g, &mut out)?;
-    print_fraction(alloc, b"first ", first, &mut out)?;
-    print_fraction(alloc, b"second ", second, &mut out)?;
-    print_fraction(alloc, b"both ", both, &mut out)?;
+    print_size(g, &mut out)?;
+    print_fraction(b"first ", first, &mut out)?;
+    print_fraction(b"second ", second, &mut out)?;
+    print_fraction(b"both ", both, &mut out)?;
     Ok(out)
 }

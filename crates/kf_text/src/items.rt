@@ -1,5 +1,5 @@
-// What the texts share: lines about targets, traces, and fractions with their names.
-ghost use Rattle.std.specs.Prelude.{◌≡◌, ◌<◌, ◌++◌, ◌∷◌, [], OnOk, codes, map, string_bytes};
+// What the texts share: lines about targets, traces, numbers, and fractions with their names.
+ghost use Rattle.std.specs.Prelude.{◌≡◌, ◌<◌, ◌++◌, ◌∷◌, [], OnOk, codes, map};
 ghost use Rattle.kf_value.specs.Numbers.{target_size};
 ghost use Rattle.kf_value.specs.Targets.{target_text, target_value_text};
 ghost use Rattle.kf_value.specs.TypeViews.{item_of};
@@ -8,6 +8,7 @@ ghost use Rattle.kf_value.specs.Views.{items_of, value_tree};
 ghost use Rattle.kf_text.specs.Texts.{line, target_line, bracketed};
 ghost use Rattle.kf_text.specs.Views.{own_text};
 
+use itoa::{Buffer, Integer};
 use kf_frac::Frac;
 use kf_value::{Mem, Target, TargetItem, Value, print_value, write_target};
 use std::alloc::Global;
@@ -78,19 +79,32 @@ pub fn print_bytes(bytes: &[u8], out: &mut Vec<u8>) -> Result<(), Mem>
     Ok(())
 }
 
-// Appends a text, which is dropped here: a caller holds it over none of its ways out.
-pub fn print_text(text: String, out: &mut Vec<u8>) -> Result<(), Mem>
-    ensures { OnOk result (out.new.items ≡ out.old.items ++ string_bytes text) }
+// Appends a number, after a minus sign where it is below 0. Its digits are written without an allocation.
+pub fn print_number<I: Integer>(number: I, out: &mut Vec<u8>) -> Result<(), Mem>
+    ensures { OnOk result (out.new.items ≡ out.old.items ++ I.text number) }
 {
-    print_bytes(text.as_bytes(), out)
+    print_bytes(Buffer::new().format(number).as_bytes(), out)
 }
 
-// Appends the line of a value of the target, with its end.
+// Appends a fraction, whose denominator is left out where it is 1.
+pub fn print_frac(fraction: Frac, out: &mut Vec<u8>) -> Result<(), Mem>
+    ensures { OnOk result (out.new.items ≡ out.old.items ++ own_text fraction) }
+{
+    let den = fraction.den();
+    print_number(fraction.num(), out)?;
+    if den == 1 {
+        return Ok(());
+    }
+    print_bytes(b"/", out)?;
+    print_number(den, out)
+}
+
+// Appends the line of a value of the target, and `end` after the value.
 pub fn print_line(
     alloc: Global,
     target: &Target,
     value: u64,
-    end: &str,
+    end: &[u8],
     out: &mut Vec<u8>,
 ) -> Result<(), Mem>
     requires { value < target_size (items_of target.now) }
@@ -98,18 +112,23 @@ pub fn print_line(
 {
     print_bytes(b"  ", out)?;
     write_target(alloc, target, value, out)?;
-    print_bytes(end.as_bytes(), out)
+    print_bytes(end, out)
 }
 
-// Appends the line of a fraction behind its name and a space.
-pub fn print_fraction(
-    alloc: Global,
-    name: &[u8],
-    fraction: Frac,
-    out: &mut Vec<u8>,
-) -> Result<(), Mem>
+// Appends a name, which holds the space after it, a number, and the end of the line.
+pub fn print_count<I: Integer>(name: &[u8], number: I, out: &mut Vec<u8>) -> Result<(), Mem>
+    ensures { OnOk result (out.new.items ≡ out.old.items ++ line (name.now ++ I.text number)) }
+{
+    print_bytes(name, out)?;
+    print_number(number, out)?;
+    print_bytes(b"\n", out)
+}
+
+// Appends a name, which holds the space after it, a fraction, and the end of the line.
+pub fn print_fraction(name: &[u8], fraction: Frac, out: &mut Vec<u8>) -> Result<(), Mem>
     ensures { OnOk result (out.new.items ≡ out.old.items ++ line (name.now ++ own_text fraction)) }
 {
     print_bytes(name, out)?;
-    print_text(format!(in alloc; "{fraction}\n")?, out)
+    print_frac(fraction, out)?;
+    print_bytes(b"\n", out)
 }

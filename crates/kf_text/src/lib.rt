@@ -5,6 +5,7 @@ mod attack;
 mod blame;
 mod capacity;
 mod channel;
+mod entries;
 mod hyper;
 mod items;
 mod made;

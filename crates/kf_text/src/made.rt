@@ -6,7 +6,7 @@ ghost use Rattle.kf_text.specs.Texts.{make_text as text_of_make};
 ghost use Rattle.kf_text.specs.Parts.{last_line, last_total};
 
 use crate::hyper::print_sizes;
-use crate::items::print_text;
+use crate::items::{print_count, print_fraction};
 use kf_frac::Frac;
 use kf_hyper::Hyper;
 use kf_value::Mem;
@@ -22,11 +22,10 @@ fn last_outer(hyper: &Hyper) -> Frac
 }
 
 // Appends the line of the outer of the last inner.
-fn print_last(alloc: Global, hyper: &Hyper, out: &mut Vec<u8>) -> Result<(), Mem>
+fn print_last(hyper: &Hyper, out: &mut Vec<u8>) -> Result<(), Mem>
     ensures { OnOk result (out.new.items ≡ out.old.items ++ last_line (scale_of hyper.now) (inners_of hyper.now)) }
 {
-    let last = last_outer(hyper);
-    print_text(format!(in alloc; "last {last}\n")?, out)
+    print_fraction(b"last ", last_outer(hyper), out)
 }
 
 /// The summary of a made program's hyper: how many observations there were, the scale, how many inners there are, and the
@@ -35,8 +34,8 @@ pub fn make_text(alloc: Global, n: u32, h: &Hyper) -> Result<Vec<u8>, Mem>
     ensures { IfOk result (λ text. text.items ≡ text_of_make n (scale_of h.now) (inners_of h.now)) }
 {
     let mut out = Vec::new(alloc);
-    print_text(format!(in alloc; "observations {n}\n")?, &mut out)?;
-    print_sizes(alloc, h, &mut out)?;
-    print_last(alloc, h, &mut out)?;
+    print_count(b"observations ", n, &mut out)?;
+    print_sizes(h, &mut out)?;
+    print_last(h, &mut out)?;
     Ok(out)
 }

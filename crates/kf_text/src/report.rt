@@ -6,7 +6,7 @@ ghost use Rattle.kf_text.specs.ReportTexts.{gain_text, report_text as text_of_re
 ghost use Rattle.kf_text.specs.Texts.{line};
 ghost use Rattle.kf_text.specs.Views.{own_quotient_text, own_lines};
 
-use crate::items::{print_bytes, print_fraction, print_text};
+use crate::items::{print_bytes, print_count, print_fraction};
 use kf_frac::Frac;
 use kf_gain::Gain;
 use kf_report::Report;
@@ -14,25 +14,25 @@ use kf_value::Mem;
 use std::alloc::Global;
 
 // Appends the line of the gain.
-pub fn print_gain(alloc: Global, gain: &Gain, out: &mut Vec<u8>) -> Result<(), Mem>
+pub fn print_gain(gain: &Gain, out: &mut Vec<u8>) -> Result<(), Mem>
     ensures { OnOk result (out.new.items ≡ out.old.items ++ line (codes "gain " ++ gain_text (gain_tree gain.now))) }
 {
     match gain {
         Gain::Bayes => print_bytes(b"gain bayes\n", out),
-        Gain::Tries(count) => print_text(format!(in alloc; "gain tries {count}\n")?, out),
+        Gain::Tries(count) => print_count(b"gain tries ", *count, out),
         Gain::Guessing => print_bytes(b"gain guessing\n", out),
         Gain::Table(_) => print_bytes(b"gain table\n", out),
     }
 }
 
 // Appends the line of the quotient.
-fn print_quotient(alloc: Global, quotient: Option<Frac>, out: &mut Vec<u8>) -> Result<(), Mem>
+fn print_quotient(quotient: Option<Frac>, out: &mut Vec<u8>) -> Result<(), Mem>
     ensures { OnOk result (out.new.items ≡ out.old.items ++ line (codes "quotient " ++ own_quotient_text quotient)) }
 {
     let Some(fraction) = quotient else {
         return print_bytes(b"quotient undefined\n", out);
     };
-    print_fraction(alloc, b"quotient ", fraction, out)
+    print_fraction(b"quotient ", fraction, out)
 }
 
 /// The printed report: the gain, the prior, the posterior, their quotient and their difference.
@@ -43,10 +43,10 @@ pub fn report_text(alloc: Global, g: &Gain, r: &Report) -> Result<Vec<u8>, Mem>
     ensures numbers { (l : Leakage) → IsReport l r.now → IfOk result (λ text. text.items ≡ text_of_report (gain_tree g.now) l) }
 {
     let mut out = Vec::new(alloc);
-    print_gain(alloc, g, &mut out)?;
-    print_fraction(alloc, b"prior ", r.prior, &mut out)?;
-    print_fraction(alloc, b"posterior ", r.posterior, &mut out)?;
-    print_quotient(alloc, r.quotient, &mut out)?;
-    print_fraction(alloc, b"difference ", r.difference, &mut out)?;
+    print_gain(g, &mut out)?;
+    print_fraction(b"prior ", r.prior, &mut out)?;
+    print_fraction(b"posterior ", r.posterior, &mut out)?;
+    print_quotient(r.quotient, &mut out)?;
+    print_fraction(b"difference ", r.difference, &mut out)?;
     Ok(out)
 }

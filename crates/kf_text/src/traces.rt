@@ -1,4 +1,4 @@
-ghost use Rattle.std.specs.Prelude.{◌≡◌, ◌≤◌, ◌<◌, ◌++◌, IfOk, OnOk, flat_map, length};
+ghost use Rattle.std.specs.Prelude.{◌≡◌, ◌≤◌, ◌<◌, ◌++◌, IfOk, OnOk, length};
 ghost use Rattle.kf_frac.specs.Fractions.{limit};
 ghost use Rattle.kf_value.specs.Numbers.{target_size};
 ghost use Rattle.kf_value.specs.Views.{items_of};
@@ -7,61 +7,22 @@ ghost use Rattle.kf_column.specs.Shapes.{IsBelow};
 ghost use Rattle.kf_hyper.specs.Tables.{table_row};
 ghost use Rattle.kf_hyper.specs.Views.{rows_of};
 ghost use Rattle.kf_text.specs.Parts.{table_lines};
-ghost use Rattle.kf_text.specs.Texts.{entry_line, row_lines, trace_text as text_of_table};
+ghost use Rattle.kf_text.specs.Texts.{row_lines, trace_text as text_of_table};
 
-use crate::items::{print_about, print_bytes, print_line, print_text, print_trace};
+use crate::entries::print_entries;
+use crate::items::{print_about, print_bytes, print_count, print_fraction, print_trace};
 use kf_frac::share;
-use kf_hyper::{Entry, TraceRow, TraceTable};
+use kf_hyper::{TraceRow, TraceTable};
 use kf_value::{Mem, Target};
 use std::alloc::Global;
 
 // Appends the lines before the traces.
-fn print_head(alloc: Global, table: &TraceTable, out: &mut Vec<u8>) -> Result<(), Mem>
+fn print_head(table: &TraceTable, out: &mut Vec<u8>) -> Result<(), Mem>
     ensures { OnOk result (out.new.items ≡ out.old.items ++ table_lines (items_of table.now.target) table.now.scale (length (rows_of table.now))) }
 {
     print_about(&table.target, out)?;
-    let scale = table.scale;
-    let count = table.rows.as_slice().len();
-    print_text(format!(in alloc; "scale {scale}\ntraces {count}\n")?, out)
-}
-
-// Appends the line of a value and its weight over the scale.
-fn print_entry(
-    alloc: Global,
-    target: &Target,
-    scale: u128,
-    entry: Entry,
-    out: &mut Vec<u8>,
-) -> Result<(), Mem>
-    requires value { entry.value < target_size (items_of target.now) }
-    requires part { entry.weight ≤ scale }
-    requires some { 0 < scale }
-    requires narrow { scale ≤ limit }
-    ensures { OnOk result (out.new.items ≡ out.old.items ++ entry_line (items_of target.now) scale entry) }
-{
-    let chance = share(entry.weight, scale);
-    let end = format!(in alloc; " {chance}\n")?;
-    print_line(alloc, target, entry.value, &end, out)
-}
-
-// Appends the lines of all values of a trace.
-fn print_entries(
-    alloc: Global,
-    target: &Target,
-    scale: u128,
-    entries: &[Entry],
-    out: &mut Vec<u8>,
-) -> Result<(), Mem>
-    requires within { IsBelow (target_size (items_of target.now)) entries.now }
-    requires parts { total entries.now ≤ scale }
-    requires some { 0 < scale }
-    requires narrow { scale ≤ limit }
-    ensures { OnOk result (out.new.items ≡ out.old.items ++ flat_map (entry_line (items_of target.now) scale) entries.now) }
-{
-    for entry in entries {
-        print_entry(alloc, target, scale, *entry, out)?;
-    }
-    Ok(())
+    print_count(b"scale ", table.scale, out)?;
+    print_count(b"traces ", table.rows.as_slice().len(), out)
 }
 
 // Appends the lines of a trace.
@@ -82,7 +43,7 @@ fn print_row(
     let weight = share(row.column.total(), scale);
     print_bytes(b"trace ", out)?;
     print_trace(alloc, row.trace.as_slice(), out)?;
-    print_text(format!(in alloc; " weight {weight}\n")?, out)?;
+    print_fraction(b" weight ", weight, out)?;
     print_entries(alloc, target, scale, entries, out)
 }
 
@@ -91,7 +52,7 @@ pub fn trace_text(alloc: Global, table: &TraceTable) -> Result<Vec<u8>, Mem>
     ensures { IfOk result (λ text. text.items ≡ text_of_table (items_of table.now.target) table.now.scale (rows_of table.now)) }
 {
     let mut out = Vec::new(alloc);
-    print_head(alloc, table, &mut out)?;
+    print_head(table, &mut out)?;
     for row in table.rows.as_slice() {
         print_row(alloc, &table.target, table.scale, row, &mut out)?;
     }

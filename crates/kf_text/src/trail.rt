@@ -2,16 +2,18 @@ ghost use Rattle.std.specs.Prelude.{◌≡◌, ◌++◌, IfOk, OnOk};
 ghost use Rattle.kf_text.specs.Parts.{count_line};
 ghost use Rattle.kf_text.specs.Texts.{trail_text as text_of_trail};
 
-use crate::items::print_text;
+use crate::items::{print_bytes, print_count, print_number};
 use kf_hyper::CountList;
 use kf_value::Mem;
 use std::alloc::Global;
 
 // Appends the line of a place, counted from 0, and how many beliefs stand there.
-fn print_count(alloc: Global, place: usize, count: u64, out: &mut Vec<u8>) -> Result<(), Mem>
+fn print_after(place: usize, count: u64, out: &mut Vec<u8>) -> Result<(), Mem>
     ensures { OnOk result (out.new.items ≡ out.old.items ++ count_line (place, count)) }
 {
-    print_text(format!(in alloc; "after {place} inners {count}\n")?, out)
+    print_bytes(b"after ", out)?;
+    print_number(place, out)?;
+    print_count(b" inners ", count, out)
 }
 
 /// The printed trail: each place with how many beliefs stand there, a line for each, numbered from 0.
@@ -21,7 +23,7 @@ pub fn trail_text(alloc: Global, t: &CountList) -> Result<Vec<u8>, Mem>
     let counts = t.as_slice();
     let mut out = Vec::new(alloc);
     for i in 0..counts.len() {
-        print_count(alloc, i, counts[i], &mut out)?;
+        print_after(i, counts[i], &mut out)?;
     }
     Ok(out)
 }

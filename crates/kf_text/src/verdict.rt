@@ -1,17 +1,15 @@
-ghost use Rattle.std.specs.Prelude.{◌≡◌, ◌<◌, ◌++◌, ◌∷◌, [], All, IfOk, OnOk, codes, flat_map, map, length, decimal};
-ghost use Rattle.std.specs.Fmt.{signed_decimal};
+ghost use Rattle.std.specs.Prelude.{◌≡◌, ◌<◌, ◌++◌, ◌∷◌, [], All, IfOk, OnOk, flat_map, map, length};
 ghost use Rattle.kf_value.specs.Numbers.{target_size};
 ghost use Rattle.kf_value.specs.Views.{items_of};
 ghost use Rattle.kf_gain.specs.Views.{table_tree};
 ghost use Rattle.kf_cert.specs.Shapes.{IsWritable, IsWritableAction};
 ghost use Rattle.kf_refine.specs.Verdicts.{Yes, No};
 ghost use Rattle.kf_refine.specs.Views.{fraction_of, matrix_tree, verdict_tree};
-ghost use Rattle.kf_text.specs.Texts.{line};
 ghost use Rattle.kf_text.specs.Views.{own_text};
 ghost use Rattle.kf_text.specs.VerdictTexts.{action_lines, verdict_text as text_of_verdict};
 ghost use Rattle.kf_text.specs.Parts.{actions_lines, fractions_line, gain_line, no_text, shape_line, spaced, width as columns_of, yes_text};
 
-use crate::items::{print_bytes, print_line, print_text};
+use crate::items::{print_bytes, print_count, print_frac, print_line, print_number};
 use kf_frac::Frac;
 use kf_gain::{Action, GainEntry, GainTable};
 use kf_refine::{Matrix, Verdict};
@@ -19,33 +17,26 @@ use kf_simplex::FracList;
 use kf_value::{Mem, Target};
 use std::alloc::Global;
 
-// Appends a fraction.
-fn print_fraction(alloc: Global, fraction: &Frac, out: &mut Vec<u8>) -> Result<(), Mem>
-    ensures { OnOk result (out.new.items ≡ out.old.items ++ own_text fraction.now) }
-{
-    print_text(fraction.to_string(alloc)?, out)
-}
-
 // Appends fractions, a space between them.
-fn print_fractions(alloc: Global, row: &[Frac], out: &mut Vec<u8>) -> Result<(), Mem>
+fn print_fractions(row: &[Frac], out: &mut Vec<u8>) -> Result<(), Mem>
     ensures { OnOk result (out.new.items ≡ out.old.items ++ spaced (map own_text row.now)) }
 {
     let [first, others @ ..] = row else {
         return Ok(());
     };
-    print_fraction(alloc, first, out)?;
+    print_frac(*first, out)?;
     for fraction in others {
         print_bytes(b" ", out)?;
-        print_fraction(alloc, fraction, out)?;
+        print_frac(*fraction, out)?;
     }
     Ok(())
 }
 
 // Appends the line of a row of a matrix.
-fn print_row(alloc: Global, row: &FracList, out: &mut Vec<u8>) -> Result<(), Mem>
+fn print_row(row: &FracList, out: &mut Vec<u8>) -> Result<(), Mem>
     ensures { OnOk result (out.new.items ≡ out.old.items ++ fractions_line (map fraction_of row.now)) }
 {
-    print_fractions(alloc, row.as_slice(), out)?;
+    print_fractions(row.as_slice(), out)?;
     print_bytes(b"\n", out)
 }
 
@@ -60,30 +51,32 @@ fn width(rows: &[FracList]) -> usize
 }
 
 // Appends the line of how many rows and columns a matrix has.
-fn print_shape(alloc: Global, rows: usize, columns: usize, out: &mut Vec<u8>) -> Result<(), Mem>
+fn print_shape(rows: usize, columns: usize, out: &mut Vec<u8>) -> Result<(), Mem>
     ensures { OnOk result (out.new.items ≡ out.old.items ++ shape_line rows columns) }
 {
-    print_text(format!(in alloc; "matrix {rows} {columns}\n")?, out)
+    print_bytes(b"matrix ", out)?;
+    print_number(rows, out)?;
+    print_count(b" ", columns, out)
 }
 
 // Appends the lines of rows.
-fn print_rows(alloc: Global, rows: &[FracList], out: &mut Vec<u8>) -> Result<(), Mem>
+fn print_rows(rows: &[FracList], out: &mut Vec<u8>) -> Result<(), Mem>
     ensures { OnOk result (out.new.items ≡ out.old.items ++ flat_map fractions_line (map (λ row. map fraction_of row) rows.now)) }
 {
     for row in rows {
-        print_row(alloc, row, out)?;
+        print_row(row, out)?;
     }
     Ok(())
 }
 
 // Appends the lines of a matrix.
-fn print_matrix(alloc: Global, matrix: &Matrix, out: &mut Vec<u8>) -> Result<(), Mem>
+fn print_matrix(matrix: &Matrix, out: &mut Vec<u8>) -> Result<(), Mem>
     ensures { OnOk result (out.new.items ≡ out.old.items ++ yes_text (matrix_tree matrix.now)) }
 {
     let rows = matrix.rows.as_slice();
     print_bytes(b"refines yes\n", out)?;
-    print_shape(alloc, rows.len(), width(rows), out)?;
-    print_rows(alloc, rows, out)
+    print_shape(rows.len(), width(rows), out)?;
+    print_rows(rows, out)
 }
 
 // Appends the line of a value and what an action gains there.
@@ -96,9 +89,8 @@ fn print_gain(
     requires { entry.now.value < target_size (items_of target.now) }
     ensures { OnOk result (out.new.items ≡ out.old.items ++ gain_line (items_of target.now) entry.now) }
 {
-    let gain = entry.gain;
-    let end = format!(in alloc; " {gain}\n")?;
-    print_line(alloc, target, entry.value, &end, out)
+    print_line(alloc, target, entry.value, b" ", out)?;
+    print_count(b"", entry.gain, out)
 }
 
 // Appends the lines of an action.
@@ -120,20 +112,6 @@ fn print_action(
     Ok(())
 }
 
-// Appends the line of what all gains are divided by.
-fn print_over(alloc: Global, over: u128, out: &mut Vec<u8>) -> Result<(), Mem>
-    ensures { OnOk result (out.new.items ≡ out.old.items ++ line (codes "over " ++ decimal over)) }
-{
-    print_text(format!(in alloc; "over {over}\n")?, out)
-}
-
-// Appends the line of the gain at values that aren't named.
-fn print_rest(alloc: Global, rest: i128, out: &mut Vec<u8>) -> Result<(), Mem>
-    ensures { OnOk result (out.new.items ≡ out.old.items ++ line (codes "rest " ++ signed_decimal rest)) }
-{
-    print_text(format!(in alloc; "rest {rest}\n")?, out)
-}
-
 // Appends how many actions there are, and the lines of each.
 fn print_actions(
     alloc: Global,
@@ -144,15 +122,14 @@ fn print_actions(
     requires { All (IsWritableAction (items_of target.now)) actions.now }
     ensures { OnOk result (out.new.items ≡ out.old.items ++ actions_lines (items_of target.now) actions.now) }
 {
-    let count = actions.len();
-    print_text(format!(in alloc; "actions {count}\n")?, out)?;
+    print_count(b"actions ", actions.len(), out)?;
     for action in actions {
         print_action(alloc, target, action, out)?;
     }
     Ok(())
 }
 
-// Appends the lines of a gain table.
+// Appends the lines of a gain table: what its gains are divided by, the gain at values that no action names, and its actions.
 fn print_table(
     alloc: Global,
     target: &Target,
@@ -163,8 +140,8 @@ fn print_table(
     ensures { OnOk result (out.new.items ≡ out.old.items ++ no_text (items_of target.now) (table_tree table.now)) }
 {
     print_bytes(b"refines no\n", out)?;
-    print_over(alloc, table.over, out)?;
-    print_rest(alloc, table.rest, out)?;
+    print_count(b"over ", table.over, out)?;
+    print_count(b"rest ", table.rest, out)?;
     print_actions(alloc, target, table.actions.as_slice(), out)
 }
 
@@ -175,7 +152,7 @@ pub fn verdict_text(alloc: Global, v: &Verdict, t: &Target) -> Result<Vec<u8>, M
 {
     let mut out = Vec::new(alloc);
     match v {
-        Verdict::Yes(matrix) => print_matrix(alloc, matrix, &mut out)?,
+        Verdict::Yes(matrix) => print_matrix(matrix, &mut out)?,
         Verdict::No(table) => print_table(alloc, t, table, &mut out)?,
     }
     Ok(out)

@@ -4,5 +4,5 @@ use Rattle.kf_text.proofs.made.print_last.Goals as goal
 
 pub returns : goal.returns
 returns c =
-    let same = share_text c.last_outer-last.result _ _ c.last_outer-last.ensures.num c.last_outer-last.ensures.den in
+    let same = share_text c.last_outer.result _ _ c.last_outer.ensures.num c.last_outer.ensures.den in
     search (rules, append_assoc)

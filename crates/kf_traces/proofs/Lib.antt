@@ -5,6 +5,8 @@ mod Ordering
 mod Lasting
 mod Telling
 mod Locating
+mod Folding
+mod Neighbours
 mod Splits
 mod Moving
 mod Assigning

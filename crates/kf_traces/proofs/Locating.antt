@@ -1,15 +1,10 @@
--- What a map does when weight is added on a store, and where a part stands in an ascending list, by a binary search.
-use Rattle.std.proofs.Common.{◌≡◌, ℕ, zero, suc, ◌+◌, ◌^◌, ◌≤◌, ◌<◌, List, [], ◌∷◌, ◌++◌, length, map, take, drop, get_or, slice_set, Option, Some, None, Ok, Err, unwrap_or, sum_by, refl, sym, ap, subst, ◌∙◌, arith, zero-add, ◌⊎◌, ⊎_elim, inl, inr}
+-- How much weight there is when some is added, and where a part stands in an ascending list, by a binary search.
+use Rattle.std.proofs.Common.{◌≡◌, ℕ, zero, suc, ◌+◌, ◌≤◌, ◌<◌, List, [], ◌∷◌, ◌++◌, length, map, take, drop, get_or, slice_set, Ok, Err, refl, sym, ap, ◌∙◌, arith}
 use Rattle.std.specs.declared.cmp.Ordering.{Ordering}
 use Rattle.std.specs.declared.cmp.Ordering.TheVariants.{Less, Equal, Greater}
 use Rattle.std.specs.Ordering.{nat_cmp, ordering_index, ordering_reverse, match_ordering}
-use Rattle.std.specs.BTreeMap.{insert_entry, is_at}
-use Rattle.std.proofs.lemmas.Cmp.{nat_cmp_total, tied_itself}
-use Rattle.std.specs.Map.{lookup, keys_of, values_of}
 use Rattle.std.specs.List.{AllByRecursion as Each, insert, take-map}
-use Rattle.std.specs.List.Sorted.{IsStrictlySortedBy, IsNonDecreasingBy, IsBinarySearchResult, IsSearchInRange}
-use Rattle.std.proofs.lemmas.Map.Entries.{lookup_at_gap}
-use Rattle.std.proofs.lemmas.Map.Steps.{lookup-le-sum}
+use Rattle.std.specs.List.Sorted.{IsNonDecreasingBy, IsBinarySearchResult, IsSearchInRange}
 use Rattle.std.proofs.lemmas.List.{map-append, drop-map}
 use Rattle.std.proofs.lemmas.List.Sums.{sum_by-cons}
 use Rattle.kf_value.specs.Values.{ValueTree, order}
@@ -19,76 +14,6 @@ use Rattle.kf_traces.specs.declared.parts.Part as coded
 use Rattle.kf_traces.specs.Laws.{sum_of}
 use Rattle.kf_traces.specs.Traced.{Weights, Part, with_weight, with_part}
 use Rattle.kf_traces.specs.Views.{part_of, parts_sum, PartsAscend}
-
--- ---- weight on a store
-
-orderings : (r : Ordering) → (r ≡ Less) ⊎ ((r ≡ Equal) ⊎ (r ≡ Greater))
-orderings Less = inl refl
-orderings Equal = inr (inl refl)
-orderings Greater = inr (inr refl)
-
-module _ (n w : ℕ) where
-  abbrev there : Weights → Option ℕ
-  there es = lookup (is_at (nat_cmp n)) es
-
-  abbrev before : Weights → ℕ
-  before es = unwrap_or (there es) 0
-
-  abbrev put : Weights → Weights
-  put es = insert_entry nat_cmp es n (before es + w)
-
-  put_less : (e : ℕ × ℕ) (es : Weights) → IsStrictlySortedBy nat_cmp (keys_of (e ∷ es)) → nat_cmp n e.0 ≡ Less → put (e ∷ es) ≡ with_weight (e ∷ es) n w
-  put_less e es sorted r =
-      let none : lookup (is_at (nat_cmp n)) (e ∷ es) ≡ None =
-      lookup_at_gap nat_cmp_total n (e ∷ es) 0 sorted (λ j f below got. absurd (omega arith)) (λ f got. let first : e ≡ f = cc in subst (λ (f : ℕ × ℕ). nat_cmp n f.0 ≡ Less) first r) in
-      let alone : before (e ∷ es) + w ≡ w = ap (λ (o : Option ℕ). unwrap_or o 0 + w) none ∙ zero-add w in
-      rw (alone, r) refl
-
-  put_equal : (e : ℕ × ℕ) (es : Weights) → nat_cmp n e.0 ≡ Equal → put (e ∷ es) ≡ with_weight (e ∷ es) n w
-  put_equal e es r = rw r refl
-
-  put_greater : (e : ℕ × ℕ) (es : Weights) → nat_cmp n e.0 ≡ Greater → put es ≡ with_weight es n w → put (e ∷ es) ≡ with_weight (e ∷ es) n w
-  put_greater e es r later = rw r (ap (λ fs. e ∷ fs) later)
-
-  sorted_rest : (e : ℕ × ℕ) (es : Weights) → IsStrictlySortedBy nat_cmp (keys_of (e ∷ es)) → IsStrictlySortedBy nat_cmp (keys_of es)
-  unfolding IsStrictlySortedBy
-  sorted_rest e es sorted = sorted.1
-
-  put_is : (es : Weights) → IsStrictlySortedBy nat_cmp (keys_of es) → put es ≡ with_weight es n w
-  put_is [] sorted = ap (λ m. (n, m) ∷ []) (zero-add w)
-  put_is (e ∷ es) sorted =
-      ⊎_elim (put_less e es sorted) (⊎_elim (put_equal e es) (λ (r : nat_cmp n e.0 ≡ Greater). put_greater e es r (put_is es (sorted_rest e es sorted)))) (orderings (nat_cmp n e.0))
-
-  -- a second value takes the place of the first
-  twice : (es : Weights) (a b : ℕ) → insert_entry nat_cmp (insert_entry nat_cmp es n a) n b ≡ insert_entry nat_cmp es n b
-  twice [] a b = rw (tied_itself nat_cmp_total n) refl
-  twice (e ∷ es) a b = twice_at (nat_cmp n e.0) refl (twice es a b)
-    where
-      twice_at : (r : Ordering) → nat_cmp n e.0 ≡ r → insert_entry nat_cmp (insert_entry nat_cmp es n a) n b ≡ insert_entry nat_cmp es n b
-          → insert_entry nat_cmp (match_ordering r ((n, a) ∷ e ∷ es) ((e.0, a) ∷ es) (e ∷ insert_entry nat_cmp es n a)) n b ≡ match_ordering r ((n, b) ∷ e ∷ es) ((e.0, b) ∷ es) (e ∷ insert_entry nat_cmp es n b)
-      twice_at Less is later = rw (tied_itself nat_cmp_total n) refl
-      twice_at Equal is later = rw is refl
-      twice_at Greater is later = rw is (ap (λ fs. e ∷ fs) later)
-
-  -- as a map gives it that had no weight there
-  pub weight_new : (es fs : Weights) → IsStrictlySortedBy nat_cmp (keys_of es) → None ≡ there es → fs ≡ insert_entry nat_cmp es n w → fs ≡ with_weight es n w
-  weight_new es fs sorted none is = is ∙ ap (insert_entry nat_cmp es n) (sym (zero-add w) ∙ ap (λ o. unwrap_or o 0 + w) none) ∙ put_is es sorted
-
-  -- and one that had some, to which the new weight is added
-  pub weight_more : (es gs fs : Weights) (had : ℕ) → IsStrictlySortedBy nat_cmp (keys_of es) → Some had ≡ there es → gs ≡ insert_entry nat_cmp es n w → fs ≡ insert_entry nat_cmp gs n (had + w)
-      → fs ≡ with_weight es n w
-  weight_more es gs fs had sorted some put more =
-      more ∙ ap (λ gs. insert_entry nat_cmp gs n (had + w)) put ∙ twice es w (had + w) ∙ ap (λ o. insert_entry nat_cmp es n (unwrap_or o 0 + w)) some ∙ put_is es sorted
-
-  pub weight_fits : (es : Weights) (had : ℕ) → Some had ≡ there es → sum_of es + w < 2 ^ 127 → had + w < 2 ^ 128
-  weight_fits es had some fits =
-      let was : had ≡ before es = ap (λ o. unwrap_or o 0) some in
-      let small : before es ≤ sum_by (λ (n : ℕ). n) (values_of es) = lookup-le-sum (is_at (nat_cmp n)) es in
-      omega (arith, was, small, sum-values es, fits)
-    where
-      sum-values : (es : Weights) → sum_by (λ (n : ℕ). n) (values_of es) ≡ sum_of es
-      sum-values [] = refl
-      sum-values (e ∷ es) = omega (arith, sum_by-cons (λ (n : ℕ). n) e.1 (values_of es), sum_by-cons (λ (e : ℕ × ℕ). e.1) e es, sum-values es)
 
 -- ---- sums
 
@@ -200,9 +125,9 @@ module _ (v : ValueTree) (n w : ℕ) where
       ∙ (map-append part_of (take i xs) (x ∷ drop i xs)
       ∙ (rw (← take-map part_of i xs, ← drop-map part_of i xs, same_part) (sym (apart xs i inside between.0 between.1))))
 
-pub sum_at : (xs : List coded.Part) (i : ℕ) (x : coded.Part) → i < length xs → x ≡ get_or xs i x → sum_of x.stores.entries ≤ parts_sum (parts_of xs)
+pub sum_at : (xs : List coded.Part) (i : ℕ) (x : coded.Part) → i < length xs → x ≡ get_or xs i x → sum_of x.stores ≤ parts_sum (parts_of xs)
 sum_at [] i x within is = absurd (omega arith)
 sum_at (y ∷ ys) zero x within is =
-    let same_sum : sum_of x.stores.entries ≡ sum_of y.stores.entries = ap (λ (z : coded.Part). sum_of z.stores.entries) is in
+    let same_sum : sum_of x.stores ≡ sum_of y.stores = ap (λ (z : coded.Part). sum_of z.stores) is in
     omega (arith, same_sum, sum_by-cons (λ (p : Part). sum_of p.stores) (part_of y) (parts_of ys))
 sum_at (y ∷ ys) (suc i) x within is = omega (arith, sum_by-cons (λ (p : Part). sum_of p.stores) (part_of y) (parts_of ys), sum_at ys i x (omega arith) is)

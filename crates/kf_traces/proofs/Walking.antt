@@ -1,6 +1,6 @@
 -- Lists of states that go on one after the other.
-use Rattle.std.proofs.Common.{◌≡◌, ℕ, zero, suc, ◌+◌, ◌<◌, ◌^◌, List, [], ◌∷◌, ◌++◌, All, length, map, slice_get, Some, Result, Ok, Err, refl, sym, ap, subst, ◌∙◌, arith}
-use Rattle.std.specs.Prelude.{flat_map, IfOk}
+use Rattle.std.proofs.Common.{◌≡◌, ℕ, zero, suc, ◌+◌, ◌<◌, ◌^◌, List, [], ◌∷◌, ◌++◌, All, length, map, slice_get, Some, refl, sym, ap, subst, ◌∙◌, arith}
+use Rattle.std.specs.Prelude.{flat_map}
 use Rattle.std.proofs.lemmas.List.{append-nil, append_assoc, map-append}
 use Rattle.std.proofs.lemmas.List.Concat.{flat_map-append}
 use Rattle.std.proofs.lemmas.List.Elements.{All-append, All-cons, All-head, All-nil, All-rest, All-same, All-tail}
@@ -187,11 +187,6 @@ leaked_fit size t (p ∷ ps) below narrow =
     let small = λ (p : Part). sum_of p.stores < 2 ^ 127 in
     All-cons (InSize size) (behind t p) (map (behind t) ps) (record { below = All-head low p ps below; narrow = All-head small p ps narrow })
     (leaked_fit size t ps (All-tail low p ps below) (All-tail small p ps narrow))
-
--- a single state fits
-pub only_fits : {A E : Type 0} (r : Result A E) (states : A → List Traced) (size : ℕ) (s : Traced) → InSize size s → IfOk r (λ a. states a ≡ alone s) → IfOk r (λ a. All (InSize size) (states a))
-only_fits (Ok a) states size s fit is = All-same (InSize size) (states a) (s ∷ []) is (All-cons (InSize size) s [] fit (All-nil (InSize size)))
-only_fits (Err e) states size s fit is = tt
 
 -- ---- the last part
 

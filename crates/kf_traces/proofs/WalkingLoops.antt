@@ -21,6 +21,10 @@ all_leaked go tries s = each (split go tries [] s.stores)
     each [] = refl
     each (p ∷ ps) = ap (λ ss. behind s.trace p ∷ ss) (each ps)
 
+-- the same of states
+pub each_leaked : (go : Lead) (tries : ℕ → Tried) (ss : List Traced) → flat_map (leaked go tries) ss ≡ flat_map (branches go tries (λ v. alone)) ss
+each_leaked go tries ss = flat_same (leaked go tries) (branches go tries (λ v. alone)) (λ s. sym (all_leaked go tries s)) ss
+
 -- a choice between two ways, and between where they lead
 one_side : (taken left : Traced → List Traced) (s : Traced) (b c : Bool) → b ≡ c → (if b then taken else left) s ≡ (if c then taken s else left s)
 one_side taken left s true true same = refl

@@ -10,7 +10,7 @@ use Rattle.kf_traces.specs.Traced.{Weights, Part, Traced}
 use Rattle.kf_traces.specs.Laws.{sum_of}
 
 abbrev pub part_of : coded.Part → Part
-part_of p = record { value = value_tree p.value; stores = p.stores.entries }
+part_of p = record { value = value_tree p.value; stores = p.stores }
 
 -- all weight of all parts
 abbrev pub parts_sum : List Part → ℕ
@@ -26,7 +26,7 @@ PartsAscend [] = Unit {0}
 PartsAscend (p ∷ ps) = AllByRecursion (λ q. order p.value q.value ≡ Less) ps × PartsAscend ps
 
 abbrev pub traced_of : State → Traced
-traced_of s = record { trace = map value_tree s.trace.items; stores = s.stores.entries }
+traced_of s = record { trace = map value_tree s.trace.items; stores = s.stores.items }
 
 -- stores of a shape that has so many, whose weights together are below 2^127
 pub record Fits (size : ℕ) (es : Weights) : Type 0 where

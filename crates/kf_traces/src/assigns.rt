@@ -10,19 +10,19 @@ ghost use Rattle.kf_core.specs.Choices.{total};
 ghost use Rattle.kf_core.specs.Views.{dx_tree, program_tree};
 ghost use Rattle.kf_eval.specs.Choices.{weighted_tree};
 ghost use Rattle.kf_eval.specs.Kinds.{shape_kinds};
+ghost use Rattle.kf_eval.specs.Memos.{IsMemoOf};
 ghost use Rattle.kf_traces.specs.Laws.{sum_of};
 ghost use Rattle.kf_traces.specs.Traced.{with_moves, assign_all, copy_all};
 ghost use Rattle.kf_traces.specs.Views.{Fits};
 
 use crate::choices::chosen_in;
-use crate::parts::add_weight;
+use crate::weights::Weights;
 use kf_core::{Dx, Program};
 use kf_eval::{Memo, Weighted};
 use kf_frac::quotient;
 use kf_support::{copied_store, moved};
 use kf_value::{Mem, Shape};
 use std::alloc::Global;
-use std::collections::BTreeMap;
 
 /// Adds the shares of a store, each to the store where the variable at `slot` has the chosen value.
 ///
@@ -33,72 +33,75 @@ fn add_moves(
     store: u64,
     share: u128,
     choices: &[Weighted],
-    reached: &mut BTreeMap<u64, u128>,
+    reached: &mut Weights,
 ) -> Result<(), Mem>
     requires variable { slot < length (shape_types shape.now) }
     requires store { store < shape_size shape.now }
     requires formed { All (λ w. IsWellFormed w.value) (map weighted_tree choices.now) }
-    requires below { All (λ e. e.0 < shape_size shape.now) reached.old.entries }
-    requires within { sum_of reached.old.entries + share * total (map weighted_tree choices.now) < 2 ^ 127 }
-    ensures moved { OnOk result (reached.new.entries ≡ with_moves (shape_types shape.now) slot store reached.old.entries share (map weighted_tree choices.now)) }
-    ensures below { OnOk result (All (λ e. e.0 < shape_size shape.now) reached.new.entries) }
+    requires below { All (λ e. e.0 < shape_size shape.now) reached.old }
+    requires within { sum_of reached.old + share * total (map weighted_tree choices.now) < 2 ^ 127 }
+    ensures moved { OnOk result (reached.new ≡ with_moves (shape_types shape.now) slot store reached.old share (map weighted_tree choices.now)) }
+    ensures below { OnOk result (All (λ e. e.0 < shape_size shape.now) reached.new) }
 {
     for choice in choices {
         if let Some(after) = moved(shape, slot, store, &choice.value) {
-            add_weight(reached, after, share * choice.weight)?;
+            reached.add_weight(after, share * choice.weight)?;
         }
     }
     Ok(())
 }
 
-/// Where an assignment to the variable at `slot` leads, each way with its share of the weight.
+/// Where an assignment to the variable at `slot` leads, each way with its share of the weight. `memo` keeps what the
+/// distribution chooses.
 pub fn assign(
     alloc: Global,
     shape: &Shape,
     slot: usize,
     dist: &Dx,
-    stores: &BTreeMap<u64, u128>,
-) -> Result<BTreeMap<u64, u128>, Mem>
+    memo: &mut Memo,
+    stores: &[(u64, u128)],
+) -> Result<Vec<(u64, u128)>, Mem>
     requires variable { slot < length (shape_types shape.now) }
     requires kinded { (k : KindTree) × DistKinded (shape_kinds shape.now) (dx_tree dist.now) k }
-    requires fits { Fits (shape_size shape.now) stores.now.entries }
-    ensures assigned { IfOk result (λ m. m.entries ≡ assign_all (shape_types shape.now) slot (dx_tree dist.now) [] stores.now.entries) }
-    ensures fits { IfOk result (λ m. Fits (shape_size shape.now) m.entries) }
+    requires memo { IsMemoOf shape.now (dx_tree dist.now) memo.old }
+    requires fits { Fits (shape_size shape.now) stores.now }
+    ensures memo { OnOk result (IsMemoOf shape.now (dx_tree dist.now) memo.new) }
+    ensures assigned { IfOk result (λ m. m.items ≡ assign_all (shape_types shape.now) slot (dx_tree dist.now) [] stores.now) }
+    ensures fits { IfOk result (λ m. Fits (shape_size shape.now) m.items) }
 {
-    let mut reached = BTreeMap::new(alloc);
-    let mut memo = Memo::new(alloc, shape, dist, stores.len())?;
-    for (store, weight) in stores {
-        if let Some(place) = chosen_in(alloc, shape, dist, &mut memo, *store)? {
+    let mut reached = Weights::new(alloc);
+    for entry in stores {
+        if let Some(place) = chosen_in(alloc, shape, dist, memo, entry.0)? {
             let choice = memo.at(place);
-            let share = quotient(*weight, choice.total);
+            let share = quotient(entry.1, choice.total);
             add_moves(
                 shape,
                 slot,
-                *store,
+                entry.0,
                 share,
                 choice.items.as_slice(),
                 &mut reached,
             )?;
         }
     }
-    Ok(reached)
+    Ok(reached.settled())
 }
 
 /// The stores with their carried copies set.
 pub fn copy(
     alloc: Global,
     program: &Program,
-    stores: &BTreeMap<u64, u128>,
-) -> Result<BTreeMap<u64, u128>, Mem>
+    stores: &[(u64, u128)],
+) -> Result<Vec<(u64, u128)>, Mem>
     requires checked { IsChecked (program_tree program.now) }
-    requires fits { Fits (shape_size program.now.shape) stores.now.entries }
-    ensures copied { IfOk result (λ m. m.entries ≡ copy_all (program_tree program.now) [] stores.now.entries) }
-    ensures fits { IfOk result (λ m. Fits (shape_size program.now.shape) m.entries) }
+    requires fits { Fits (shape_size program.now.shape) stores.now }
+    ensures copied { IfOk result (λ m. m.items ≡ copy_all (program_tree program.now) [] stores.now) }
+    ensures fits { IfOk result (λ m. Fits (shape_size program.now.shape) m.items) }
 {
-    let mut copied = BTreeMap::new(alloc);
-    for (store, weight) in stores {
-        let after = copied_store(program, *store);
-        add_weight(&mut copied, after, *weight)?;
+    let mut copied = Weights::new(alloc);
+    for entry in stores {
+        let after = copied_store(program, entry.0);
+        copied.add_weight(after, entry.1)?;
     }
-    Ok(copied)
+    Ok(copied.settled())
 }

@@ -10,6 +10,7 @@ mod states;
 mod steps;
 mod tables;
 mod walks;
+mod weights;
 
 pub use laws::traced_laws;
 pub use tables::table;

@@ -1,4 +1,4 @@
-//! Weight on stores, and stores parted by the values that they leak.
+//! Stores parted by the values that they leak.
 
 ghost use Rattle.std.specs.Prelude.{◌≡◌, ◌+◌, ◌*◌, ◌^◌, ◌<◌, length, map, IfSome, OnOk};
 ghost use Rattle.std.specs.List.{All};
@@ -10,33 +10,21 @@ ghost use Rattle.kf_value.specs.Views.{value_tree};
 ghost use Rattle.kf_core.specs.Choices.{total};
 ghost use Rattle.kf_eval.specs.Choices.{weighted_tree};
 ghost use Rattle.kf_support.specs.Moves.{store_behind as lead_of};
-ghost use Rattle.kf_traces.specs.Laws.{sum_of};
-ghost use Rattle.kf_traces.specs.Traced.{with_weight, with_part, with_shares};
+ghost use Rattle.kf_traces.specs.Traced.{with_part, with_shares};
 ghost use Rattle.kf_traces.specs.Views.{part_of, parts_sum, PartsBelow, PartsAscend};
 
+use crate::weights::Weights;
 use kf_eval::Weighted;
 use kf_support::store_behind;
 use kf_value::{Mem, Shape, Value, compare};
 use std::alloc::Global;
 use std::cmp::Ordering;
-use std::collections::BTreeMap;
 
 /// A value that is leaked, and the stores behind it, each with its weight.
 #[derive(Drop)]
 pub struct Part {
     pub value: Value,
-    pub stores: BTreeMap<u64, u128>,
-}
-
-/// Adds weight on a store.
-pub fn add_weight(stores: &mut BTreeMap<u64, u128>, store: u64, weight: u128) -> Result<(), Mem>
-    requires within { sum_of stores.old.entries + weight < 2 ^ 127 }
-    ensures { OnOk result (stores.new.entries ≡ with_weight stores.old.entries store weight) }
-{
-    if let Some(before) = stores.insert(store, weight)? {
-        stores.insert(store, before + weight)?;
-    }
-    Ok(())
+    pub stores: Weights,
 }
 
 /// The place of the part of a value, or else the one where it is to go. The place `first` is looked at before the others.
@@ -66,10 +54,10 @@ pub fn add_part(
     ensures { OnOk result (map part_of parts.new.items ≡ with_part (map part_of parts.old.items) (value_tree value.now) store weight) }
 {
     match place_of(parts.as_slice(), value, first) {
-        Ok(place) => add_weight(&mut parts[place].stores, store, weight)?,
+        Ok(place) => parts[place].stores.add_weight(store, weight)?,
         Err(place) => {
-            let mut stores = BTreeMap::new(alloc);
-            stores.insert(store, weight)?;
+            let mut stores = Weights::new(alloc);
+            stores.add_weight(store, weight)?;
             let value = value.copy(alloc)?;
             parts.insert(place, Part { value, stores })?;
         }

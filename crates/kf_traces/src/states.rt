@@ -9,13 +9,12 @@ ghost use Rattle.kf_traces.specs.Visits.{last_true};
 use crate::parts::Part;
 use kf_value::{Mem, Value, is_true};
 use std::alloc::Global;
-use std::collections::BTreeMap;
 
-/// The values leaked, in order, and the stores behind them, each with its weight.
+/// The values leaked, in order, and the stores behind them in ascending number, each with its weight.
 #[derive(Drop)]
 pub struct State {
     pub trace: Vec<Value>,
-    pub stores: BTreeMap<u64, u128>,
+    pub stores: Vec<(u64, u128)>,
 }
 
 /// The stores of a part, with its value behind the trace.
@@ -53,7 +52,7 @@ fn moved_behind(mut trace: Vec<Value>, part: Part) -> Result<State, Mem>
     trace.push(part.value)?;
     Ok(State {
         trace,
-        stores: part.stores,
+        stores: part.stores.settled(),
     })
 }
 

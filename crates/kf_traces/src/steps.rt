@@ -1,6 +1,6 @@
 //! The parts that a state's stores make by what they choose.
 
-ghost use Rattle.std.specs.Prelude.{◌≡◌, ◌^◌, ◌<◌, [], length, map, IfOk, IfSome};
+ghost use Rattle.std.specs.Prelude.{◌≡◌, ◌^◌, ◌<◌, [], length, map, IfOk, IfSome, OnOk};
 ghost use Rattle.std.specs.List.{All};
 ghost use Rattle.kf_value.specs.Kinds.{KindTree};
 ghost use Rattle.kf_value.specs.Shapes.{shape_size, shape_types};
@@ -8,6 +8,7 @@ ghost use Rattle.kf_core.specs.Checked.{DistKinded};
 ghost use Rattle.kf_core.specs.Views.{dx_tree};
 ghost use Rattle.kf_core.specs.Runs.{tried};
 ghost use Rattle.kf_eval.specs.Kinds.{shape_kinds};
+ghost use Rattle.kf_eval.specs.Memos.{IsMemoOf};
 ghost use Rattle.kf_support.specs.Moves.{store_behind as lead_of};
 ghost use Rattle.kf_traces.specs.Laws.{sum_of};
 ghost use Rattle.kf_traces.specs.Traced.{split as split_of};
@@ -20,39 +21,41 @@ use kf_eval::Memo;
 use kf_frac::quotient;
 use kf_value::{Mem, Shape};
 use std::alloc::Global;
-use std::collections::BTreeMap;
 
 /// The stores by the values that they leak, each with its share of the weight, which goes to the store behind the value.
 ///
-/// `into` is the place of the variable that takes the value; without one the store stays.
+/// `into` is the place of the variable that takes the value; without one the store stays. `memo` keeps what the
+/// distribution chooses.
 pub fn split(
     alloc: Global,
     shape: &Shape,
     into: Option<usize>,
     dist: &Dx,
-    stores: &BTreeMap<u64, u128>,
+    memo: &mut Memo,
+    stores: &[(u64, u128)],
 ) -> Result<Vec<Part>, Mem>
     requires variable { IfSome into (λ slot. slot < length (shape_types shape.now)) }
     requires kinded { (k : KindTree) × DistKinded (shape_kinds shape.now) (dx_tree dist.now) k }
-    requires below { All (λ e. e.0 < shape_size shape.now) stores.now.entries }
-    requires within { sum_of stores.now.entries < 2 ^ 127 }
+    requires memo { IsMemoOf shape.now (dx_tree dist.now) memo.old }
+    requires below { All (λ e. e.0 < shape_size shape.now) stores.now }
+    requires within { sum_of stores.now < 2 ^ 127 }
+    ensures memo { OnOk result (IsMemoOf shape.now (dx_tree dist.now) memo.new) }
     ensures below { IfOk result (λ ps. PartsBelow (shape_size shape.now) (map part_of ps.items)) }
     ensures within { IfOk result (λ ps. All (λ p. sum_of p.stores < 2 ^ 127) (map part_of ps.items)) }
     ensures parts { IfOk result (λ ps. map part_of ps.items
-        ≡ split_of (lead_of (shape_types shape.now) into) (tried (shape_types shape.now) (dx_tree dist.now)) [] stores.now.entries) }
+        ≡ split_of (lead_of (shape_types shape.now) into) (tried (shape_types shape.now) (dx_tree dist.now)) [] stores.now) }
 {
     let mut parts = Vec::new(alloc);
-    let mut memo = Memo::new(alloc, shape, dist, stores.len())?;
-    for (store, weight) in stores {
-        if let Some(place) = chosen_in(alloc, shape, dist, &mut memo, *store)? {
+    for entry in stores {
+        if let Some(place) = chosen_in(alloc, shape, dist, memo, entry.0)? {
             let choice = memo.at(place);
-            let share = quotient(*weight, choice.total);
+            let share = quotient(entry.1, choice.total);
             add_shares(
                 alloc,
                 shape,
                 into,
                 &mut parts,
-                *store,
+                entry.0,
                 share,
                 choice.items.as_slice(),
             )?;

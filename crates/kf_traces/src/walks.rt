@@ -1,6 +1,6 @@
 //! What becomes of a state in statements, and of the first store in a whole program.
 
-ghost use Rattle.std.specs.Prelude.{◌≡◌, ◌^◌, ◌<◌, length, map, flat_map, IfOk, IfSome};
+ghost use Rattle.std.specs.Prelude.{◌≡◌, ◌^◌, ◌<◌, length, map, flat_map, IfOk, IfSome, OnOk};
 ghost use Rattle.std.specs.List.{All};
 ghost use Rattle.kf_value.specs.Kinds.{KindTree, TruthKind};
 ghost use Rattle.kf_value.specs.Shapes.{shape_size, shape_types, shape_sizes};
@@ -10,6 +10,7 @@ ghost use Rattle.kf_core.specs.Views.{dx_tree, st_tree, program_tree};
 ghost use Rattle.kf_core.specs.Runs.{tried};
 ghost use Rattle.kf_core.specs.Sts.{sts};
 ghost use Rattle.kf_eval.specs.Kinds.{shape_kinds};
+ghost use Rattle.kf_eval.specs.Memos.{IsMemoOf};
 ghost use Rattle.kf_support.specs.Cleared.{program_of, turns_of, whole_scale};
 ghost use Rattle.kf_support.specs.Moves.{store_behind as lead_of};
 ghost use Rattle.kf_traces.specs.Traced.{alone, all_traced, assign_traced, assignment_traced, loop_traced, program_traced, traced};
@@ -20,10 +21,10 @@ use crate::assigns::{assign, copy};
 use crate::states::{State, all_behind, ends_true};
 use crate::steps::split;
 use kf_core::{Dx, Program, St};
+use kf_eval::Memo;
 use kf_support::Cleared;
 use kf_value::{Mem, Shape};
 use std::alloc::Global;
-use std::collections::BTreeMap;
 
 /// A state on its way through a loop.
 #[derive(Drop)]
@@ -43,15 +44,24 @@ fn only(alloc: Global, state: State) -> Result<Vec<State>, Mem>
     Ok(states)
 }
 
-/// The state with its stores assigned.
-fn assigned(alloc: Global, shape: &Shape, slot: usize, dist: &Dx, from: State) -> Result<State, Mem>
+/// The state with its stores assigned. `memo` keeps what the distribution chooses.
+fn assigned(
+    alloc: Global,
+    shape: &Shape,
+    slot: usize,
+    dist: &Dx,
+    memo: &mut Memo,
+    from: State,
+) -> Result<State, Mem>
     requires variable { slot < length (shape_types shape.now) }
     requires kinded { (k : KindTree) × DistKinded (shape_kinds shape.now) (dx_tree dist.now) k }
+    requires memo { IsMemoOf shape.now (dx_tree dist.now) memo.old }
     requires fits { Fits (shape_size shape.now) (traced_of from).stores }
+    ensures memo { OnOk result (IsMemoOf shape.now (dx_tree dist.now) memo.new) }
     ensures assigned { IfOk result (λ s. alone (traced_of s) ≡ assign_traced (shape_types shape.now) slot (dx_tree dist.now) (traced_of from)) }
     ensures fits { IfOk result (λ s. Fits (shape_size shape.now) (traced_of s).stores) }
 {
-    let stores = assign(alloc, shape, slot, dist, &from.stores)?;
+    let stores = assign(alloc, shape, slot, dist, memo, from.stores.as_slice())?;
     Ok(State {
         trace: from.trace,
         stores,
@@ -59,75 +69,135 @@ fn assigned(alloc: Global, shape: &Shape, slot: usize, dist: &Dx, from: State) -
 }
 
 /// One state for each value that is leaked, in ascending order. The variable at `into`, if there is one, takes the value.
+/// `memo` keeps what the distribution chooses.
 fn leak(
     alloc: Global,
     shape: &Shape,
     into: Option<usize>,
     dist: &Dx,
+    memo: &mut Memo,
     from: State,
 ) -> Result<Vec<State>, Mem>
     requires variable { IfSome into (λ slot. slot < length (shape_types shape.now)) }
     requires kinded { (k : KindTree) × DistKinded (shape_kinds shape.now) (dx_tree dist.now) k }
+    requires memo { IsMemoOf shape.now (dx_tree dist.now) memo.old }
     requires fits { Fits (shape_size shape.now) (traced_of from).stores }
+    ensures memo { OnOk result (IsMemoOf shape.now (dx_tree dist.now) memo.new) }
     ensures leaked { IfOk result (λ ss. map traced_of ss.items ≡ leaked (lead_of (shape_types shape.now) into) (tried (shape_types shape.now) (dx_tree dist.now)) (traced_of from)) }
     ensures fits { IfOk result (λ ss. AllFit (shape_size shape.now) (map traced_of ss.items)) }
 {
-    let parts = split(alloc, shape, into, dist, &from.stores)?;
+    let parts = split(alloc, shape, into, dist, memo, from.stores.as_slice())?;
     let states = all_behind(alloc, from.trace, parts)?;
     Ok(states)
 }
 
-/// What becomes of a state in an assignment. Where it is shown, the value is leaked.
+/// How many stores stand behind all states, or the greatest number where these are more.
+fn count_stores(states: &[State]) -> usize {
+    let mut count: usize = 0;
+    for state in states {
+        count = count.saturating_add(state.stores.len());
+    }
+    count
+}
+
+/// What becomes of states, in their order, where each leaks a value.
+///
+/// What the distribution chooses is kept for all of them: there may be few stores behind each, and many behind all.
+fn leak_each(
+    alloc: Global,
+    shape: &Shape,
+    into: Option<usize>,
+    dist: &Dx,
+    states: Vec<State>,
+) -> Result<Vec<State>, Mem>
+    requires variable { IfSome into (λ slot. slot < length (shape_types shape.now)) }
+    requires kinded { (k : KindTree) × DistKinded (shape_kinds shape.now) (dx_tree dist.now) k }
+    requires fits { AllFit (shape_size shape.now) (map traced_of states.items) }
+    ensures leaked { IfOk result (λ ss. map traced_of ss.items ≡ flat_map (leaked (lead_of (shape_types shape.now) into) (tried (shape_types shape.now) (dx_tree dist.now))) (map traced_of states.items)) }
+    ensures fits { IfOk result (λ ss. AllFit (shape_size shape.now) (map traced_of ss.items)) }
+{
+    let mut memo = Memo::new(alloc, shape, dist, count_stores(&states))?;
+    let mut next = Vec::new(alloc);
+    for state in states {
+        let mut leaks = leak(alloc, shape, into, dist, &mut memo, state)?;
+        next.append(&mut leaks)?;
+    }
+    Ok(next)
+}
+
+/// The states, in their order, each with its stores assigned. What the distribution chooses is kept for all of them.
+fn assigned_each(
+    alloc: Global,
+    shape: &Shape,
+    slot: usize,
+    dist: &Dx,
+    states: Vec<State>,
+) -> Result<Vec<State>, Mem>
+    requires variable { slot < length (shape_types shape.now) }
+    requires kinded { (k : KindTree) × DistKinded (shape_kinds shape.now) (dx_tree dist.now) k }
+    requires fits { AllFit (shape_size shape.now) (map traced_of states.items) }
+    ensures assigned { IfOk result (λ ss. map traced_of ss.items ≡ flat_map (assign_traced (shape_types shape.now) slot (dx_tree dist.now)) (map traced_of states.items)) }
+    ensures fits { IfOk result (λ ss. AllFit (shape_size shape.now) (map traced_of ss.items)) }
+{
+    let mut memo = Memo::new(alloc, shape, dist, count_stores(&states))?;
+    let mut next = Vec::new(alloc);
+    for state in states {
+        let reached = assigned(alloc, shape, slot, dist, &mut memo, state)?;
+        next.push(reached)?;
+    }
+    Ok(next)
+}
+
+/// What becomes of states in an assignment. Where it is shown, the value is leaked.
 fn assigned_all(
     alloc: Global,
     shape: &Shape,
     slot: usize,
     dist: &Dx,
     shown: bool,
-    from: State,
+    states: Vec<State>,
 ) -> Result<Vec<State>, Mem>
     requires variable { slot < length (shape_types shape.now) }
     requires kinded { (k : KindTree) × DistKinded (shape_kinds shape.now) (dx_tree dist.now) k }
-    requires fits { Fits (shape_size shape.now) (traced_of from).stores }
-    ensures walked { IfOk result (λ ss. map traced_of ss.items ≡ assignment_traced shown (shape_types shape.now) slot (dx_tree dist.now) (traced_of from)) }
+    requires fits { AllFit (shape_size shape.now) (map traced_of states.items) }
+    ensures walked { IfOk result (λ ss. map traced_of ss.items ≡ flat_map (assignment_traced shown (shape_types shape.now) slot (dx_tree dist.now)) (map traced_of states.items)) }
     ensures fits { IfOk result (λ ss. AllFit (shape_size shape.now) (map traced_of ss.items)) }
 {
     if shown {
-        leak(alloc, shape, Some(slot), dist, from)
+        leak_each(alloc, shape, Some(slot), dist, states)
     } else {
-        let state = assigned(alloc, shape, slot, dist, from)?;
-        only(alloc, state)
+        assigned_each(alloc, shape, slot, dist, states)
     }
 }
 
-/// What becomes of a state in a statement.
+/// What becomes of states in a statement, in their order.
 #[cycle(walk)]
-fn walk(
+fn walk_each(
     alloc: Global,
     shape: &Shape,
     turns: u32,
     statement: &St,
-    from: State,
+    states: Vec<State>,
 ) -> Result<Vec<State>, Mem>
     requires sound { IsSound (shape_kinds shape.now) (st_tree statement.now) }
-    requires fits { Fits (shape_size shape.now) (traced_of from).stores }
-    ensures walked { IfOk result (λ ss. map traced_of ss.items ≡ traced (shape_types shape.now) turns (st_tree statement.now) (traced_of from)) }
+    requires fits { AllFit (shape_size shape.now) (map traced_of states.items) }
+    ensures walked { IfOk result (λ ss. map traced_of ss.items ≡ flat_map (traced (shape_types shape.now) turns (st_tree statement.now)) (map traced_of states.items)) }
     ensures fits { IfOk result (λ ss. AllFit (shape_size shape.now) (map traced_of ss.items)) }
 {
     match statement {
-        St::Skip => only(alloc, from),
+        St::Skip => Ok(states),
         St::Assign { slot, dist, shown } => {
-            assigned_all(alloc, shape, usize::from(*slot), dist, *shown, from)
+            assigned_all(alloc, shape, usize::from(*slot), dist, *shown, states)
         }
-        St::Observe(dist) => leak(alloc, shape, None, dist, from),
+        St::Observe(dist) => leak_each(alloc, shape, None, dist, states),
         St::If {
             guard: test,
             yes,
             no,
         } => {
-            let states = leak(alloc, shape, None, test, from)?;
+            let leaks = leak_each(alloc, shape, None, test, states)?;
             let mut next = Vec::new(alloc);
-            for state in states {
+            for state in leaks {
                 let block = if ends_true(&state) {
                     yes.as_slice()
                 } else {
@@ -139,14 +209,40 @@ fn walk(
             Ok(next)
         }
         St::While { guard: test, body } => {
-            walk_while(alloc, shape, turns, test, body.as_slice(), from)
+            walk_loops(alloc, shape, turns, test, body.as_slice(), states)
         }
     }
 }
 
+/// What becomes of states in a loop, in their order. What its guard chooses is kept for all of them, and for all turns.
+#[cycle(walk)]
+fn walk_loops(
+    alloc: Global,
+    shape: &Shape,
+    turns: u32,
+    test: &Dx,
+    body: &[St],
+    states: Vec<State>,
+) -> Result<Vec<State>, Mem>
+    requires kinded { DistKinded (shape_kinds shape.now) (dx_tree test.now) TruthKind }
+    requires sound { AreSound (shape_kinds shape.now) (map st_tree body.now) }
+    requires fits { AllFit (shape_size shape.now) (map traced_of states.items) }
+    ensures walked { IfOk result (λ ss. map traced_of ss.items ≡ flat_map (loop_traced turns (tried (shape_types shape.now) (dx_tree test.now)) (all_traced (shape_types shape.now) turns (sts (map st_tree body.now)))) (map traced_of states.items)) }
+    ensures fits { IfOk result (λ ss. AllFit (shape_size shape.now) (map traced_of ss.items)) }
+{
+    let mut memo = Memo::new(alloc, shape, test, count_stores(&states))?;
+    let mut next = Vec::new(alloc);
+    for state in states {
+        let mut walked = walk_while(alloc, shape, turns, test, body, &mut memo, state)?;
+        next.append(&mut walked)?;
+    }
+    Ok(next)
+}
+
 /// What becomes of a state in a loop with at most so many turns.
 ///
-/// The visits to the guard are a stack, since there may be more turns than calls can be nested.
+/// The visits to the guard are a stack, since there may be more turns than calls can be nested. `memo` keeps what the
+/// guard chooses.
 #[cycle(walk)]
 fn walk_while(
     alloc: Global,
@@ -154,11 +250,14 @@ fn walk_while(
     turns: u32,
     test: &Dx,
     body: &[St],
+    memo: &mut Memo,
     from: State,
 ) -> Result<Vec<State>, Mem>
     requires kinded { DistKinded (shape_kinds shape.now) (dx_tree test.now) TruthKind }
     requires sound { AreSound (shape_kinds shape.now) (map st_tree body.now) }
+    requires memo { IsMemoOf shape.now (dx_tree test.now) memo.old }
     requires fits { Fits (shape_size shape.now) (traced_of from).stores }
+    ensures memo { OnOk result (IsMemoOf shape.now (dx_tree test.now) memo.new) }
     ensures walked { IfOk result (λ ss. map traced_of ss.items ≡ loop_traced turns (tried (shape_types shape.now) (dx_tree test.now)) (all_traced (shape_types shape.now) turns (sts (map st_tree body.now))) (traced_of from)) }
     ensures fits { IfOk result (λ ss. AllFit (shape_size shape.now) (map traced_of ss.items)) }
 {
@@ -171,7 +270,7 @@ fn walk_while(
                 ended.push(state)?;
             }
             Visit::Asks(state, rest) => {
-                let states = leak(alloc, shape, None, test, state)?;
+                let states = leak(alloc, shape, None, test, memo, state)?;
                 let mut next = turn(alloc, shape, turns, rest, body, states)?;
                 next.reverse();
                 visits.append(&mut next)?;
@@ -263,34 +362,12 @@ fn walk_all(
     Ok(states)
 }
 
-/// What becomes of states in a statement, in their order.
-#[cycle(walk)]
-fn walk_each(
-    alloc: Global,
-    shape: &Shape,
-    turns: u32,
-    statement: &St,
-    states: Vec<State>,
-) -> Result<Vec<State>, Mem>
-    requires sound { IsSound (shape_kinds shape.now) (st_tree statement.now) }
-    requires fits { AllFit (shape_size shape.now) (map traced_of states.items) }
-    ensures walked { IfOk result (λ ss. map traced_of ss.items ≡ flat_map (traced (shape_types shape.now) turns (st_tree statement.now)) (map traced_of states.items)) }
-    ensures fits { IfOk result (λ ss. AllFit (shape_size shape.now) (map traced_of ss.items)) }
-{
-    let mut next = Vec::new(alloc);
-    for state in states {
-        let mut walked = walk(alloc, shape, turns, statement, state)?;
-        next.append(&mut walked)?;
-    }
-    Ok(next)
-}
-
 /// The first store of a program, with all weight, and nothing leaked.
 fn first(alloc: Global, scale: u128) -> Result<State, Mem>
     ensures { IfOk result (λ s. traced_of s ≡ first_of scale) }
 {
-    let mut stores = BTreeMap::new(alloc);
-    stores.insert(0, scale)?;
+    let mut stores = Vec::new(alloc);
+    stores.push((0, scale))?;
     Ok(State {
         trace: Vec::new(alloc),
         stores,
@@ -312,9 +389,10 @@ fn walk_checked(
     let decls = program.decls.as_slice();
     let mut state = first(alloc, scale)?;
     for (i, dist) in decls.iter().enumerate() {
-        state = assigned(alloc, &program.shape, i, dist, state)?;
+        let mut memo = Memo::new(alloc, &program.shape, dist, state.stores.len())?;
+        state = assigned(alloc, &program.shape, i, dist, &mut memo, state)?;
     }
-    let stores = copy(alloc, program, &state.stores)?;
+    let stores = copy(alloc, program, state.stores.as_slice())?;
     let start = State {
         trace: state.trace,
         stores,

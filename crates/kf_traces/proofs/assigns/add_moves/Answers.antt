@@ -30,7 +30,7 @@ add_weight-requires c =
     let cs = c.args.choices.now in
     let i = c.loop-choice.choice-index in
     let room = move_room (shape_types c.args.shape.now) c.args.slot c.args.store c.args.share (shape_size c.args.shape.now) (map weighted_tree (drop i cs)) (map weighted_tree (drop (i + 1) cs))
-    (weighted_tree c.choice-item.result) _ c.loop-choice.reached.entries (left_step weighted_tree cs i c.choice-item.result c.loop-choice-test.true c.choice-item.is) c.loop-choice.invariant in
+    (weighted_tree c.choice-item.result) _ c.loop-choice.reached (left_step weighted_tree cs i c.choice-item.result c.loop-choice-test.true c.choice-item.is) c.loop-choice.invariant in
     omega (arith, room)
 
 pub loop-choice-preserved : goal.loop-choice-preserved
@@ -44,10 +44,10 @@ loop-choice-preserved c =
     elim c.match-moved.branch [
       | in-Some+in_ok-add_weight w ↦
           rw w.reached-is
-          (moves_step ts c.args.slot c.args.store c.args.share size (map weighted_tree (drop i cs)) rest (weighted_tree c.choice-item.result) _ c.loop-choice.reached.entries next c.loop-choice.invariant
-          w.in-Some.after w.add_weight.new.stores.entries w.in-Some.ensures.moved w.in-Some.ensures.below w.in_ok-add_weight.ensures)
+          (moves_step ts c.args.slot c.args.store c.args.share size (map weighted_tree (drop i cs)) rest (weighted_tree c.choice-item.result) _ c.loop-choice.reached next c.loop-choice.invariant
+          w.in-Some.after w.add_weight.new.self w.in-Some.ensures.moved w.in-Some.ensures.below w.in_ok-add_weight.ensures)
       | in_default w ↦
           rw w.reached-is
-          (moves_past ts c.args.slot c.args.store c.args.share size (map weighted_tree (drop i cs)) rest (weighted_tree c.choice-item.result) _ c.loop-choice.reached.entries next c.loop-choice.invariant
+          (moves_past ts c.args.slot c.args.store c.args.share size (map weighted_tree (drop i cs)) rest (weighted_tree c.choice-item.result) _ c.loop-choice.reached next c.loop-choice.invariant
           w.in_default.ensures.moved)
     ]

@@ -9,4 +9,4 @@ abbrev pub invariant-loop-choice : goal.invariant-loop-choice
 invariant-loop-choice l =
     let ts = shape_types l.shape in
     MovesOn ts l.slot l.store l.share (shape_size l.shape) (map weighted_tree (drop l.choice-index l.choices))
-    (with_moves ts l.slot l.store l.initial.reached.entries l.share (map weighted_tree l.choices)) l.reached.entries
+    (with_moves ts l.slot l.store l.initial.reached l.share (map weighted_tree l.choices)) l.reached

@@ -1,7 +1,6 @@
 use Rattle.std.proofs.Common.{◌<◌, ap, ◌∙◌, arith, length}
-use Rattle.std.specs.Ordering.{nat_cmp}
-use Rattle.std.specs.BTreeMap.{insert_entry}
 use Rattle.kf_value.specs.Views.{value_tree}
+use Rattle.kf_traces.specs.Traced.{with_weight}
 use Rattle.kf_traces.proofs.Locating.{found_at, put_at, sum_at}
 use Rattle.kf_traces.proofs.parts.add_part.Goals as goal
 
@@ -17,9 +16,9 @@ returns-in_ok-add_weight-in-Ok c =
     c.in-Ok.ensures.within c.in-Ok.ensures.found c.index_mut.ensures.value
     (ap (λ es. record { value = value_tree c.index_mut.result.now.value; stores = es }) c.in_ok-add_weight-in-Ok.ensures)
 
-pub returns-in_ok-insert-in-Err-2 : goal.returns-in_ok-insert-in-Err-2
-returns-in_ok-insert-in-Err-2 c =
-    let alone = c.in_ok-insert-in-Err.ensures.entries ∙ ap (λ es. insert_entry nat_cmp es c.args.store c.args.weight) c.new-stores.ensures.empty in
+pub returns-in_ok-insert-in-Err : goal.returns-in_ok-insert-in-Err
+returns-in_ok-insert-in-Err c =
+    let alone = c.in_ok-add_weight-in-Err.ensures ∙ ap (λ es. with_weight es c.args.store c.args.weight) c.new-stores.ensures in
     let value = c.in_ok-value-in-Err.ensures in
-    put_at (value_tree c.args.value.now) c.args.store c.args.weight c.as_slice.result.now c.args.parts.now.items c.insert-in-Err.new.self.items c.in-Err.place _ c.as_slice.ensures.value c.requires.ascending
-    c.in-Err.ensures.within c.in-Err.ensures.found (λ i. record { value = value i; stores = alone i }) c.in_ok-insert-in-Err-2.ensures.items
+    put_at (value_tree c.args.value.now) c.args.store c.args.weight c.as_slice.result.now c.args.parts.now.items c.insert.new.self.items c.in-Err.place _ c.as_slice.ensures.value c.requires.ascending
+    c.in-Err.ensures.within c.in-Err.ensures.found (λ i. record { value = value i; stores = alone i }) c.in_ok-insert-in-Err.ensures.items

@@ -1,4 +1,4 @@
-use Rattle.std.proofs.Common.{[], map}
+use Rattle.std.proofs.Common.{[], drop, map}
 use Rattle.kf_value.specs.Shapes.{shape_size, shape_types}
 use Rattle.kf_core.specs.Views.{dx_tree}
 use Rattle.kf_core.specs.Runs.{tried}
@@ -9,11 +9,11 @@ use Rattle.kf_traces.specs.Views.{part_of}
 use Rattle.kf_traces.proofs.Splits.{SplitsOn}
 use Rattle.kf_traces.proofs.steps.split.Given as goal
 
-abbrev pub invariant-loop-store : goal.invariant-loop-store
-invariant-loop-store l =
+abbrev pub invariant-loop-entry : goal.invariant-loop-entry
+invariant-loop-entry l =
     let tries = tried (shape_types l.shape) (dx_tree l.dist) in
     let go = store_behind (shape_types l.shape) l.into in
     record {
-      on : SplitsOn go tries (shape_size l.shape) l.store-iterator (split_of go tries [] l.stores.entries) (map part_of l.parts.items);
+      on : SplitsOn go tries (shape_size l.shape) (drop l.entry-index l.stores) (split_of go tries [] l.stores) (map part_of l.parts.items);
       memo : IsMemoOf l.shape (dx_tree l.dist) l.memo;
     }

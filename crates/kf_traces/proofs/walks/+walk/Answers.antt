@@ -12,14 +12,14 @@ use Rattle.kf_core.specs.Runs.{tried}
 use Rattle.kf_eval.specs.Kinds.{shape_kinds}
 use Rattle.kf_core.proofs.SoundParts as pass
 use Rattle.kf_traces.specs.declared.walks.Visit.TheVariants as code
-use Rattle.kf_traces.specs.Traced.{Traced, all_traced, assignment_traced, loop_traced, traced}
+use Rattle.kf_traces.specs.Traced.{Traced, all_traced, assignment_traced, loop_traced}
 use Rattle.kf_traces.specs.Views.{traced_of}
 use Rattle.kf_traces.specs.Visits.{VisitTree, Asks, Left, visit_of, visitor, visits_next}
 use Rattle.kf_traces.proofs.Walking as walking
 use Rattle.kf_traces.proofs.WalkingLoops as loops
 use Rattle.kf_traces.proofs.WalkingStatements as form
 use Rattle.kf_traces.proofs.walks.+walk.Goals as goal
-use Rattle.kf_traces.proofs.walks.+walk.Goals.{walk-then-ends_true, walk-else-ends_true}
+use Rattle.kf_traces.proofs.walks.+walk.Goals.{walk_each-then-ends_true, walk_each-else-ends_true}
 
 pub ask_again-returns-clause-fits : goal.ask_again-returns-clause-fits
 ask_again-returns-clause-fits t c =
@@ -65,13 +65,13 @@ turn-loop-state-preserved t c =
     (walking.mapped_joined visit_of c.push.new.self.items c.loop-state.visits.items (code.Left c.in-Some.state ∷ []) c.in_ok-push.ensures.items)
     (All-cons kept (Left s) [] (walking.goes_next (visits_next body c.args.rest) (walking.InSize size) (λ v. walking.InSize size (visitor v)) (flat_map (visits_next body c.args.rest) (map traced_of c.args.states.items)) (map visit_of c.loop-state.visits.items) (map traced_of (into_iter_items c.loop-state.state-iterator)) s (map traced_of (into_iter_items c.next.new.self)) step before) (All-nil kept))
 
-pub walk-assigned_all-requires-clause-variable : goal.walk-assigned_all-requires-clause-variable
-walk-assigned_all-requires-clause-variable t c =
+pub walk_each-assigned_all-requires-clause-variable : goal.walk_each-assigned_all-requires-clause-variable
+walk_each-assigned_all-requires-clause-variable t c =
     let known = pass.assign_parts (shape_kinds c.args.shape.now) c.args.statement.now c.requires.sound c.in-Assign.slot c.in-Assign.dist c.in-Assign.shown c.in-Assign.is in
     pass.variable_within c.args.shape.now c.in-Assign.slot c.from.result known.0 c.from.ensures known.1.0
 
-pub walk-walk_while-requires : goal.walk-walk_while-requires
-walk-walk_while-requires t c =
+pub walk_each-walk_loops-requires : goal.walk_each-walk_loops-requires
+walk_each-walk_loops-requires t c =
     let ks = shape_kinds c.args.shape.now in (
       search (rules, the_lemmas),
       (
@@ -80,8 +80,8 @@ walk-walk_while-requires t c =
       ),
     )
 
-pub walk-walk_all-requires : goal.walk-walk_all-requires
-walk-walk_all-requires t c =
+pub walk_each-walk_all-requires : goal.walk_each-walk_all-requires
+walk_each-walk_all-requires t c =
     let size = shape_size c.args.shape.now in
     let ts = shape_types c.args.shape.now in
     let ks = shape_kinds c.args.shape.now in
@@ -90,14 +90,14 @@ walk-walk_all-requires t c =
     let step : map traced_of (into_iter_items c.loop-state.state-iterator) ≡ s ∷ map traced_of (into_iter_items c.next.new.self) = ap (map traced_of) c.in-Some.ensures.steps.0 in
     let fits = walking.goes_next next (walking.InSize size) (walking.InSize size) (flat_map next (map traced_of (into_iter_items c.into_iter-state-iterator.result))) (map traced_of c.loop-state.next.items) (map traced_of (into_iter_items c.loop-state.state-iterator)) s (map traced_of (into_iter_items c.next.new.self)) step c.loop-state.invariant in
     elim c.if-ends_true.branch [
-      | walk-then-ends_true w ↦
+      | walk_each-then-ends_true w ↦
           rw w.block-is (search (rules, the_lemmas), (pass.yes_sound ks c.args.statement.now c.requires.sound c.in-If.test c.in-If.yes c.in-If.no c.in-If.is w.as_slice-block.result.now w.as_slice-block.ensures, fits))
-      | walk-else-ends_true w ↦
+      | walk_each-else-ends_true w ↦
           rw w.block-is (search (rules, the_lemmas), (pass.no_sound ks c.args.statement.now c.requires.sound c.in-If.test c.in-If.yes c.in-If.no c.in-If.is w.as_slice-block-else-ends_true.result.now w.as_slice-block-else-ends_true.ensures, fits))
     ]
 
-pub walk-loop-state-preserved : goal.walk-loop-state-preserved
-walk-loop-state-preserved t c =
+pub walk_each-loop-state-preserved : goal.walk_each-loop-state-preserved
+walk_each-loop-state-preserved t c =
     let size = shape_size c.args.shape.now in
     let ts = shape_types c.args.shape.now in
     let next = form.branch_of ts c.args.turns c.in-If.yes c.in-If.no in
@@ -106,9 +106,9 @@ walk-loop-state-preserved t c =
     let step : map traced_of (into_iter_items c.loop-state.state-iterator) ≡ s ∷ map traced_of (into_iter_items c.next.new.self) = ap (map traced_of) c.in-Some.ensures.steps.0 in
     let went : walked ≡ next s =
     elim c.if-ends_true.branch [
-      | walk-then-ends_true w ↦
+      | walk_each-then-ends_true w ↦
           form.took_first ts c.args.turns c.in-If.yes c.in-If.no s c.if-ends_true.block.now walked c.in_ok-walked-in-If.ensures.walked (sym w.if-ends_true.true ∙ c.ends_true.ensures) ((λ i. (w.block-is i).now) ∙ w.as_slice-block.ensures)
-      | walk-else-ends_true w ↦
+      | walk_each-else-ends_true w ↦
           form.took_second ts c.args.turns c.in-If.yes c.in-If.no s c.if-ends_true.block.now walked c.in_ok-walked-in-If.ensures.walked (sym w.if-ends_true.false ∙ c.ends_true.ensures) ((λ i. (w.block-is i).now) ∙ w.as_slice-block-else-ends_true.ensures)
     ] in
     walking.goes_step next (walking.InSize size) (walking.InSize size) (flat_map next (map traced_of (into_iter_items c.into_iter-state-iterator.result))) (map traced_of c.loop-state.next.items) (map traced_of (into_iter_items c.loop-state.state-iterator)) s (map traced_of (into_iter_items c.next.new.self)) step c.loop-state.invariant
@@ -131,27 +131,6 @@ pub walk_all-returns-clause-walked : goal.walk_all-returns-clause-walked
 walk_all-returns-clause-walked t c =
     walking.block_end c.args.shape.now c.args.turns _ _ (map traced_of c.loop-statement.states.items) (left_end st_tree c.args.statements.now c.loop-statement.statement-index (omega arith)) c.loop-statement.invariant
 
-pub walk_each-walk-requires : goal.walk_each-walk-requires
-walk_each-walk-requires t c =
-    let size = shape_size c.args.shape.now in
-    let next = traced (shape_types c.args.shape.now) c.args.turns (st_tree c.args.statement.now) in (
-      search (rules, the_lemmas),
-      (
-        c.requires.sound,
-        walking.goes_next next (walking.InSize size) (walking.InSize size) (flat_map next (map traced_of c.args.states.items)) (map traced_of c.loop-state.next.items) (map traced_of (into_iter_items c.loop-state.state-iterator)) (traced_of c.in-Some.state) (map traced_of (into_iter_items c.next.new.self))
-            (ap (map traced_of) c.in-Some.ensures.steps.0) c.loop-state.invariant,
-      ),
-    )
-
-pub walk_each-loop-state-preserved : goal.walk_each-loop-state-preserved
-walk_each-loop-state-preserved t c =
-    let size = shape_size c.args.shape.now in
-    let next = traced (shape_types c.args.shape.now) c.args.turns (st_tree c.args.statement.now) in
-    walking.goes_step next (walking.InSize size) (walking.InSize size) (flat_map next (map traced_of c.args.states.items)) (map traced_of c.loop-state.next.items) (map traced_of (into_iter_items c.loop-state.state-iterator)) (traced_of c.in-Some.state) (map traced_of (into_iter_items c.next.new.self))
-    (ap (map traced_of) c.in-Some.ensures.steps.0) c.loop-state.invariant
-    (map traced_of c.in_ok-walked.walked.items) (map traced_of c.append.new.self.items) c.in_ok-walked.ensures.walked
-    (walking.mapped_joined traced_of c.append.new.self.items c.loop-state.next.items c.in_ok-walked.walked.items c.in_ok-append.ensures.items) c.in_ok-walked.ensures.fits
-
 pub walk_while-leak-requires-clause-fits : goal.walk_while-leak-requires-clause-fits
 walk_while-leak-requires-clause-fits t c =
     let size = shape_size c.args.shape.now in
@@ -164,7 +143,7 @@ walk_while-leak-requires-clause-fits t c =
     let s = traced_of c.in-Asks.state in
     let k = c.in-Asks.rest in
     let is = walking.mapped_last visit_of c.loop-visit.visits.items c.pop.new.self.items c.in-Some.visit (code.Asks c.in-Asks.state c.in-Asks.rest) c.in-Some.ensures.items c.in-Asks.is in
-    loops.stack_fits guard body size whole ended visits rest (Asks s k) is c.loop-visit.invariant
+    loops.stack_fits guard body size whole ended visits rest (Asks s k) is c.loop-visit.invariant.on
 
 pub walk_while-loop-visit-preserved : goal.walk_while-loop-visit-preserved
 walk_while-loop-visit-preserved t c =
@@ -183,8 +162,11 @@ walk_while-loop-visit-preserved t c =
     let after = map visit_of c.append.new.self.items in
     let turn : turned ≡ reverse next = ap (map visit_of) c.reverse.ensures.items ∙ map-reverse visit_of c.in_ok-next-in-Asks.next.items in
     let put = walking.mapped_joined visit_of c.append.new.self.items c.pop.new.self.items c.reverse.new.self.items c.in_ok-append-in-Asks.ensures.items in
-    loops.stack_asked guard body size whole ended visits rest (Asks s k) is c.loop-visit.invariant s k refl (map traced_of c.in_ok-states-in-Asks.states.items) next turned after
-    c.in_ok-states-in-Asks.ensures.leaked c.in_ok-next-in-Asks.ensures.visits turn put c.in_ok-next-in-Asks.ensures.fits
+    record {
+      on = loops.stack_asked guard body size whole ended visits rest (Asks s k) is c.loop-visit.invariant.on s k refl (map traced_of c.in_ok-states-in-Asks.states.items) next turned after
+          c.in_ok-states-in-Asks.ensures.leaked c.in_ok-next-in-Asks.ensures.visits turn put c.in_ok-next-in-Asks.ensures.fits;
+      memo = c.in_ok-states-in-Asks.ensures.memo;
+    }
 
 pub walk_while-loop-visit-smaller : goal.walk_while-loop-visit-smaller
 walk_while-loop-visit-smaller t c =
@@ -203,18 +185,18 @@ walk_while-loop-visit-smaller t c =
     let after = map visit_of c.append.new.self.items in
     let turn : turned ≡ reverse next = ap (map visit_of) c.reverse.ensures.items ∙ map-reverse visit_of c.in_ok-next-in-Asks.next.items in
     let put = walking.mapped_joined visit_of c.append.new.self.items c.pop.new.self.items c.reverse.new.self.items c.in_ok-append-in-Asks.ensures.items in
-    loops.asked_falls guard body size whole ended visits rest (Asks s k) is c.loop-visit.invariant s k refl (map traced_of c.in_ok-states-in-Asks.states.items) next turned after
+    loops.asked_falls guard body size whole ended visits rest (Asks s k) is c.loop-visit.invariant.on s k refl (map traced_of c.in_ok-states-in-Asks.states.items) next turned after
     c.in_ok-states-in-Asks.ensures.leaked c.in_ok-next-in-Asks.ensures.visits turn put
 
-pub walk-returns-in-None-clause-walked : goal.walk-returns-in-None-clause-walked
-walk-returns-in-None-clause-walked t c =
+pub walk_each-returns-in-None-clause-walked : goal.walk_each-returns-in-None-clause-walked
+walk_each-returns-in-None-clause-walked t c =
     let size = shape_size c.args.shape.now in
     let ts = shape_types c.args.shape.now in
     let next = form.branch_of ts c.args.turns c.in-If.yes c.in-If.no in
     let states = map traced_of (into_iter_items c.into_iter-state-iterator.result) in
     let none : into_iter_items c.loop-state.state-iterator ≡ [] = walking.none_left _ (omega (arith, c.in-None.ensures.steps.0, c.loop-state.state-iterator.rest.ok)) in
-    form.if_walked ts c.args.turns c.args.statement.now (traced_of c.args.from) c.in-If.test c.in-If.yes c.in-If.no c.in-If.is states (map traced_of c.in_ok-states-in-If.states.items) (map traced_of c.loop-state.next.items)
-    (ap (map traced_of) c.into_iter-state-iterator.ensures.into_iter_gives.0) c.in_ok-states-in-If.ensures.leaked
+    form.if_walked ts c.args.turns c.args.statement.now (map traced_of c.args.states.items) c.in-If.test c.in-If.yes c.in-If.no c.in-If.is states (map traced_of c.in_ok-leaks-in-If.leaks.items) (map traced_of c.loop-state.next.items)
+    (ap (map traced_of) c.into_iter-state-iterator.ensures.into_iter_gives.0) c.in_ok-leaks-in-If.ensures.leaked
     (walking.goes_end next (walking.InSize size) (walking.InSize size) (flat_map next states) (map traced_of c.loop-state.next.items) (map traced_of (into_iter_items c.loop-state.state-iterator)) (ap (map traced_of) none) c.loop-state.invariant)
 
 pub walk_while-loop-visit-preserved-in-Continue-branch-2 : goal.walk_while-loop-visit-preserved-in-Continue-branch-2
@@ -228,8 +210,11 @@ walk_while-loop-visit-preserved-in-Continue-branch-2 t c =
     let rest = map visit_of c.pop.new.self.items in
     let s = traced_of c.in-Left.state in
     let is = walking.mapped_last visit_of c.loop-visit.visits.items c.pop.new.self.items c.in-Some.visit (code.Left c.in-Left.state) c.in-Some.ensures.items c.in-Left.is in
-    loops.stack_left guard body size whole ended visits rest (Left s) is c.loop-visit.invariant s (map traced_of c.push-in-Left.new.self.items) refl
-    (walking.mapped_joined traced_of c.push-in-Left.new.self.items c.loop-visit.ended.items (c.in-Left.state ∷ []) c.in_ok-push-in-Left.ensures.items)
+    record {
+      on = loops.stack_left guard body size whole ended visits rest (Left s) is c.loop-visit.invariant.on s (map traced_of c.push-in-Left.new.self.items) refl
+          (walking.mapped_joined traced_of c.push-in-Left.new.self.items c.loop-visit.ended.items (c.in-Left.state ∷ []) c.in_ok-push-in-Left.ensures.items);
+      memo = c.loop-visit.invariant.memo;
+    }
 
 pub walk_while-loop-visit-smaller-in-Continue-branch-2 : goal.walk_while-loop-visit-smaller-in-Continue-branch-2
 walk_while-loop-visit-smaller-in-Continue-branch-2 t c =
@@ -242,7 +227,7 @@ walk_while-loop-visit-smaller-in-Continue-branch-2 t c =
     let rest = map visit_of c.pop.new.self.items in
     let s = traced_of c.in-Left.state in
     let is = walking.mapped_last visit_of c.loop-visit.visits.items c.pop.new.self.items c.in-Some.visit (code.Left c.in-Left.state) c.in-Some.ensures.items c.in-Left.is in
-    loops.left_falls guard body size whole ended visits rest (Left s) is c.loop-visit.invariant s refl
+    loops.left_falls guard body size whole ended visits rest (Left s) is c.loop-visit.invariant.on s refl
 
 pub turn-loop-state-init : goal.turn-loop-state-init
 turn-loop-state-init t c =
@@ -265,52 +250,34 @@ turn-returns-clause-fits t c = c.loop-state.invariant.holds
 pub walk_each-loop-state-init : goal.walk_each-loop-state-init
 walk_each-loop-state-init t c =
     let size = shape_size c.args.shape.now in
-    let next = traced (shape_types c.args.shape.now) c.args.turns (st_tree c.args.statement.now) in
-    walking.goes_start next (walking.InSize size) (walking.InSize size) (map traced_of c.new-next.result.items) (map traced_of c.args.states.items) (map traced_of (into_iter_items c.into_iter-state-iterator.result))
-    (ap (map traced_of) c.new-next.ensures.items) (ap (map traced_of) c.into_iter-state-iterator.ensures.into_iter_gives.0) c.requires.fits
-
-pub walk_each-returns-clause-walked : goal.walk_each-returns-clause-walked
-walk_each-returns-clause-walked t c =
-    let size = shape_size c.args.shape.now in
-    let next = traced (shape_types c.args.shape.now) c.args.turns (st_tree c.args.statement.now) in
-    let none : into_iter_items c.loop-state.state-iterator ≡ [] = walking.none_left _ (omega (arith, c.in-None.ensures.steps.0, c.loop-state.state-iterator.rest.ok)) in
-    walking.goes_end next (walking.InSize size) (walking.InSize size) (flat_map next (map traced_of c.args.states.items)) (map traced_of c.loop-state.next.items) (map traced_of (into_iter_items c.loop-state.state-iterator))
-    (ap (map traced_of) none) c.loop-state.invariant
-
-pub walk_each-returns-clause-fits : goal.walk_each-returns-clause-fits
-walk_each-returns-clause-fits t c = c.loop-state.invariant.holds
-
-pub walk-loop-state-init : goal.walk-loop-state-init
-walk-loop-state-init t c =
-    let size = shape_size c.args.shape.now in
     let next = form.branch_of (shape_types c.args.shape.now) c.args.turns c.in-If.yes c.in-If.no in
     let states = map traced_of (into_iter_items c.into_iter-state-iterator.result) in
     walking.goes_start next (walking.InSize size) (walking.InSize size) (map traced_of c.new-next.result.items) states states (ap (map traced_of) c.new-next.ensures.items) refl
-    (All-same (walking.InSize size) states (map traced_of c.in_ok-states-in-If.states.items) (ap (map traced_of) c.into_iter-state-iterator.ensures.into_iter_gives.0) c.in_ok-states-in-If.ensures.fits)
+    (All-same (walking.InSize size) states (map traced_of c.in_ok-leaks-in-If.leaks.items) (ap (map traced_of) c.into_iter-state-iterator.ensures.into_iter_gives.0) c.in_ok-leaks-in-If.ensures.fits)
 
-pub walk-returns-in-None-clause-fits : goal.walk-returns-in-None-clause-fits
-walk-returns-in-None-clause-fits t c = c.loop-state.invariant.holds
+pub walk_each-returns-in-None-clause-fits : goal.walk_each-returns-in-None-clause-fits
+walk_each-returns-in-None-clause-fits t c = c.loop-state.invariant.holds
 
-pub walk-assigned_all-requires-clause-kinded : goal.walk-assigned_all-requires-clause-kinded
-walk-assigned_all-requires-clause-kinded t c =
+pub walk_each-assigned_all-requires-clause-kinded : goal.walk_each-assigned_all-requires-clause-kinded
+walk_each-assigned_all-requires-clause-kinded t c =
     let known = pass.assign_parts (shape_kinds c.args.shape.now) c.args.statement.now c.requires.sound c.in-Assign.slot c.in-Assign.dist c.in-Assign.shown c.in-Assign.is in
     (known.0, known.1.1)
 
-pub walk-assigned_all-requires-clause-fits : goal.walk-assigned_all-requires-clause-fits
-walk-assigned_all-requires-clause-fits t c = c.requires.fits
+pub walk_each-assigned_all-requires-clause-fits : goal.walk_each-assigned_all-requires-clause-fits
+walk_each-assigned_all-requires-clause-fits t c = c.requires.fits
 
-pub walk-leak-requires-clause-kinded : goal.walk-leak-requires-clause-kinded
-walk-leak-requires-clause-kinded t c = pass.observe_parts (shape_kinds c.args.shape.now) c.args.statement.now c.requires.sound c.in-Observe.dist c.in-Observe.is
+pub walk_each-leak_each-requires-clause-kinded : goal.walk_each-leak_each-requires-clause-kinded
+walk_each-leak_each-requires-clause-kinded t c = pass.observe_parts (shape_kinds c.args.shape.now) c.args.statement.now c.requires.sound c.in-Observe.dist c.in-Observe.is
 
-pub walk-leak-requires-clause-fits : goal.walk-leak-requires-clause-fits
-walk-leak-requires-clause-fits t c = c.requires.fits
+pub walk_each-leak_each-requires-clause-fits : goal.walk_each-leak_each-requires-clause-fits
+walk_each-leak_each-requires-clause-fits t c = c.requires.fits
 
-pub walk-leak-requires-in-If-clause-kinded : goal.walk-leak-requires-in-If-clause-kinded
-walk-leak-requires-in-If-clause-kinded t c =
+pub walk_each-leak_each-requires-in-If-clause-kinded : goal.walk_each-leak_each-requires-in-If-clause-kinded
+walk_each-leak_each-requires-in-If-clause-kinded t c =
     (TruthKind, pass.if_guard (shape_kinds c.args.shape.now) c.args.statement.now c.requires.sound c.in-If.test c.in-If.yes c.in-If.no c.in-If.is)
 
-pub walk-leak-requires-in-If-clause-fits : goal.walk-leak-requires-in-If-clause-fits
-walk-leak-requires-in-If-clause-fits t c = c.requires.fits
+pub walk_each-leak_each-requires-in-If-clause-fits : goal.walk_each-leak_each-requires-in-If-clause-fits
+walk_each-leak_each-requires-in-If-clause-fits t c = c.requires.fits
 
 pub walk_while-leak-requires-clause-kinded : goal.walk_while-leak-requires-clause-kinded
 walk_while-leak-requires-clause-kinded t c = (TruthKind, c.requires.kinded)
@@ -319,12 +286,15 @@ pub walk_while-loop-visit-init : goal.walk_while-loop-visit-init
 walk_while-loop-visit-init t c =
     let guard = tried (shape_types c.args.shape.now) (dx_tree c.args.test.now) in
     let body = walking.ends_of c.args.shape.now c.args.turns (map st_tree c.args.body.now) in
-    loops.stack_start guard body (shape_size c.args.shape.now) c.args.turns (traced_of c.args.from) (map traced_of c.new-ended.result.items) (map visit_of c.new-visits.result.items)
-    (map visit_of c.push.new.self.items) (ap (map traced_of) c.new-ended.ensures.items) (ap (map visit_of) c.new-visits.ensures.items)
-    (walking.mapped_joined visit_of c.push.new.self.items c.new-visits.result.items (code.Asks c.args.from c.args.turns ∷ []) c.in_ok-push.ensures.items) c.requires.fits
+    record {
+      on = loops.stack_start guard body (shape_size c.args.shape.now) c.args.turns (traced_of c.args.from) (map traced_of c.new-ended.result.items) (map visit_of c.new-visits.result.items)
+          (map visit_of c.push.new.self.items) (ap (map traced_of) c.new-ended.ensures.items) (ap (map visit_of) c.new-visits.ensures.items)
+          (walking.mapped_joined visit_of c.push.new.self.items c.new-visits.result.items (code.Asks c.args.from c.args.turns ∷ []) c.in_ok-push.ensures.items) c.requires.fits;
+      memo = c.requires.memo;
+    }
 
 pub walk_while-returns-clause-fits : goal.walk_while-returns-clause-fits
-walk_while-returns-clause-fits t c = c.loop-visit.invariant.fits
+walk_while-returns-clause-fits t c = c.loop-visit.invariant.on.fits
 
 pub walk_all-loop-statement-init : goal.walk_all-loop-statement-init
 walk_all-loop-statement-init t c =
@@ -333,44 +303,41 @@ walk_all-loop-statement-init t c =
 pub walk_all-returns-clause-fits : goal.walk_all-returns-clause-fits
 walk_all-returns-clause-fits t c = c.loop-statement.invariant.fits
 
-pub walk-returns-in-Skip-clause-walked : goal.walk-returns-in-Skip-clause-walked
-walk-returns-in-Skip-clause-walked t c =
-    subst (λ (xs : List Traced). IfOk c.only.result (λ ss. map traced_of ss.items ≡ xs)) (form.ends_skip (shape_types c.args.shape.now) c.args.turns c.args.statement.now (traced_of c.args.from) c.in-Skip.is)
-    c.only.ensures
+pub walk_each-returns-in-Skip-clause-walked : goal.walk_each-returns-in-Skip-clause-walked
+walk_each-returns-in-Skip-clause-walked t c = form.ends_skip (shape_types c.args.shape.now) c.args.turns c.args.statement.now (map traced_of c.args.states.items) c.in-Skip.is
 
-pub walk-returns-in-Skip-clause-fits : goal.walk-returns-in-Skip-clause-fits
-walk-returns-in-Skip-clause-fits t c =
-    walking.only_fits c.only.result (λ ss. map traced_of ss.items) (shape_size c.args.shape.now) (traced_of c.args.from) c.requires.fits c.only.ensures
+pub walk_each-returns-in-Skip-clause-fits : goal.walk_each-returns-in-Skip-clause-fits
+walk_each-returns-in-Skip-clause-fits t c = c.requires.fits
 
-pub walk-returns-in-Assign-clause-walked : goal.walk-returns-in-Assign-clause-walked
-walk-returns-in-Assign-clause-walked t c =
+pub walk_each-returns-in-Assign-clause-walked : goal.walk_each-returns-in-Assign-clause-walked
+walk_each-returns-in-Assign-clause-walked t c =
     let ts = shape_types c.args.shape.now in
-    let s = traced_of c.args.from in
-    subst (λ (xs : List Traced). IfOk c.assigned_all.result (λ ss. map traced_of ss.items ≡ xs))
-    (ap (λ i. assignment_traced c.in-Assign.shown ts i (dx_tree c.in-Assign.dist) s) c.from.ensures
-    ∙ form.ends_assign ts c.args.turns c.args.statement.now s c.in-Assign.slot c.in-Assign.dist c.in-Assign.shown c.in-Assign.is) c.assigned_all.ensures.walked
+    let ss = map traced_of c.args.states.items in
+    subst (λ (xs : List Traced). IfOk c.assigned_all.result (λ us. map traced_of us.items ≡ xs))
+    (ap (λ i. flat_map (assignment_traced c.in-Assign.shown ts i (dx_tree c.in-Assign.dist)) ss) c.from.ensures
+    ∙ form.ends_assign ts c.args.turns c.args.statement.now ss c.in-Assign.slot c.in-Assign.dist c.in-Assign.shown c.in-Assign.is) c.assigned_all.ensures.walked
 
-pub walk-returns-in-Assign-clause-fits : goal.walk-returns-in-Assign-clause-fits
-walk-returns-in-Assign-clause-fits t c = c.assigned_all.ensures.fits
+pub walk_each-returns-in-Assign-clause-fits : goal.walk_each-returns-in-Assign-clause-fits
+walk_each-returns-in-Assign-clause-fits t c = c.assigned_all.ensures.fits
 
-pub walk-returns-in-Observe-clause-walked : goal.walk-returns-in-Observe-clause-walked
-walk-returns-in-Observe-clause-walked t c =
-    subst (λ (xs : List Traced). IfOk c.leak.result (λ ss. map traced_of ss.items ≡ xs))
-    (form.ends_observe (shape_types c.args.shape.now) c.args.turns c.args.statement.now (traced_of c.args.from) c.in-Observe.dist c.in-Observe.is) c.leak.ensures.leaked
+pub walk_each-returns-in-Observe-clause-walked : goal.walk_each-returns-in-Observe-clause-walked
+walk_each-returns-in-Observe-clause-walked t c =
+    subst (λ (xs : List Traced). IfOk c.leak_each.result (λ ss. map traced_of ss.items ≡ xs))
+    (form.ends_observe (shape_types c.args.shape.now) c.args.turns c.args.statement.now (map traced_of c.args.states.items) c.in-Observe.dist c.in-Observe.is) c.leak_each.ensures.leaked
 
-pub walk-returns-in-Observe-clause-fits : goal.walk-returns-in-Observe-clause-fits
-walk-returns-in-Observe-clause-fits t c = c.leak.ensures.fits
+pub walk_each-returns-in-Observe-clause-fits : goal.walk_each-returns-in-Observe-clause-fits
+walk_each-returns-in-Observe-clause-fits t c = c.leak_each.ensures.fits
 
-pub walk-returns-in-While-clause-walked : goal.walk-returns-in-While-clause-walked
-walk-returns-in-While-clause-walked t c =
+pub walk_each-returns-in-While-clause-walked : goal.walk_each-returns-in-While-clause-walked
+walk_each-returns-in-While-clause-walked t c =
     let ts = shape_types c.args.shape.now in
-    let s = traced_of c.args.from in
-    subst (λ (xs : List Traced). IfOk c.walk_while.result (λ ss. map traced_of ss.items ≡ xs))
-    (ap (λ us. loop_traced c.args.turns (tried ts (dx_tree c.in-While.test)) (all_traced ts c.args.turns (sts (map st_tree us))) s) c.as_slice.ensures
-    ∙ form.ends_while ts c.args.turns c.args.statement.now s c.in-While.test c.in-While.body c.in-While.is) c.walk_while.ensures.walked
+    let ss = map traced_of c.args.states.items in
+    subst (λ (xs : List Traced). IfOk c.walk_loops.result (λ vs. map traced_of vs.items ≡ xs))
+    (ap (λ us. flat_map (loop_traced c.args.turns (tried ts (dx_tree c.in-While.test)) (all_traced ts c.args.turns (sts (map st_tree us)))) ss) c.as_slice.ensures
+    ∙ form.ends_while ts c.args.turns c.args.statement.now ss c.in-While.test c.in-While.body c.in-While.is) c.walk_loops.ensures.walked
 
-pub walk-returns-in-While-clause-fits : goal.walk-returns-in-While-clause-fits
-walk-returns-in-While-clause-fits t c = c.walk_while.ensures.fits
+pub walk_each-returns-in-While-clause-fits : goal.walk_each-returns-in-While-clause-fits
+walk_each-returns-in-While-clause-fits t c = c.walk_loops.ensures.fits
 
 pub ask_again-returns-clause-visits : goal.ask_again-returns-clause-visits
 ask_again-returns-clause-visits t c =
@@ -382,3 +349,60 @@ ask_again-walk_all-requires t c = (search (rules, the_lemmas), (c.requires.sound
 
 pub walk_while-turn-requires : goal.walk_while-turn-requires
 walk_while-turn-requires t c = (search (rules, the_lemmas), (c.requires.sound, c.in_ok-states-in-Asks.ensures.fits))
+
+pub walk_while-leak-requires-clause-memo : goal.walk_while-leak-requires-clause-memo
+walk_while-leak-requires-clause-memo t c = c.loop-visit.invariant.memo
+
+pub walk_while-returns-clause-memo : goal.walk_while-returns-clause-memo
+walk_while-returns-clause-memo t c = c.loop-visit.invariant.memo
+
+pub walk_loops-walk_while-requires : goal.walk_loops-walk_while-requires
+walk_loops-walk_while-requires t c =
+    let size = shape_size c.args.shape.now in
+    let next = loop_traced c.args.turns (tried (shape_types c.args.shape.now) (dx_tree c.args.test.now)) (walking.ends_of c.args.shape.now c.args.turns (map st_tree c.args.body.now)) in (
+      search (rules, the_lemmas),
+      (
+        c.requires.kinded,
+        (
+          c.requires.sound,
+          (
+            c.loop-state.invariant.memo,
+            walking.goes_next next (walking.InSize size) (walking.InSize size) (flat_map next (map traced_of c.args.states.items)) (map traced_of c.loop-state.next.items) (map traced_of (into_iter_items c.loop-state.state-iterator)) (traced_of c.in-Some.state) (map traced_of (into_iter_items c.next.new.self))
+                (ap (map traced_of) c.in-Some.ensures.steps.0) c.loop-state.invariant.on,
+          ),
+        ),
+      ),
+    )
+
+pub walk_loops-loop-state-preserved : goal.walk_loops-loop-state-preserved
+walk_loops-loop-state-preserved t c =
+    let size = shape_size c.args.shape.now in
+    let next = loop_traced c.args.turns (tried (shape_types c.args.shape.now) (dx_tree c.args.test.now)) (walking.ends_of c.args.shape.now c.args.turns (map st_tree c.args.body.now)) in
+    record {
+      on = walking.goes_step next (walking.InSize size) (walking.InSize size) (flat_map next (map traced_of c.args.states.items)) (map traced_of c.loop-state.next.items) (map traced_of (into_iter_items c.loop-state.state-iterator)) (traced_of c.in-Some.state) (map traced_of (into_iter_items c.next.new.self))
+          (ap (map traced_of) c.in-Some.ensures.steps.0) c.loop-state.invariant.on
+          (map traced_of c.in_ok-walked.walked.items) (map traced_of c.append.new.self.items) c.in_ok-walked.ensures.walked
+          (walking.mapped_joined traced_of c.append.new.self.items c.loop-state.next.items c.in_ok-walked.walked.items c.in_ok-append.ensures.items) c.in_ok-walked.ensures.fits;
+      memo = c.in_ok-walked.ensures.memo;
+    }
+
+pub walk_loops-loop-state-init : goal.walk_loops-loop-state-init
+walk_loops-loop-state-init t c =
+    let size = shape_size c.args.shape.now in
+    let next = loop_traced c.args.turns (tried (shape_types c.args.shape.now) (dx_tree c.args.test.now)) (walking.ends_of c.args.shape.now c.args.turns (map st_tree c.args.body.now)) in
+    record {
+      on = walking.goes_start next (walking.InSize size) (walking.InSize size) (map traced_of c.new-next.result.items) (map traced_of c.args.states.items) (map traced_of (into_iter_items c.into_iter-state-iterator.result))
+          (ap (map traced_of) c.new-next.ensures.items) (ap (map traced_of) c.into_iter-state-iterator.ensures.into_iter_gives.0) c.requires.fits;
+      memo = c.in_ok-memo.ensures;
+    }
+
+pub walk_loops-returns-clause-walked : goal.walk_loops-returns-clause-walked
+walk_loops-returns-clause-walked t c =
+    let size = shape_size c.args.shape.now in
+    let next = loop_traced c.args.turns (tried (shape_types c.args.shape.now) (dx_tree c.args.test.now)) (walking.ends_of c.args.shape.now c.args.turns (map st_tree c.args.body.now)) in
+    let none : into_iter_items c.loop-state.state-iterator ≡ [] = walking.none_left _ (omega (arith, c.in-None.ensures.steps.0, c.loop-state.state-iterator.rest.ok)) in
+    walking.goes_end next (walking.InSize size) (walking.InSize size) (flat_map next (map traced_of c.args.states.items)) (map traced_of c.loop-state.next.items) (map traced_of (into_iter_items c.loop-state.state-iterator))
+    (ap (map traced_of) none) c.loop-state.invariant.on
+
+pub walk_loops-returns-clause-fits : goal.walk_loops-returns-clause-fits
+walk_loops-returns-clause-fits t c = c.loop-state.invariant.on.holds

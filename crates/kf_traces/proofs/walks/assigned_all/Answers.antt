@@ -1,7 +1,7 @@
 use Rattle.kf_traces.proofs.walks.assigned_all.Goals as goal
 
-pub leak-requires-clause-kinded : goal.leak-requires-clause-kinded
-leak-requires-clause-kinded c = c.requires.kinded
+pub leak_each-requires-clause-kinded : goal.leak_each-requires-clause-kinded
+leak_each-requires-clause-kinded c = c.requires.kinded
 
-pub assigned-requires-clause-kinded : goal.assigned-requires-clause-kinded
-assigned-requires-clause-kinded c = c.requires.kinded
+pub assigned_each-requires-clause-kinded : goal.assigned_each-requires-clause-kinded
+assigned_each-requires-clause-kinded c = c.requires.kinded

@@ -1,8 +1,12 @@
-use Rattle.std.proofs.Common.{map, ap, ◌∙◌}
+use Rattle.std.proofs.Common.{[], map, ap, ◌∙◌}
 use Rattle.std.proofs.lemmas.List.Elements.{All-same}
-use Rattle.kf_value.specs.Shapes.{shape_size}
+use Rattle.kf_value.specs.Shapes.{shape_size, shape_types}
+use Rattle.kf_core.specs.Runs.{tried}
+use Rattle.kf_support.specs.Moves.{store_behind}
+use Rattle.kf_core.specs.Views.{dx_tree}
 use Rattle.kf_value.specs.Views.{value_tree}
 use Rattle.kf_traces.specs.Traced.{behind}
+use Rattle.kf_traces.specs.Traced.{split as split_of}
 use Rattle.kf_traces.specs.Views.{part_of, traced_of}
 use Rattle.kf_traces.proofs.Walking.{InSize, leaked_fit}
 use Rattle.kf_traces.proofs.walks.leak.Goals as goal
@@ -11,7 +15,10 @@ pub split-requires-clause-kinded : goal.split-requires-clause-kinded
 split-requires-clause-kinded c = c.requires.kinded
 
 pub returns-clause-leaked : goal.returns-clause-leaked
-returns-clause-leaked c = c.in_ok-states.ensures ∙ ap (map (behind (map value_tree c.args.from.trace.items))) c.in_ok-parts.ensures.parts
+returns-clause-leaked c =
+    let tries = tried (shape_types c.args.shape.now) (dx_tree c.args.dist.now) in
+    let go = store_behind (shape_types c.args.shape.now) c.args.into in
+    c.in_ok-states.ensures ∙ ap (map (behind (map value_tree c.args.from.trace.items))) (c.in_ok-parts.ensures.parts ∙ ap (split_of go tries []) c.as_slice.ensures.value)
 
 pub returns-clause-fits : goal.returns-clause-fits
 returns-clause-fits c =

@@ -1,8 +1,8 @@
-use Rattle.std.proofs.Common.{◌≡◌, List, ap, subst, map, arith}
+use Rattle.std.proofs.Common.{◌≡◌, List, [], ap, ◌∙◌, subst, map, arith}
 use Rattle.std.specs.Prelude.{IfOk}
 use Rattle.kf_core.specs.Views.{program_tree}
 use Rattle.kf_core.proofs.SoundParts.{decl_kinded, whole_sound}
-use Rattle.kf_traces.specs.Traced.{Traced, program_traced}
+use Rattle.kf_traces.specs.Traced.{Traced, copy_all, program_traced}
 use Rattle.kf_traces.specs.Views.{traced_of}
 use Rattle.kf_traces.proofs.WalkingPrograms as programs
 use Rattle.kf_traces.proofs.walks.walk_checked.Goals as goal
@@ -14,6 +14,7 @@ pub assigned-requires : goal.assigned-requires
 assigned-requires c = record {
   variable = programs.decl_within c.args.program.now c.requires.checked c.as_slice-decls.result.now c.loop-i.i c.as_slice-decls.ensures (omega arith);
   kinded = decl_kinded c.args.program.now c.requires.checked c.as_slice-decls.result.now c.loop-i.i c.index-decls-i.result c.as_slice-decls.ensures (omega arith) c.index-decls-i.is;
+  memo = c.in_ok-memo.ensures;
   fits = c.loop-i.invariant.fits;
 }
 
@@ -23,7 +24,7 @@ loop-i-preserved c =
     (traced_of c.in_ok-state-2.state) c.in_ok-state-2.ensures.assigned c.in_ok-state-2.ensures.fits
 
 pub walk_all-requires-clause-sound : goal.walk_all-requires-clause-sound
-walk_all-requires-clause-sound c = whole_sound c.args.program.now c.requires.checked c.as_slice.result.now c.as_slice.ensures
+walk_all-requires-clause-sound c = whole_sound c.args.program.now c.requires.checked c.as_slice-2.result.now c.as_slice-2.ensures
 
 pub walk_all-requires-clause-fits : goal.walk_all-requires-clause-fits
 walk_all-requires-clause-fits c = c.in_ok-stores.ensures.fits
@@ -31,9 +32,9 @@ walk_all-requires-clause-fits c = c.in_ok-stores.ensures.fits
 pub returns-clause-states : goal.returns-clause-states
 returns-clause-states c =
     let s = traced_of c.loop-i.state in
-    let start : Traced = record { trace = s.trace; stores = c.in_ok-stores.stores.entries } in
-    let whole = programs.body_is c.args.program.now c.args.turns (program_traced c.args.turns c.args.scale (program_tree c.args.program.now)) c.loop-i.i s c.loop-i.invariant c.as_slice-decls.result.now c.as_slice-decls.ensures (omega arith) c.as_slice.result.now c.as_slice.ensures start
-    (ap (λ es. record { trace = s.trace; stores = es }) c.in_ok-stores.ensures.copied) in
+    let start : Traced = record { trace = s.trace; stores = c.in_ok-stores.stores.items } in
+    let whole = programs.body_is c.args.program.now c.args.turns (program_traced c.args.turns c.args.scale (program_tree c.args.program.now)) c.loop-i.i s c.loop-i.invariant c.as_slice-decls.result.now c.as_slice-decls.ensures (omega arith) c.as_slice-2.result.now c.as_slice-2.ensures start
+    (ap (λ es. record { trace = s.trace; stores = es }) (c.in_ok-stores.ensures.copied ∙ ap (copy_all (program_tree c.args.program.now) []) c.as_slice.ensures.value)) in
     subst (λ (xs : List Traced). IfOk c.walk_all.result (λ ss. map traced_of ss.items ≡ xs)) whole c.walk_all.ensures.walked
 
 pub returns-clause-fits : goal.returns-clause-fits

@@ -5,7 +5,7 @@ mod Checking
 mod Chosen
 mod Comparing
 mod Finding
-mod Agreeing
+pub mod Agreeing
 mod Numbered
 mod Listing
 mod Remembering

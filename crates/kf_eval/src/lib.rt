@@ -21,4 +21,5 @@ pub use fault::EvalError;
 pub use memo::Memo;
 pub use outcomes::choices;
 pub use parts::value_in;
+pub use read_slots::dist_reads;
 pub use sureness::is_always_sure;

@@ -51,7 +51,7 @@ fn case_reads(cases: &[DxCase], slot: usize) -> bool
 }
 
 /// Whether one of the distribution's expressions names the variable.
-fn dist_reads(dist: &Dx, slot: usize) -> bool
+pub fn dist_reads(dist: &Dx, slot: usize) -> bool
     ensures { result ≡ dist_reads_at slot (dx_shape dist.now.node) }
 {
     match &dist.node {

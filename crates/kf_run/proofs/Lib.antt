@@ -16,3 +16,4 @@ pub mod Making
 pub mod Parting
 pub mod Meant
 pub mod Groups
+pub mod Forgetting

@@ -9,3 +9,4 @@ pub mod Groups
 pub mod Behind
 pub mod Before
 pub mod Silence
+pub mod Forgetting

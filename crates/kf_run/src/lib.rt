@@ -7,6 +7,7 @@ mod choices;
 mod cleared_stages;
 mod column_spread;
 mod first_columns;
+mod forgotten;
 mod guards;
 mod laws;
 mod leak_groups;

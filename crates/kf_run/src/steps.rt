@@ -1,8 +1,11 @@
 //! What simple statements and guards make of columns.
 
 ghost use Rattle.std.specs.Prelude.{◌≡◌, ◌<◌, ℕ, true, false, length, List, All, IfOk, IfSome};
+ghost use Rattle.kf_value.specs.Forms.{IsWellFormed};
 ghost use Rattle.kf_value.specs.Kinds.{KindTree, TruthKind};
 ghost use Rattle.kf_value.specs.Shapes.{shape_size, shape_types};
+ghost use Rattle.kf_value.specs.Values.{ValueTree};
+ghost use Rattle.kf_value.specs.Views.{value_tree};
 ghost use Rattle.kf_column.specs.declared.entry.Entry.{Entry as EntryTree};
 ghost use Rattle.kf_column.specs.Joint.{IsJoint};
 ghost use Rattle.kf_column.specs.Shapes.{IsBelow};
@@ -15,16 +18,19 @@ ghost use Rattle.kf_eval.specs.Kinds.{shape_kinds};
 ghost use Rattle.kf_eval.specs.Memos.{IsMemoOf};
 ghost use Rattle.kf_push.specs.Following.{Goes, observed, side};
 ghost use Rattle.kf_run.specs.Following.{shown_to};
+ghost use Rattle.kf_run.specs.Forgetting.{forgetting};
 ghost use Rattle.kf_run.specs.Going.{AreSides};
 ghost use Rattle.kf_run.specs.Spreading.{AreSpread};
 
 use crate::assigned::{copy_column, move_column};
+use crate::forgotten::{forget_column, varies};
 use crate::guards::side_column;
 use crate::observation::show_column;
 use kf_core::{Dx, Program};
-use kf_eval::Memo;
+use kf_eval::{Memo, dist_reads, value_in};
 use kf_hyper::{Column, ColumnList, Columns, merge_owned};
-use kf_value::{Mem, Shape};
+use kf_push::are_columns;
+use kf_value::{Mem, Shape, Value};
 use std::alloc::Global;
 
 /// The columns over this scale, with those of one posterior added up.
@@ -50,8 +56,8 @@ fn memo_for(alloc: Global, shape: &Shape, dist: &Dx, columns: &Columns) -> Resul
     Ok(memo)
 }
 
-/// What columns become where the variable at `slot` takes a value that isn't leaked, with those of one posterior added up.
-pub fn assign(
+/// What columns become where the variable at `slot` takes a value that isn't leaked, each store gone along by itself.
+fn spread(
     alloc: Global,
     shape: &Shape,
     slot: usize,
@@ -73,6 +79,68 @@ pub fn assign(
     }
     let after = merged(alloc, columns.scale(), list)?;
     Ok(after)
+}
+
+/// The columns with the variable at `slot` set to the value in every store, those of one posterior added up.
+fn set_to(
+    alloc: Global,
+    shape: &Shape,
+    slot: usize,
+    value: &Value,
+    columns: &Columns,
+) -> Result<Columns, Mem>
+    requires variable { slot < length (shape_types shape.now) }
+    requires formed { IsWellFormed (value_tree value.now) }
+    requires below { All (IsBelow (shape_size shape.now)) columns.now.columns }
+    ensures pushed { IfOk result (λ after. IsPushed (forgetting (shape_types shape.now) slot (value_tree value.now)) columns.now.columns after.columns) }
+    ensures scale { IfOk result (λ after. after.scale ≡ columns.now.scale) }
+    ensures below { IfOk result (λ after. All (IsBelow (shape_size shape.now)) after.columns) }
+{
+    let mut list = Vec::new(alloc);
+    for column in columns.columns().as_slice() {
+        forget_column(alloc, shape, slot, value, column, &mut list)?;
+    }
+    let after = merged(alloc, columns.scale(), list)?;
+    Ok(after)
+}
+
+/// The columns with the variable at `slot` forgotten: whatever it held, it has the value that it has in the first store.
+fn forget(alloc: Global, shape: &Shape, slot: usize, columns: &Columns) -> Result<Columns, Mem>
+    requires variable { slot < length (shape_types shape.now) }
+    requires below { All (IsBelow (shape_size shape.now)) columns.now.columns }
+    ensures pushed { IfOk result (λ after. (v : ValueTree) × IsPushed (forgetting (shape_types shape.now) slot v) columns.now.columns after.columns) }
+    ensures scale { IfOk result (λ after. after.scale ≡ columns.now.scale) }
+    ensures below { IfOk result (λ after. All (IsBelow (shape_size shape.now)) after.columns) }
+{
+    let value = value_in(alloc, shape, 0, slot)?;
+    set_to(alloc, shape, slot, &value, columns)
+}
+
+/// What columns become where the variable at `slot` takes a value that isn't leaked, with those of one posterior added up.
+///
+/// Where the value doesn't depend on what the variable held, that is forgotten first, if stores differ in it: then there are fewer stores, and
+/// maybe fewer columns, to go on from.
+pub fn assign(
+    alloc: Global,
+    shape: &Shape,
+    slot: usize,
+    dist: &Dx,
+    columns: &Columns,
+) -> Result<Columns, Mem>
+    requires variable { slot < length (shape_types shape.now) }
+    requires kinded { (k : KindTree) × DistKinded (shape_kinds shape.now) (dx_tree dist.now) k }
+    requires below { All (IsBelow (shape_size shape.now)) columns.now.columns }
+    requires goes { Goes (assigned silent (shape_types shape.now) slot (dx_tree dist.now)) columns.now.columns }
+    ensures pushed { IfOk result (λ after. IsPushed (assigned silent (shape_types shape.now) slot (dx_tree dist.now)) columns.now.columns after.columns) }
+    ensures scale { IfOk result (λ after. after.scale ≡ columns.now.scale) }
+    ensures below { IfOk result (λ after. All (IsBelow (shape_size shape.now)) after.columns) }
+{
+    if dist_reads(dist, slot) || !varies(shape, slot, columns) {
+        return spread(alloc, shape, slot, dist, columns);
+    }
+    are_columns(columns);
+    let forgotten = forget(alloc, shape, slot, columns)?;
+    spread(alloc, shape, slot, dist, &forgotten)
 }
 
 /// What columns become where a value is leaked, with those of one posterior added up. Where `into` names a variable, it takes the value.

@@ -5,7 +5,7 @@ use Rattle.kf_core.specs.Views.{dx_tree}
 use Rattle.kf_core.specs.Leaks.{silent}
 use Rattle.kf_eval.specs.Memos.{IsMemoOf}
 use Rattle.kf_run.specs.Spreading.{AreSpread}
-use Rattle.kf_run.proofs.steps.assign.Given as goal
+use Rattle.kf_run.proofs.steps.spread.Given as goal
 
 abbrev pub invariant-loop-column : goal.invariant-loop-column
 invariant-loop-column l = record {

@@ -1,10 +1,13 @@
 -- For bodies: common divisors of joint weights, and the numbers of the equations that are built.
-use Rattle.std.specs.Prelude.{◌≡◌, ℕ, ◌-◌, ◌*◌, ◌/◌, ◌%◌, ◌^◌, ◌<◌, ◌≤◌, ◌⊎◌, ◌==◌, nat_lt, All, ℤ, pos, unsigned_abs, List, length, slice_index, if◌then◌else◌, ◌+◌}
+use Rattle.std.specs.Prelude.{◌≡◌, ℕ, ◌-◌, ◌*◌, ◌/◌, ◌%◌, ◌^◌, ◌<◌, ◌≤◌, ◌⊎◌, ◌==◌, nat_lt, All, Contains, ℤ, pos, List, length, map, slice_index, if◌then◌else◌, ◌+◌}
 use Rattle.std.specs.Int.{◌∣◌}
 use Rattle.kf_frac.specs.Divisors.{gcd_of}
-use Rattle.kf_simplex.specs.declared.system.Equation.{Equation}
+use Rattle.kf_simplex.specs.declared.row.Entry.{Entry}
+use Rattle.kf_simplex.specs.declared.system.SparseEquation.{SparseEquation}
 use Rattle.kf_simplex.specs.Base.{at}
-use Rattle.kf_simplex.specs.Views.{coefficients, right_side}
+use Rattle.kf_simplex.specs.Cells.{AllNarrow}
+use Rattle.kf_simplex.specs.Entries.{IsRowWithin, number_in}
+use Rattle.kf_simplex.specs.Views.{coefficients_in, right_side_in}
 use Rattle.kf_refine.specs.Refinements.{HyperTree, count, joint}
 
 -- ---- divisors and factors
@@ -56,31 +59,39 @@ coefficient_number n xs u k c =
 unfoldable pub right_number : ℕ → List ℕ → (ℕ → ℕ → ℕ) → ℕ → ℤ
 right_number n xs v k = if nat_lt k (length xs * n) then pos (v (slice_index xs (k / n)) (k % n)) else pos 1
 
--- these numbers, none past 2^62, are so many coefficients
-pub record AreCoefficients (unknowns : ℕ) (coefficient : ℕ → ℤ) (numbers : List ℤ) : Type 0 where
-  pub many : length numbers ≡ unknowns
-  pub each : (c : ℕ) → c < unknowns → at numbers c ≡ coefficient c
-  pub narrow : All (λ z. unsigned_abs z ≤ 2 ^ 62) numbers
+-- these entries are a value's weights with so many inners, by the numbers of the inners, and none passes 2^62
+pub record AreWeights (inners : ℕ) (u : ℕ → ℕ) (entries : List Entry) : Type 0 where
+  pub inside : All (λ e. e.column < inners) entries
+  pub each : (i : ℕ) → i < inners → number_in entries i ≡ pos (u i)
+  pub narrow : AllNarrow (number_in entries)
+
+-- the entries, each at place j of the n columns that belong to its own
+abbrev pub spread : ℕ → ℕ → List Entry → List Entry
+spread n j entries = map (λ e. record { column = e.column * n + j; number = e.number }) entries
 
 -- an equation has these numbers
-pub record HasNumbers (unknowns : ℕ) (coefficient : ℕ → ℤ) (right : ℤ) (e : Equation) : Type 0 where
-  pub many : length e.coefs ≡ unknowns
-  pub coefs : (c : ℕ) → c < unknowns → at e.coefs c ≡ coefficient c
+pub record HasNumbers (unknowns : ℕ) (coefficient : ℕ → ℤ) (right : ℤ) (e : SparseEquation) : Type 0 where
+  pub within : IsRowWithin unknowns e.coefs.entries.items
+  pub coefs : (c : ℕ) → c < unknowns → number_in e.coefs.entries.items c ≡ coefficient c
   pub rhs : e.rhs ≡ right
 
 -- and so have these, one after the other
-pub record HaveNumbers (unknowns : ℕ) (coefficient : ℕ → ℕ → ℤ) (right : ℕ → ℤ) (rows : List Equation) : Type 0 where
-  pub many : All (λ e. length e.coefs ≡ unknowns) rows
-  pub coefs : (k c : ℕ) → k < length rows → c < unknowns → at (coefficients rows k) c ≡ coefficient k c
-  pub rights : (k : ℕ) → k < length rows → right_side rows k ≡ right k
+pub record HaveNumbers (unknowns : ℕ) (coefficient : ℕ → ℕ → ℤ) (right : ℕ → ℤ) (rows : List SparseEquation) : Type 0 where
+  pub within : All (λ e. IsRowWithin unknowns e.coefs.entries.items) rows
+  pub coefs : (k c : ℕ) → k < length rows → c < unknowns → number_in (coefficients_in rows k) c ≡ coefficient k c
+  pub rights : (k : ℕ) → k < length rows → right_side_in rows k ≡ right k
 
--- one of the coefficients passes 2^62
-abbrev pub HasWide : ℕ → (ℕ → ℤ) → Type 0
-HasWide unknowns coefficient = (c : ℕ) × (c < unknowns) × (2 ^ 62 < unsigned_abs (coefficient c))
+-- these are the first k equations of values with the weights u at m inners and v at n
+abbrev pub AreBuilt : ℕ → ℕ → List ℕ → (ℕ → ℕ → ℕ) → (ℕ → ℕ → ℕ) → ℕ → List SparseEquation → Type 0
+AreBuilt m n xs u v k rows = (length rows ≡ k) × HaveNumbers (m * n) (coefficient_number n xs u) (right_number n xs v) rows
 
--- one of the numbers of an equation does
-abbrev pub IsWide : ℕ → (ℕ → ℤ) → ℤ → Type 0
-IsWide unknowns coefficient right = HasWide unknowns coefficient ⊎ (2 ^ 62 < unsigned_abs right)
+-- one of a value's weights with n inners passes 2^62
+abbrev pub IsWide : ℕ → (ℕ → ℕ) → Type 0
+IsWide n u = (i : ℕ) × (i < n) × (2 ^ 62 < u i)
+
+-- one of these values has such a weight, u at m inners or v at n
+abbrev pub HasWide : ℕ → ℕ → List ℕ → (ℕ → ℕ → ℕ) → (ℕ → ℕ → ℕ) → Type 0
+HasWide m n xs u v = (x : ℕ) × Contains xs x × (IsWide m (u x) ⊎ IsWide n (v x))
 
 -- the multiplier of the equation of the q-th kept value and inner j of b
 abbrev pub multiplier : ℕ → List ℤ → ℕ → ℕ → ℤ

@@ -3,7 +3,7 @@
 ghost use Rattle.std.specs.Prelude.{◌≡◌, ◌≢◌, ℕ, List, ◌≤◌, ◌*◌, ◌+◌, length, Ok, Err, IfOk, IfErr};
 ghost use Rattle.kf_hyper.specs.Views.{target_of};
 ghost use Rattle.kf_simplex.specs.Laws.{ways};
-ghost use Rattle.kf_simplex.specs.Views.{linear};
+ghost use Rattle.kf_simplex.specs.Views.{sparse};
 ghost use Rattle.kf_refine.specs.declared.verdict.RefineError.TheVariants as error;
 ghost use Rattle.kf_refine.specs.Equations.{AreEquations, AreKept, cells_of};
 ghost use Rattle.kf_refine.specs.Refinements.{count};
@@ -18,7 +18,7 @@ use crate::matrix::matrix;
 use crate::multipliers::table;
 use crate::{RefineError, Verdict};
 use kf_hyper::Hyper;
-use kf_simplex::{Outcome, SimplexError, System, solve};
+use kf_simplex::{Outcome, SimplexError, SparseSystem, solve_sparse};
 use kf_value::same_target;
 use std::alloc::Global;
 
@@ -59,7 +59,7 @@ fn decide(alloc: Global, a: &Hyper, b: &Hyper, pivots: u32) -> Result<Verdict, R
         return Err(RefineError::Cells { count });
     }
     let system = equations(alloc, a, b, &kept)?;
-    run(alloc, a, b, &kept, &system, pivots)
+    run(alloc, a, b, &kept, system, pivots)
 }
 
 // The verdict of the run on the equations of the kept values.
@@ -68,17 +68,17 @@ fn run(
     a: &Hyper,
     b: &Hyper,
     kept: &[u64],
-    system: &System,
+    system: SparseSystem,
     pivots: u32,
 ) -> Result<Verdict, RefineError>
     requires targets { target_of a.now ≡ target_of b.now }
     requires kept { AreKept (hyper_tree a.now) (hyper_tree b.now) kept.now }
     requires few { cells_of (length kept.now) (count (hyper_tree a.now)) (count (hyper_tree b.now)) ≤ 4000000 }
-    requires equations { (e : AreEquations (hyper_tree a.now) (hyper_tree b.now) (linear system.now)) × (e.values ≡ kept.now) }
+    requires equations { (e : AreEquations (hyper_tree a.now) (hyper_tree b.now) (sparse system)) × (e.values ≡ kept.now) }
     ensures is { IfOk result (λ v. IsVerdict (hyper_tree a.now) (hyper_tree b.now) pivots (Ok (verdict_tree v))) }
     ensures err { IfErr result (λ e. e ≢ error.Mem → IsVerdict (hyper_tree a.now) (hyper_tree b.now) pivots (Err e)) }
 {
-    match solve(alloc, system, pivots) {
+    match solve_sparse(alloc, system, pivots) {
         Ok(Outcome::Solution(solution)) => Ok(Verdict::Yes(matrix(
             alloc,
             a.count(),

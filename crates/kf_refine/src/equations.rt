@@ -1,13 +1,14 @@
 //! The equations of two hypers.
 
-ghost use Rattle.std.specs.Prelude.{◌≡◌, ◌≢◌, ℕ, ◌+◌, ◌*◌, ◌<◌, ◌≤◌, ◌^◌, pos, unsigned_abs, length, Err, IfOk, IfErr};
+ghost use Rattle.std.specs.Prelude.{◌≡◌, ◌≢◌, ℕ, ◌+◌, ◌*◌, ◌<◌, ◌≤◌, ◌^◌, All, pos, length, slice_index, Err, IfOk, IfErr, OnOk};
 ghost use Rattle.kf_simplex.specs.Answers.{IsAnswer};
+ghost use Rattle.kf_simplex.specs.Cells.{AllNarrow};
+ghost use Rattle.kf_simplex.specs.Entries.{IsRowWithin, number_in};
 ghost use Rattle.kf_simplex.specs.Systems.{LinearSystem};
-ghost use Rattle.kf_simplex.specs.Views.{linear};
+ghost use Rattle.kf_simplex.specs.Views.{sparse};
 ghost use Rattle.kf_simplex.specs.declared.outcome.SimplexError.TheVariants as simplex;
 ghost use Rattle.kf_refine.specs.declared.verdict.RefineError.TheVariants as error;
-ghost use Rattle.kf_refine.specs.Built.{AreCoefficients, HasNumbers, HaveNumbers, HasWide, IsWide, whole};
-ghost use Rattle.kf_refine.specs.Built.{coefficient_number, right_number, sum_number, weight_number};
+ghost use Rattle.kf_refine.specs.Built.{AreBuilt, AreWeights, HasWide, IsWide, spread, sum_number, whole};
 ghost use Rattle.kf_refine.specs.Equations.{AreKept, AreEquations, cells_of};
 ghost use Rattle.kf_refine.specs.Refinements.{count};
 ghost use Rattle.kf_refine.specs.Views.{hyper_tree};
@@ -15,8 +16,7 @@ ghost use Rattle.kf_refine.specs.Views.{hyper_tree};
 use crate::RefineError;
 use crate::scalings::{Scaling, to_whole};
 use kf_hyper::Hyper;
-use kf_simplex::{Equation, EquationList, NumberList, System};
-use kf_value::Mem;
+use kf_simplex::{Entry, Row, SparseEquation, SparseSystem};
 use std::alloc::{AllocError, Global};
 
 /// The equations on the matrix that carries the first hyper to the second; `Wide` after 0 pivots where a number in them passes 2^62.
@@ -25,10 +25,10 @@ pub(crate) fn equations(
     a: &Hyper,
     b: &Hyper,
     kept: &[u64],
-) -> Result<System, RefineError>
+) -> Result<SparseSystem, RefineError>
     requires kept { AreKept (hyper_tree a.now) (hyper_tree b.now) kept.now }
     requires few { cells_of (length kept.now) (count (hyper_tree a.now)) (count (hyper_tree b.now)) ≤ 4000000 }
-    ensures ok { IfOk result (λ s. (e : AreEquations (hyper_tree a.now) (hyper_tree b.now) (linear s)) × (e.values ≡ kept.now)) }
+    ensures ok { IfOk result (λ s. (e : AreEquations (hyper_tree a.now) (hyper_tree b.now) (sparse s)) × (e.values ≡ kept.now)) }
     ensures err { IfErr result (λ r. r ≢ error.Mem → (r ≡ error.Wide 0) × (s : LinearSystem)
         × (e : AreEquations (hyper_tree a.now) (hyper_tree b.now) s) × (e.values ≡ kept.now)
         × ((pivots : ℕ) → IsAnswer s pivots (Err (simplex.Wide 0)))) }
@@ -37,9 +37,9 @@ pub(crate) fn equations(
         return Err(RefineError::Wide { pivots: 0 });
     };
     let rows = all_equations(alloc, a, b, kept, &scaling)?;
-    Ok(System {
+    Ok(SparseSystem {
         unknowns: (a.count() * b.count()) as u32,
-        rows: EquationList::new(rows),
+        rows,
     })
 }
 
@@ -50,154 +50,176 @@ fn all_equations(
     b: &Hyper,
     kept: &[u64],
     scaling: &Scaling,
-) -> Result<Vec<Equation>, RefineError>
+) -> Result<Vec<SparseEquation>, RefineError>
     requires few { cells_of (length kept.now) (count (hyper_tree a.now)) (count (hyper_tree b.now)) ≤ 4000000 }
-    ensures many { IfOk result (λ rows. length rows.items ≡ length kept.now * count (hyper_tree b.now) + count (hyper_tree a.now)) }
     ensures ok { let u = whole (hyper_tree a.now) scaling.now.a_divisor scaling.now.a_factor in
         let v = whole (hyper_tree b.now) scaling.now.b_divisor scaling.now.b_factor in
-        IfOk result (λ rows. HaveNumbers (count (hyper_tree a.now) * count (hyper_tree b.now))
-        (coefficient_number (count (hyper_tree b.now)) kept.now u)
-        (right_number (count (hyper_tree b.now)) kept.now v) rows.items) }
+        IfOk result (λ rows. AreBuilt (count (hyper_tree a.now)) (count (hyper_tree b.now)) kept.now u v
+        (length kept.now * count (hyper_tree b.now) + count (hyper_tree a.now)) rows.items) }
     ensures err { let u = whole (hyper_tree a.now) scaling.now.a_divisor scaling.now.a_factor in
         let v = whole (hyper_tree b.now) scaling.now.b_divisor scaling.now.b_factor in
         IfErr result (λ r. r ≢ error.Mem → (r ≡ error.Wide 0)
-        × (k : ℕ) × (k < length kept.now * count (hyper_tree b.now) + count (hyper_tree a.now))
-        × IsWide (count (hyper_tree a.now) * count (hyper_tree b.now))
-        (coefficient_number (count (hyper_tree b.now)) kept.now u k)
-        (right_number (count (hyper_tree b.now)) kept.now v k)) }
+        × HasWide (count (hyper_tree a.now)) (count (hyper_tree b.now)) kept.now u v) }
 {
-    let count = kept.len() * b.count() + a.count();
-    let mut rows = Vec::with_capacity(alloc, count)?;
-    for k in 0..count {
-        let row = equation(alloc, a, b, kept, scaling, k)?;
+    let mut rows = value_equations(alloc, a, b, kept, scaling)?;
+    for p in 0..a.count() {
+        let row = sum_equation(alloc, b.count(), p)?;
         rows.push(row)?;
     }
     Ok(rows)
 }
 
-// The equation with the number `k`, from 0.
-fn equation(
+// The equations of all kept values and inners of the second hyper, with room for those of the inners of the first.
+fn value_equations(
     alloc: Global,
     a: &Hyper,
     b: &Hyper,
     kept: &[u64],
     scaling: &Scaling,
-    k: usize,
-) -> Result<Equation, RefineError>
+) -> Result<Vec<SparseEquation>, RefineError>
     requires few { cells_of (length kept.now) (count (hyper_tree a.now)) (count (hyper_tree b.now)) ≤ 4000000 }
-    requires inside { k < length kept.now * count (hyper_tree b.now) + count (hyper_tree a.now) }
     ensures ok { let u = whole (hyper_tree a.now) scaling.now.a_divisor scaling.now.a_factor in
         let v = whole (hyper_tree b.now) scaling.now.b_divisor scaling.now.b_factor in
-        IfOk result (λ e. HasNumbers (count (hyper_tree a.now) * count (hyper_tree b.now))
-        (coefficient_number (count (hyper_tree b.now)) kept.now u k)
-        (right_number (count (hyper_tree b.now)) kept.now v k) e) }
+        IfOk result (λ rows. AreBuilt (count (hyper_tree a.now)) (count (hyper_tree b.now)) kept.now u v
+        (length kept.now * count (hyper_tree b.now)) rows.items) }
     ensures err { let u = whole (hyper_tree a.now) scaling.now.a_divisor scaling.now.a_factor in
         let v = whole (hyper_tree b.now) scaling.now.b_divisor scaling.now.b_factor in
         IfErr result (λ r. r ≢ error.Mem → (r ≡ error.Wide 0)
-        × IsWide (count (hyper_tree a.now) * count (hyper_tree b.now))
-        (coefficient_number (count (hyper_tree b.now)) kept.now u k)
-        (right_number (count (hyper_tree b.now)) kept.now v k)) }
+        × HasWide (count (hyper_tree a.now)) (count (hyper_tree b.now)) kept.now u v) }
 {
-    let columns = b.count();
-    let of_values = kept.len() * columns;
-    if k < of_values {
-        let row = value_equation(alloc, a, b, scaling, kept[k / columns], k % columns)?;
-        Ok(row)
-    } else {
-        let row = sum_equation(alloc, a.count(), columns, k - of_values)?;
-        Ok(row)
+    let mut rows = Vec::with_capacity(alloc, kept.len() * b.count() + a.count())?;
+    for q in 0..kept.len() {
+        push_equations(alloc, a, b, kept, scaling, q, &mut rows)?;
     }
+    Ok(rows)
 }
 
-// The equation of a value and the inner `j` of the second hyper.
-fn value_equation(
+// Adds the equations of the kept value with the number `q` and all inners of the second hyper.
+fn push_equations(
     alloc: Global,
     a: &Hyper,
     b: &Hyper,
+    kept: &[u64],
     scaling: &Scaling,
-    x: u64,
-    j: usize,
-) -> Result<Equation, RefineError>
-    requires inner { j < count (hyper_tree b.now) }
+    q: usize,
+    rows: &mut Vec<SparseEquation>,
+) -> Result<(), RefineError>
+    requires value { q < length kept.now }
     requires few { count (hyper_tree a.now) * count (hyper_tree b.now) ≤ 4000000 }
+    requires rows { let u = whole (hyper_tree a.now) scaling.now.a_divisor scaling.now.a_factor in
+        let v = whole (hyper_tree b.now) scaling.now.b_divisor scaling.now.b_factor in
+        AreBuilt (count (hyper_tree a.now)) (count (hyper_tree b.now)) kept.now u v (q * count (hyper_tree b.now)) rows.old.items }
     ensures ok { let u = whole (hyper_tree a.now) scaling.now.a_divisor scaling.now.a_factor in
         let v = whole (hyper_tree b.now) scaling.now.b_divisor scaling.now.b_factor in
-        IfOk result (λ e. HasNumbers (count (hyper_tree a.now) * count (hyper_tree b.now))
-        (weight_number (count (hyper_tree b.now)) (u x) j)
-        (pos (v x j)) e) }
+        OnOk result (AreBuilt (count (hyper_tree a.now)) (count (hyper_tree b.now)) kept.now u v ((q + 1) * count (hyper_tree b.now)) rows.new.items) }
     ensures err { let u = whole (hyper_tree a.now) scaling.now.a_divisor scaling.now.a_factor in
         let v = whole (hyper_tree b.now) scaling.now.b_divisor scaling.now.b_factor in
         IfErr result (λ r. r ≢ error.Mem → (r ≡ error.Wide 0)
-        × IsWide (count (hyper_tree a.now) * count (hyper_tree b.now))
-        (weight_number (count (hyper_tree b.now)) (u x) j)
-        (pos (v x j))) }
+        × HasWide (count (hyper_tree a.now)) (count (hyper_tree b.now)) kept.now u v) }
 {
-    let coefs = value_coefficients(alloc, a, scaling, x, b.count(), j)?;
+    let weights = value_weights(alloc, a, scaling, kept[q])?;
+    for j in 0..b.count() {
+        let row = value_equation(alloc, b, scaling, &weights, kept[q], j)?;
+        rows.push(row)?;
+    }
+    Ok(())
+}
+
+// The weights of a value that aren't 0, each at the number of its inner of the first hyper.
+fn value_weights(alloc: Global, a: &Hyper, scaling: &Scaling, x: u64) -> Result<Row, RefineError>
+    ensures ok { let u = whole (hyper_tree a.now) scaling.now.a_divisor scaling.now.a_factor in
+        IfOk result (λ row. AreWeights (count (hyper_tree a.now)) (u x) row.entries.items) }
+    ensures err { let u = whole (hyper_tree a.now) scaling.now.a_divisor scaling.now.a_factor in
+        IfErr result (λ r. r ≢ error.Mem → (r ≡ error.Wide 0) × IsWide (count (hyper_tree a.now)) (u x)) }
+{
+    let mut entries = Vec::new(alloc);
+    for i in 0..a.count() {
+        let Some(weight) = scaling.of_a(a.weight(i, x)) else {
+            return Err(RefineError::Wide { pivots: 0 });
+        };
+        if weight != 0 {
+            entries.push(Entry {
+                column: i,
+                number: weight as i128,
+            })?;
+        }
+    }
+    Ok(Row { entries })
+}
+
+// The equation of a value that has these weights and the inner `j` of the second hyper.
+fn value_equation(
+    alloc: Global,
+    b: &Hyper,
+    scaling: &Scaling,
+    weights: &Row,
+    x: u64,
+    j: usize,
+) -> Result<SparseEquation, RefineError>
+    requires inner { j < count (hyper_tree b.now) }
+    requires few { All (λ e. e.column * count (hyper_tree b.now) + j < 4000000) weights.now.entries.items }
+    requires narrow { AllNarrow (number_in weights.now.entries.items) }
+    ensures coefs { IfOk result (λ e. e.coefs.entries.items ≡ spread (count (hyper_tree b.now)) j weights.now.entries.items) }
+    ensures rhs { let v = whole (hyper_tree b.now) scaling.now.b_divisor scaling.now.b_factor in
+        IfOk result (λ e. e.rhs ≡ pos (v x j)) }
+    ensures err { let v = whole (hyper_tree b.now) scaling.now.b_divisor scaling.now.b_factor in
+        IfErr result (λ r. r ≢ error.Mem → (r ≡ error.Wide 0) × (2 ^ 62 < v x j)) }
+{
+    let coefs = value_coefficients(alloc, weights, b.count(), j)?;
     let Some(rhs) = scaling.of_b(b.weight(j, x)) else {
         return Err(RefineError::Wide { pivots: 0 });
     };
-    Ok(Equation {
-        coefs: NumberList::new(coefs),
-        rhs,
-    })
+    Ok(SparseEquation { coefs, rhs })
 }
 
 // Its coefficients: in each row of `columns` unknowns the weight of the row's inner at place `j`.
 fn value_coefficients(
     alloc: Global,
-    a: &Hyper,
-    scaling: &Scaling,
-    x: u64,
+    weights: &Row,
     columns: usize,
     j: usize,
-) -> Result<Vec<i64>, RefineError>
+) -> Result<Row, AllocError>
     requires inner { j < columns }
-    requires few { count (hyper_tree a.now) * columns ≤ 4000000 }
-    ensures ok { let u = whole (hyper_tree a.now) scaling.now.a_divisor scaling.now.a_factor in
-        IfOk result (λ coefs. AreCoefficients (count (hyper_tree a.now) * columns)
-        (weight_number columns (u x) j) coefs.items) }
-    ensures err { let u = whole (hyper_tree a.now) scaling.now.a_divisor scaling.now.a_factor in
-        IfErr result (λ r. r ≢ error.Mem → (r ≡ error.Wide 0)
-        × HasWide (count (hyper_tree a.now) * columns)
-        (weight_number columns (u x) j)) }
+    requires few { All (λ e. e.column * columns + j < 4000000) weights.now.entries.items }
+    ensures { IfOk result (λ row. row.entries.items ≡ spread columns j weights.now.entries.items) }
 {
-    let mut coefs = vec![in alloc; 0i64; a.count() * columns]?;
-    for i in 0..a.count() {
-        let Some(weight) = scaling.of_a(a.weight(i, x)) else {
-            return Err(RefineError::Wide { pivots: 0 });
-        };
-        coefs[i * columns + j] = weight;
+    // with room for the two entries that the simplex puts behind these
+    let mut entries = Vec::with_capacity(alloc, weights.entries.len().saturating_add(2))?;
+    for weight in weights.entries.as_slice() {
+        entries.push(Entry {
+            column: weight.column * columns + j,
+            number: weight.number,
+        })?;
     }
-    Ok(coefs)
+    Ok(Row { entries })
 }
 
-// The equation of the inner `p` of the first hyper: the unknowns in its row sum to 1.
-fn sum_equation(alloc: Global, rows: usize, columns: usize, p: usize) -> Result<Equation, Mem>
-    requires inner { p < rows }
-    requires few { rows * columns ≤ 4000000 }
-    ensures { IfOk result (λ e. HasNumbers (rows * columns) (sum_number columns p) (pos 1) e) }
+// The equation of the inner `p` of the first hyper: the `columns` unknowns in its row sum to 1.
+fn sum_equation(alloc: Global, columns: usize, p: usize) -> Result<SparseEquation, AllocError>
+    requires some { 0 < columns }
+    requires few { p * columns + columns ≤ 4000000 }
+    ensures within { IfOk result (λ e. IsRowWithin (p * columns + columns) e.coefs.entries.items) }
+    ensures coefs { IfOk result (λ e. (c : ℕ) → number_in e.coefs.entries.items c ≡ sum_number columns p c) }
+    ensures rhs { IfOk result (λ e. e.rhs ≡ pos 1) }
 {
-    let coefs = sum_coefficients(alloc, rows, columns, p)?;
-    Ok(Equation {
-        coefs: NumberList::new(coefs),
-        rhs: 1,
-    })
+    let coefs = sum_coefficients(alloc, columns, p)?;
+    Ok(SparseEquation { coefs, rhs: 1 })
 }
 
 // Its coefficients: 1 in row `p`, and 0 in the others.
-fn sum_coefficients(
-    alloc: Global,
-    rows: usize,
-    columns: usize,
-    p: usize,
-) -> Result<Vec<i64>, AllocError>
-    requires inner { p < rows }
-    requires few { rows * columns ≤ 4000000 }
-    ensures { IfOk result (λ coefs. AreCoefficients (rows * columns) (sum_number columns p) coefs.items) }
+fn sum_coefficients(alloc: Global, columns: usize, p: usize) -> Result<Row, AllocError>
+    requires some { 0 < columns }
+    requires few { p * columns + columns ≤ 4000000 }
+    ensures within { IfOk result (λ row. IsRowWithin (p * columns + columns) row.entries.items) }
+    ensures numbers { IfOk result (λ row. (c : ℕ) → number_in row.entries.items c ≡ sum_number columns p c) }
 {
-    let mut coefs = vec![in alloc; 0i64; rows * columns]?;
+    // with room for two more, as above
+    let mut entries = Vec::with_capacity(alloc, columns.saturating_add(2))?;
     for l in 0..columns {
-        coefs[p * columns + l] = 1;
+        entries.push(Entry {
+            column: p * columns + l,
+            number: 1,
+        })?;
     }
-    Ok(coefs)
+    Ok(Row { entries })
 }

@@ -96,12 +96,14 @@ fn push(
     ensures rows { OnOk result (Grows (λ x. if value == x then entry ∷ [] else []) rows.old.entries rows.new.entries) }
     ensures filled { OnOk result (AreFilled rows.old.entries → AreFilled rows.new.entries) }
 {
-    let mut row = match rows.remove(&value) {
-        Some(row) => row,
-        None => Vec::new(alloc),
-    };
-    row.push(entry)?;
-    rows.insert(value, row)?;
+    match rows.get_mut(&value) {
+        Some(row) => row.push(entry)?,
+        None => {
+            let mut row = Vec::with_capacity(alloc, 2)?;
+            row.push(entry)?;
+            rows.insert(value, row)?;
+        }
+    }
     Ok(())
 }
 

@@ -4,7 +4,7 @@ use Rattle.std.proofs.Math.IntN.{ℤ, pos}
 use Rattle.std.proofs.lemmas.List.{take_all}
 use Rattle.std.proofs.lemmas.Bool.{ne_eqb, cases_eq, cases_lt}
 use Rattle.kf_simplex.specs.declared.row.Entry.{Entry}
-use Rattle.kf_simplex.specs.Entries.{no_entry, number_in, Ascends, IsTaken, IsLeast}
+use Rattle.kf_simplex.specs.Entries.{no_entry, number_in, Ascends, IsRowWithin, IsTaken, IsLeast}
 
 pub at_same : (e : Entry) (es : List Entry) (c : ℕ) → e.column ≡ c → number_in (e ∷ es) c ≡ e.number
 at_same e es c same = ap (λ (b : Bool). if b then e.number else number_in es c) (eq-eqb e.column c same)
@@ -98,6 +98,11 @@ Between low high (e ∷ es) = (low ≤ e.column) × Between (e.column + 1) high 
 between_ascends : (low high : ℕ) (es : List Entry) → Between low high es → Ascends low es
 between_ascends low high [] b = tt
 between_ascends low high (e ∷ es) (from, rest) = (from, between_ascends (e.column + 1) high es rest)
+
+pub between_of : (low high : ℕ) (es : List Entry) → low ≤ high → Ascends low es → IsRowWithin high es → Between low high es
+between_of low high [] l up inside = l
+between_of low high (e ∷ es) l up inside =
+    let h : e.column < high = inside 0 (omega arith) in (up.0, between_of (e.column + 1) high es (omega arith) up.1 (λ j m. inside (suc j) (omega arith)))
 
 between_order : (low high : ℕ) (es : List Entry) → Between low high es → low ≤ high
 between_order low high [] b = b

@@ -3,11 +3,12 @@ use Rattle.std.proofs.Common.{◌≡◌, ◌≢◌, ℕ, zero, suc, ◌+◌, ◌
 use Rattle.std.proofs.Math.IntN.{ℤ, pos, ◌+ℤ◌}
 use Rattle.std.proofs.lemmas.Int.{ints}
 use Rattle.std.proofs.lemmas.Bool.{cases_eq, cases_lt}
+use Rattle.std.proofs.lemmas.List.{get_or_past}
 use Rattle.kf_simplex.specs.declared.row.Entry.{Entry}
 use Rattle.kf_simplex.specs.Base.{at}
-use Rattle.kf_simplex.specs.Entries.{no_entry, number_in}
+use Rattle.kf_simplex.specs.Entries.{no_entry, number_in, Ascends, IsRowWithin}
 use Rattle.kf_simplex.proofs.Crossing.{head_here}
-use Rattle.kf_simplex.proofs.Entries.{IsMade, made_pushed, made_skip, made_whole}
+use Rattle.kf_simplex.proofs.Entries.{IsMade, between_of, made_pushed, made_skip, made_whole}
 use Rattle.kf_simplex.proofs.Merging.{IsLeft, left_head, left_gap, left_more, left_end}
 use Rattle.kf_simplex.specs.Views.{entry}
 use Rattle.kf_simplex.proofs.Equations.{entry-unknown, entry-own, entry-other, entry-right, entry-past}
@@ -70,45 +71,53 @@ adding_whole old sums row items k same l h c m =
 
 -- ---- the row of an equation
 
-abbrev pub IsEntry : List ℤ → ℤ → ℕ → ℕ → ℕ → ℤ → Type 0
-IsEntry coefs rhs e k c z = z ≡ entry (length coefs) e coefs rhs k c
+abbrev pub IsEntry : ℕ → (ℕ → ℤ) → ℤ → ℕ → ℕ → ℕ → ℤ → Type 0
+IsEntry v coef rhs e k c z = z ≡ entry v e coef rhs k c
 
-pub coefs_push : (coefs : List ℤ) (rhs : ℤ) (e k j : ℕ) (es new : List Entry) (z : ℤ) → new ≡ es ++ record { column = j; number = z } ∷ [] → j < length coefs → z ≡ at coefs j
-    → IsMade (IsEntry coefs rhs e k) j es → IsMade (IsEntry coefs rhs e k) (j + 1) new
-coefs_push coefs rhs e k j es new z is l same h =
-    made_pushed (IsEntry coefs rhs e k) j es new j z is (omega arith) (λ c a b. absurd (omega arith)) (same ∙ sym (entry-unknown (length coefs) e coefs rhs k j l)) h
+pub coefs_made : (v : ℕ) (rhs : ℤ) (e k : ℕ) (es : List Entry) → Ascends 0 es → IsRowWithin v es → IsMade (IsEntry v (number_in es) rhs e k) v es
+coefs_made v rhs e k es up inside = record { between = between_of 0 v es (omega arith) up inside; numbers = λ c l. sym (entry-unknown v e (number_in es) rhs k c l) }
 
-pub coefs_skip : (coefs : List ℤ) (rhs : ℤ) (e k j : ℕ) (es : List Entry) → j < length coefs → at coefs j ≡ pos 0
-    → IsMade (IsEntry coefs rhs e k) j es → IsMade (IsEntry coefs rhs e k) (j + 1) es
-coefs_skip coefs rhs e k j es l none h =
-    made_skip (IsEntry coefs rhs e k) j (j + 1) es (omega arith)
-    (λ c a b. let q : j ≡ c = omega arith in subst (λ (x : ℕ). pos 0 ≡ entry (length coefs) e coefs rhs k x) q (sym (entry-unknown (length coefs) e coefs rhs k j l ∙ none))) h
+pub own_push : (v : ℕ) (coef : ℕ → ℤ) (rhs : ℤ) (e k : ℕ) (es new : List Entry) (z : ℤ) → new ≡ es ++ record { column = v + k; number = z } ∷ [] → k < e → z ≡ pos 1
+    → IsMade (IsEntry v coef rhs e k) v es → IsMade (IsEntry v coef rhs e k) (v + k + 1) new
+own_push v coef rhs e k es new z is l one h =
+    made_pushed (IsEntry v coef rhs e k) v es new (v + k) z is (omega arith)
+    (λ c a b. sym (entry-other v e coef rhs k c (omega arith) (omega arith) (omega arith))) (one ∙ sym (entry-own v e coef rhs k (v + k) refl l)) h
 
-pub own_push : (coefs : List ℤ) (rhs : ℤ) (e k j : ℕ) (es new : List Entry) (z : ℤ) → new ≡ es ++ record { column = length coefs + k; number = z } ∷ [] → k < e → j ≡ length coefs → z ≡ pos 1
-    → IsMade (IsEntry coefs rhs e k) j es → IsMade (IsEntry coefs rhs e k) (length coefs + k + 1) new
-own_push coefs rhs e k j es new z is l all one h =
-    made_pushed (IsEntry coefs rhs e k) j es new (length coefs + k) z is (omega arith)
-    (λ c a b. sym (entry-other (length coefs) e coefs rhs k c (omega arith) (omega arith) (omega arith))) (one ∙ sym (entry-own (length coefs) e coefs rhs k (length coefs + k) refl l)) h
+between_own : (v : ℕ) (coef : ℕ → ℤ) (rhs : ℤ) (e k c : ℕ) → v + k + 1 ≤ c → c < v + e → pos 0 ≡ entry v e coef rhs k c
+between_own v coef rhs e k c a b = sym (entry-other v e coef rhs k c (omega arith) b (omega arith))
 
-between_own : (coefs : List ℤ) (rhs : ℤ) (e k c : ℕ) → length coefs + k + 1 ≤ c → c < length coefs + e → pos 0 ≡ entry (length coefs) e coefs rhs k c
-between_own coefs rhs e k c a b = sym (entry-other (length coefs) e coefs rhs k c (omega arith) b (omega arith))
+pub right_push : (v : ℕ) (coef : ℕ → ℤ) (rhs : ℤ) (e k : ℕ) (es new : List Entry) (z : ℤ) → new ≡ es ++ record { column = v + e; number = z } ∷ [] → k < e → z ≡ rhs
+    → IsMade (IsEntry v coef rhs e k) (v + k + 1) es → IsMade (IsEntry v coef rhs e k) (v + e + 1) new
+right_push v coef rhs e k es new z is l same h =
+    made_pushed (IsEntry v coef rhs e k) (v + k + 1) es new (v + e) z is (omega arith)
+    (λ c a b. between_own v coef rhs e k c a b) (same ∙ sym (entry-right v e coef rhs k (v + e) refl)) h
 
-pub right_push : (coefs : List ℤ) (rhs : ℤ) (e k : ℕ) (es new : List Entry) (z : ℤ) → new ≡ es ++ record { column = length coefs + e; number = z } ∷ [] → k < e → z ≡ rhs
-    → IsMade (IsEntry coefs rhs e k) (length coefs + k + 1) es → IsMade (IsEntry coefs rhs e k) (length coefs + e + 1) new
-right_push coefs rhs e k es new z is l same h =
-    made_pushed (IsEntry coefs rhs e k) (length coefs + k + 1) es new (length coefs + e) z is (omega arith)
-    (λ c a b. between_own coefs rhs e k c a b) (same ∙ sym (entry-right (length coefs) e coefs rhs k (length coefs + e) refl)) h
-
-pub right_skip : (coefs : List ℤ) (rhs : ℤ) (e k : ℕ) (es : List Entry) → k < e → rhs ≡ pos 0
-    → IsMade (IsEntry coefs rhs e k) (length coefs + k + 1) es → IsMade (IsEntry coefs rhs e k) (length coefs + e + 1) es
-right_skip coefs rhs e k es l none h =
-    made_skip (IsEntry coefs rhs e k) (length coefs + k + 1) (length coefs + e + 1) es (omega arith)
+pub right_skip : (v : ℕ) (coef : ℕ → ℤ) (rhs : ℤ) (e k : ℕ) (es : List Entry) → k < e → rhs ≡ pos 0
+    → IsMade (IsEntry v coef rhs e k) (v + k + 1) es → IsMade (IsEntry v coef rhs e k) (v + e + 1) es
+right_skip v coef rhs e k es l none h =
+    made_skip (IsEntry v coef rhs e k) (v + k + 1) (v + e + 1) es (omega arith)
     (λ c a b. ⊎_elim
-    (λ (u : c < length coefs + e). between_own coefs rhs e k c a u)
-    (λ (u : length coefs + e ≤ c). sym (entry-right (length coefs) e coefs rhs k c (omega arith) ∙ none))
-    (cases_lt c (length coefs + e))) h
+    (λ (u : c < v + e). between_own v coef rhs e k c a u)
+    (λ (u : v + e ≤ c). sym (entry-right v e coef rhs k c (omega arith) ∙ none))
+    (cases_lt c (v + e))) h
 
-pub equation_whole : (coefs : List ℤ) (rhs : ℤ) (e k : ℕ) (es : List Entry) → k < e → IsMade (IsEntry coefs rhs e k) (length coefs + e + 1) es
-    → (c : ℕ) → number_in es c ≡ entry (length coefs) e coefs rhs k c
-equation_whole coefs rhs e k es l h =
-    made_whole (IsEntry coefs rhs e k) (length coefs + e + 1) es (λ c a. sym (entry-past (length coefs) e coefs rhs k c (omega arith) l)) h
+pub equation_whole : (v : ℕ) (coef : ℕ → ℤ) (rhs : ℤ) (e k : ℕ) (es : List Entry) → k < e → IsMade (IsEntry v coef rhs e k) (v + e + 1) es
+    → (c : ℕ) → number_in es c ≡ entry v e coef rhs k c
+equation_whole v coef rhs e k es l h =
+    made_whole (IsEntry v coef rhs e k) (v + e + 1) es (λ c a. sym (entry-past v e coef rhs k c (omega arith) l)) h
+
+-- ---- the row of a list of numbers
+
+abbrev pub IsNumber : List ℤ → ℕ → ℤ → Type 0
+IsNumber xs c z = z ≡ at xs c
+
+pub number_push : (xs : List ℤ) (j : ℕ) (es new : List Entry) (z : ℤ) → new ≡ es ++ record { column = j; number = z } ∷ [] → z ≡ at xs j
+    → IsMade (IsNumber xs) j es → IsMade (IsNumber xs) (j + 1) new
+number_push xs j es new z is same h = made_pushed (IsNumber xs) j es new j z is (omega arith) (λ c a b. absurd (omega arith)) same h
+
+pub number_skip : (xs : List ℤ) (j : ℕ) (es : List Entry) → at xs j ≡ pos 0 → IsMade (IsNumber xs) j es → IsMade (IsNumber xs) (j + 1) es
+number_skip xs j es none h =
+    made_skip (IsNumber xs) j (j + 1) es (omega arith) (λ c a b. let q : j ≡ c = omega arith in subst (λ (x : ℕ). pos 0 ≡ at xs x) q (sym none)) h
+
+pub numbers_whole : (xs : List ℤ) (j : ℕ) (es : List Entry) → length xs ≤ j → IsMade (IsNumber xs) j es → (c : ℕ) → number_in es c ≡ at xs c
+numbers_whole xs j es l h = made_whole (IsNumber xs) j es (λ c m. sym (get_or_past xs c (pos 0) (omega arith))) h

@@ -6,19 +6,17 @@ use Rattle.std.proofs.lemmas.Int.{ints}
 use Rattle.std.proofs.lemmas.List.{take-append-le, take_all, get_or_append_left, get_or_past, get_or_push}
 use Rattle.std.proofs.lemmas.Bool.{cases_lt}
 use mir.Syntax.{w128}
-use Rattle.kf_simplex.specs.declared.system.Equation.{Equation}
 use Rattle.kf_simplex.specs.declared.row.Entry.{Entry}
 use Rattle.kf_simplex.specs.declared.row.Row.{Row}
 use Rattle.kf_simplex.specs.Base.{at, total}
 use Rattle.kf_simplex.specs.Entries.{number_in}
-use Rattle.kf_simplex.specs.Systems.{LinearSystem}
+use Rattle.kf_simplex.specs.Systems.{IsSystem}
 use Rattle.kf_simplex.specs.Flat.{IsWithin, entries_at, cell, tableau_of}
 use Rattle.kf_simplex.specs.Building.{Built}
-use Rattle.kf_simplex.specs.Turns.{InRun}
+use Rattle.kf_simplex.specs.Turns.{InRun, system}
 use Rattle.kf_simplex.proofs.FirstTableau.{first_tableau}
 use Rattle.kf_simplex.proofs.Reducing.{past_rows}
-use Rattle.kf_simplex.specs.Views.{coefficients, right_side, entry, number_at}
-use Rattle.kf_simplex.proofs.Equations.{entry-past, number_narrow, total_bound, linear_is_system}
+use Rattle.kf_simplex.proofs.Equations.{total_bound}
 
 entries_push_same : (rows : List Row) (row : Row) → entries_at (rows ++ row ∷ []) (length rows) ≡ row.entries.items
 entries_push_same [] row = refl
@@ -35,46 +33,38 @@ cell_push_same rows new row i c is e = rw (is, e) (ap (λ (es : List Entry). num
 pub cell_push_other : (rows new : List Row) (row : Row) (i c : ℕ) → new ≡ rows ++ row ∷ [] → i < length rows → cell new i c ≡ cell rows i c
 cell_push_other rows new row i c is l = rw is (ap (λ (es : List Entry). number_in es c) (entries_push_other rows row i l))
 
-pub number_past : (v : ℕ) (eqs : List Equation) (k c : ℕ) → k < length eqs → v + length eqs < c → number_at v eqs k c ≡ pos 0
-unfolding number_at
-number_past v eqs k c l m = entry-past v (length eqs) (coefficients eqs k) (right_side eqs k) k c m l
-
-pub built_none : (v : ℕ) (eqs : List Equation) (rows : List Row) (sums : List ℤ) → rows ≡ [] → length sums ≡ v + length eqs + 1 → ((c : ℕ) → at sums c ≡ pos 0) → Built v eqs rows sums 0
-built_none v eqs rows sums e l z = record { len = rw e refl; sums_len = l; written = λ i c m. absurd (omega arith); summed = λ c m. z c }
+pub built_none : (v e : ℕ) (number : ℕ → ℕ → ℤ) (rows : List Row) (sums : List ℤ) → rows ≡ [] → length sums ≡ v + e + 1 → ((c : ℕ) → at sums c ≡ pos 0)
+    → Built v e number rows sums (length rows)
+built_none v e number rows sums none l z = rw none (record { len = refl; sums_len = l; written = λ i c m. absurd (omega arith); summed = λ c m. z c })
 
 suc_is : (k : ℕ) → suc k ≡ k + 1
 suc_is k = omega arith
 
-pub number_of : (v : ℕ) (rows : List Equation) (coefs : List ℤ) (rhs : ℤ) (k c : ℕ) → coefs ≡ coefficients rows k → rhs ≡ right_side rows k → length coefs ≡ v
-    → entry (length coefs) (length rows) coefs rhs k c ≡ number_at v rows k c
-unfolding number_at
-number_of v rows coefs rhs k c ec er el =
-    ap (λ (x : ℕ). entry x (length rows) coefs rhs k c) el
-    ∙ ap (λ (x : List ℤ). entry v (length rows) x rhs k c) ec
-    ∙ ap (λ (x : ℤ). entry v (length rows) (coefficients rows k) x k c) er
-
-pub built_more : (v : ℕ) (eqs : List Equation) (rows new : List Row) (sums after : List ℤ) (row : Row) (k : ℕ) → k < length eqs → Built v eqs rows sums k
-    → new ≡ rows ++ row ∷ [] → ((c : ℕ) → number_in row.entries.items c ≡ number_at v eqs k c) → length after ≡ length sums
-    → ((c : ℕ) → c < length sums → at after c ≡ at sums c +ℤ number_in row.entries.items c) → Built v eqs new after (k + 1)
-built_more v eqs rows new sums after row k l h is own same added = record {
-  len = rw is (length-append rows (row ∷ []) ∙ (let e = h.len in omega arith));
-  sums_len = same ∙ h.sums_len;
-  written = λ i c m. ⊎_elim
-      (λ (u : i < k). cell_push_other rows new row i c is (let e = h.len in omega arith) ∙ h.written i c u)
-      (λ (u : k ≤ i). let e : k ≡ i = omega arith in subst (λ (j : ℕ). cell new j c ≡ number_at v eqs j c) e (cell_push_same rows new row k c is (sym h.len) ∙ own c))
-      (cases_lt i k);
-  summed = λ c m. subst (λ (j : ℕ). at after c ≡ total j (λ i. number_at v eqs i c)) (suc_is k)
-      (added c (let e = h.sums_len in omega arith) ∙ ap (λ (z : ℤ). z +ℤ number_in row.entries.items c) (h.summed c m) ∙ ap (λ (z : ℤ). total k (λ i. number_at v eqs i c) +ℤ z) (own c));
-}
+pub built_more : (v e : ℕ) (number : ℕ → ℕ → ℤ) (rows new : List Row) (sums after : List ℤ) (row : Row) → Built v e number rows sums (length rows)
+    → new ≡ rows ++ row ∷ [] → ((c : ℕ) → number_in row.entries.items c ≡ number (length rows) c) → length after ≡ length sums
+    → ((c : ℕ) → c < length sums → at after c ≡ at sums c +ℤ number_in row.entries.items c) → Built v e number new after (length rows + 1)
+built_more v e number rows new sums after row h is own same added =
+    let k = length rows in
+    record {
+      len = rw is (length-append rows (row ∷ []));
+      sums_len = same ∙ h.sums_len;
+      written = λ i c m. ⊎_elim
+          (λ (u : i < k). cell_push_other rows new row i c is u ∙ h.written i c u)
+          (λ (u : k ≤ i). let q : k ≡ i = omega arith in subst (λ (j : ℕ). cell new j c ≡ number j c) q (cell_push_same rows new row k c is refl ∙ own c))
+          (cases_lt i k);
+      summed = λ c m. subst (λ (j : ℕ). at after c ≡ total j (λ i. number i c)) (suc_is k)
+          (added c (let l = h.sums_len in omega arith) ∙ ap (λ (z : ℤ). z +ℤ number_in row.entries.items c) (h.summed c m) ∙ ap (λ (z : ℤ). total k (λ i. number i c) +ℤ z) (own c));
+    }
 
 -- ---- the bounds under which a row is added
 
-pub sums_small : (v : ℕ) (eqs : List Equation) (rows : List Row) (sums : List ℤ) (k c : ℕ) → k < length eqs → length eqs < 4000001 → Built v eqs rows sums k → unsigned_abs (at sums c) ≤ 2 ^ 100
-sums_small v eqs rows sums k c l small h =
+pub sums_small : (v e : ℕ) (number : ℕ → ℕ → ℤ) (rows : List Row) (sums : List ℤ) (k c : ℕ) → ((i j : ℕ) → unsigned_abs (number i j) ≤ 2 ^ 62) → k < e → e < 4000001
+    → Built v e number rows sums k → unsigned_abs (at sums c) ≤ 2 ^ 100
+sums_small v e number rows sums k c narrow l small h =
     ⊎_elim
-    (λ (u : c < v + length eqs + 1). rw (h.summed c u) (let b = total_bound k (2 ^ 62) (λ i. number_at v eqs i c) (λ i. number_narrow v eqs i c) in omega arith))
-    (λ (u : v + length eqs + 1 ≤ c). rw (get_or_past sums c (pos 0) (let e = h.sums_len in omega arith)) (omega arith))
-    (cases_lt c (v + length eqs + 1))
+    (λ (u : c < v + e + 1). rw (h.summed c u) (let b = total_bound k (2 ^ 62) (λ i. number i c) (λ i. narrow i c) in omega arith))
+    (λ (u : v + e + 1 ≤ c). rw (get_or_past sums c (pos 0) (let q = h.sums_len in omega arith)) (omega arith))
+    (cases_lt c (v + e + 1))
 
 pub row_sum_fits : (a b : ℤ) → unsigned_abs a ≤ 2 ^ 100 → unsigned_abs b ≤ 2 ^ 62 → FitsSigned w128 (a +ℤ b)
 row_sum_fits a b h k = omega (arith, ints)
@@ -99,29 +89,30 @@ whole_part n xs old e l = take-append-le n xs (drop (length xs) old) (omega arit
 -- ---- the first table begins a run
 
 -- the rows of the equations, and then their sums as the objective
-module _ (v : ℕ) (eqs : List Equation) (rows new : List Row) (sums : List ℤ) (row : Row) (is : new ≡ rows ++ row ∷ []) (len : length rows ≡ length eqs)
-    (written : (k c : ℕ) → k < length eqs → cell rows k c ≡ number_at v eqs k c) (summed : (c : ℕ) → c < v + length eqs + 1 → at sums c ≡ total (length eqs) (λ k. number_at v eqs k c))
-    (sums_len : length sums ≡ v + length eqs + 1) (last : (c : ℕ) → number_in row.entries.items c ≡ at sums c) where
-  pub first_within : IsWithin (v + length eqs) (cell new)
-  first_within i c l =
+module _ (v e : ℕ) (number : ℕ → ℕ → ℤ) (rows new : List Row) (sums : List ℤ) (row : Row) (is : new ≡ rows ++ row ∷ []) (built : Built v e number rows sums e)
+    (last : (c : ℕ) → number_in row.entries.items c ≡ at sums c) where
+  pub first_within : ((k c : ℕ) → k < e → v + e < c → number k c ≡ pos 0) → IsWithin (v + e) (cell new)
+  first_within past i c l =
+      let len = built.len in
+      let sums_len = built.sums_len in
       ⊎_elim
-      (λ (u : i < length eqs). cell_push_other rows new row i c is (omega arith) ∙ written i c u ∙ number_past v eqs i c u l)
-      (λ (u : length eqs ≤ i). ⊎_elim
-      (λ (w : length eqs < i). past_rows new i c (rw is (rw (length-append rows (row ∷ [])) (omega arith))))
-      (λ (w : i ≤ length eqs). cell_push_same rows new row i c is (omega arith) ∙ last c ∙ get_or_past sums c (pos 0) (omega arith))
-      (cases_lt (length eqs) i))
-      (cases_lt i (length eqs))
+      (λ (u : i < e). cell_push_other rows new row i c is (omega arith) ∙ built.written i c u ∙ past i c u l)
+      (λ (u : e ≤ i). ⊎_elim
+      (λ (w : e < i). past_rows new i c (rw is (rw (length-append rows (row ∷ [])) (omega arith))))
+      (λ (w : i ≤ e). cell_push_same rows new row i c is (omega arith) ∙ last c ∙ get_or_past sums c (pos 0) (omega arith))
+      (cases_lt e i))
+      (cases_lt i e)
 
-  pub first_in_run : (basis : List ℕ) (limit : ℕ) → ((k : ℕ) → k < length eqs → get_or basis k 0 ≡ v + k)
-      → InRun (record { unknowns = v; equations = length eqs; number = number_at v eqs }) limit 0 (cell new) basis
-  first_in_run basis limit b =
-      let s : LinearSystem = record { unknowns = v; equations = length eqs; number = number_at v eqs } in
+  pub first_in_run : (basis : List ℕ) (limit : ℕ) → IsSystem (system v e number) → ((k : ℕ) → k < e → get_or basis k 0 ≡ v + k)
+      → InRun (system v e number) limit 0 (cell new) basis
+  first_in_run basis limit good b =
+      let len = built.len in
       record {
         before = [];
         run = (
-          first_tableau s (tableau_of s (cell new) basis) (linear_is_system v eqs)
-              (λ i c l m. cell_push_other rows new row i c is (omega arith) ∙ written i c l)
-              (λ c m. cell_push_same rows new row (length eqs) c is (sym len) ∙ last c ∙ summed c (omega arith)) b,
+          first_tableau (system v e number) (tableau_of (system v e number) (cell new) basis) good
+              (λ i c l m. cell_push_other rows new row i c is (omega arith) ∙ built.written i c l)
+              (λ c m. cell_push_same rows new row e c is (sym len) ∙ last c ∙ built.summed c (omega arith)) b,
           b,
         );
         pivots = refl;

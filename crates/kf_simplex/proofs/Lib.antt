@@ -1,6 +1,7 @@
 mod Agreeing
 pub mod Choices
 pub mod CommonFactors
+pub mod Converting
 pub mod Counting
 pub mod Crossing
 mod Deciding

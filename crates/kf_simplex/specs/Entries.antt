@@ -1,5 +1,5 @@
 -- For bodies: a row as its entries by ascending columns.
-use Rattle.std.specs.Prelude.{◌≡◌, ◌≢◌, ℕ, ◌+◌, ◌≤◌, ◌==◌, ℤ, pos, List, [], ◌∷◌, if◌then◌else◌}
+use Rattle.std.specs.Prelude.{◌≡◌, ◌≢◌, ℕ, ◌+◌, ◌<◌, ◌≤◌, ◌==◌, ℤ, pos, List, [], ◌∷◌, length, slice_index_or, if◌then◌else◌}
 use Rattle.std.specs.Coded.{×_prop, Unit-prop, le_prop}
 use Rattle.kf_simplex.specs.declared.row.Entry.{Entry}
 
@@ -20,6 +20,10 @@ Ascends low (e ∷ es) = (low ≤ e.column) × Ascends (e.column + 1) es
 pub Ascends-prop : (low : ℕ) (es : List Entry) → IsProp (Ascends low es)
 Ascends-prop low [] = Unit-prop
 Ascends-prop low (e ∷ es) = ×_prop le_prop (Ascends-prop (e.column + 1) es)
+
+-- no entry stands at this column or past it
+abbrev pub IsRowWithin : ℕ → List Entry → Type 0
+IsRowWithin n es = (j : ℕ) → j < length es → (slice_index_or es j no_entry).column < n
 
 -- entries by ascending columns have x at the column, and nothing before it; the others come after it
 pub record IsTaken (es : List Entry) (column : ℕ) (x : ℤ) (rest : List Entry) : Type 0 where

@@ -1,30 +1,29 @@
-ghost use Rattle.std.specs.Prelude.{◌≡◌, ℕ, ◌+◌, ◌*◌, ◌<◌, ◌≤◌, ◌^◌, ◌+ℤ◌, ℤ, pos, length, slice_index, slice_index_or, unsigned_abs, IfOk};
+ghost use Rattle.std.specs.Prelude.{◌≡◌, ℕ, ◌+◌, ◌*◌, ◌<◌, ◌≤◌, ◌^◌, ◌+ℤ◌, ℤ, pos, length, slice_index, unsigned_abs, IfOk};
 ghost use Rattle.std.specs.List.{All};
 ghost use Rattle.kf_simplex.specs.Base.{at, total};
 ghost use Rattle.kf_simplex.specs.Cells.{AllNarrow};
-ghost use Rattle.kf_simplex.specs.Entries.{no_entry, number_in};
+ghost use Rattle.kf_simplex.specs.Entries.{IsRowWithin, number_in};
 ghost use Rattle.kf_simplex.specs.Flat.{IsWithin, cell};
 ghost use Rattle.kf_simplex.specs.Turns.{InRun};
 ghost use Rattle.kf_simplex.specs.Building.{Built};
-ghost use Rattle.kf_simplex.specs.Views.{entry, linear, number_at};
+ghost use Rattle.kf_simplex.specs.Views.{entry, sparse, sparse_number};
 
 use crate::row::{Entry, Row};
 use crate::table::Table;
-use crate::{Equation, System};
+use crate::{SparseEquation, SparseSystem};
 use std::alloc::{AllocError, Global};
 
 // The table of the first basis, all artificials: the equations themselves, and their sum.
-pub(crate) fn first_table(alloc: Global, s: &System) -> Result<Table, AllocError>
-    requires { (length s.now.rows + 1) * (s.now.unknowns + length s.now.rows + 1) < 4000001 }
-    ensures shape { IfOk result (λ t. (t.unknowns ≡ s.now.unknowns) × (t.equations ≡ length s.now.rows)) }
+pub(crate) fn first_table(alloc: Global, s: SparseSystem) -> Result<Table, AllocError>
+    requires { (length s.rows.items + 1) * (s.unknowns + length s.rows.items + 1) < 4000001 }
+    ensures shape { IfOk result (λ t. (t.unknowns ≡ s.unknowns) × (t.equations ≡ length s.rows.items)) }
     ensures within { IfOk result (λ t. IsWithin (t.unknowns + t.equations) (cell t.rows.items)) }
-    ensures first { IfOk result (λ t. (limit : ℕ) → InRun (linear s.now) limit 0 (cell t.rows.items) t.basis.items) }
+    ensures first { IfOk result (λ t. (limit : ℕ) → InRun (sparse s) limit 0 (cell t.rows.items) t.basis.items) }
 {
     let unknowns = s.unknowns as usize;
-    let list = s.rows.as_slice();
-    let equations = list.len();
+    let equations = s.rows.len();
     let mut sums = zeros(alloc, unknowns + equations + 1)?;
-    let mut rows = equation_rows(alloc, list, unknowns, &mut sums)?;
+    let mut rows = equation_rows(alloc, s.rows, unknowns, &mut sums)?;
     let objective = dense_row(alloc, &sums)?;
     rows.push(objective)?;
     let basis = first_basis(alloc, unknowns, equations)?;
@@ -48,63 +47,48 @@ fn zeros(alloc: Global, count: usize) -> Result<Vec<i128>, AllocError>
 // A row for each equation, and their sums by columns.
 fn equation_rows(
     alloc: Global,
-    equations: &[Equation],
+    list: Vec<SparseEquation>,
     unknowns: usize,
     sums: &mut [i128],
 ) -> Result<Vec<Row>, AllocError>
-    requires len { length sums.old ≡ unknowns + length equations.now + 1 }
+    requires len { length sums.old ≡ unknowns + length list.items + 1 }
     requires small { length sums.old < 4000001 }
-    requires lengths { All (λ q. length q.coefs ≡ unknowns) equations.now }
+    requires within { All (λ q. IsRowWithin unknowns q.coefs.entries.items) list.items }
     requires empty { (c : ℕ) → at sums.old c ≡ pos 0 }
-    ensures { IfOk result (λ rows. Built unknowns equations.now rows.items sums.new (length equations.now)) }
+    ensures { let e = length list.items in IfOk result (λ rows. Built unknowns e (sparse_number unknowns list.items) rows.items sums.new e) }
 {
-    let mut rows = Vec::with_capacity(alloc, equations.len() + 1)?;
-    for k in 0..equations.len() {
-        let equation = &equations[k];
-        let row = equation_row(
-            alloc,
-            equation.coefs.as_slice(),
-            equation.rhs,
-            k,
-            equations.len(),
-        )?;
+    let equations = list.len();
+    let mut rows = Vec::with_capacity(alloc, equations + 1)?;
+    for equation in list {
+        let row = equation_row(equation, rows.len(), unknowns, equations)?;
         add_row(sums, &row);
         rows.push(row)?;
     }
     Ok(rows)
 }
 
-// The row of equation `k`.
+// The row of equation `k`: its entries, with 1 at its artificial column and its right side after them.
 fn equation_row(
-    alloc: Global,
-    coefs: &[i64],
-    rhs: i64,
+    equation: SparseEquation,
     k: usize,
+    unknowns: usize,
     equations: usize,
 ) -> Result<Row, AllocError>
     requires equation { k < equations }
-    requires small { length coefs.now + equations < 4000001 }
-    ensures inside { IfOk result (λ row. (j : ℕ) → j < length row.entries.items → (slice_index_or row.entries.items j no_entry).column ≤ length coefs.now + equations) }
-    ensures numbers { IfOk result (λ row. (c : ℕ) → number_in row.entries.items c ≡ entry (length coefs.now) equations coefs.now rhs k c) }
+    requires small { unknowns + equations < 4000001 }
+    requires within { IsRowWithin unknowns equation.coefs.entries.items }
+    ensures inside { IfOk result (λ row. IsRowWithin (unknowns + equations + 1) row.entries.items) }
+    ensures numbers { IfOk result (λ row. (c : ℕ) → number_in row.entries.items c ≡ entry unknowns equations (number_in equation.coefs.entries.items) equation.rhs k c) }
 {
-    let unknowns = coefs.len();
-    let mut entries = Vec::new(alloc);
-    for j in 0..unknowns {
-        if coefs[j] != 0 {
-            entries.push(Entry {
-                column: j,
-                number: coefs[j] as i128,
-            })?;
-        }
-    }
+    let mut entries = equation.coefs.entries;
     entries.push(Entry {
         column: unknowns + k,
         number: 1,
     })?;
-    if rhs != 0 {
+    if equation.rhs != 0 {
         entries.push(Entry {
             column: unknowns + equations,
-            number: rhs as i128,
+            number: equation.rhs as i128,
         })?;
     }
     Ok(Row { entries })
@@ -113,7 +97,7 @@ fn equation_row(
 // Adds each number of the row to that at its column.
 fn add_row(sums: &mut [i128], row: &Row)
     requires small { length sums.old < 4000001 }
-    requires inside { (j : ℕ) → j < length row.now.entries.items → (slice_index_or row.now.entries.items j no_entry).column < length sums.old }
+    requires inside { IsRowWithin (length sums.old) row.now.entries.items }
     requires narrow { AllNarrow (number_in row.now.entries.items) }
     requires sums { (c : ℕ) → unsigned_abs (at sums.old c) ≤ 2 ^ 100 }
     ensures { (c : ℕ) → c < length sums.old → at sums.new c ≡ at sums.old c +ℤ number_in row.now.entries.items c }

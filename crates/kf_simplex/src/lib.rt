@@ -2,6 +2,7 @@
 #![tactic(auto)]
 
 mod building;
+mod conversion;
 mod laws;
 mod lists;
 mod outcome;
@@ -18,5 +19,6 @@ pub use laws::{
 };
 pub use lists::{FracList, NumberList};
 pub use outcome::{Outcome, SimplexError};
-pub use solving::solve;
-pub use system::{Equation, EquationList, System, cells};
+pub use row::{Entry, Row};
+pub use solving::{solve, solve_sparse};
+pub use system::{Equation, EquationList, SparseEquation, SparseSystem, System, cells};

@@ -1,18 +1,18 @@
 ghost use Rattle.std.specs.Prelude.{◌≡◌, ◌+◌, ◌<◌, [], pos, length, IfSome, MatchOption};
 ghost use Rattle.kf_simplex.specs.Entries.{Ascends, Ascends-prop, IsLeast, number_in};
 
-// A number of a row, and the column at which it stands.
+/// A number of a row, and the column at which it stands.
 #[derive(Clone, Copy)]
-pub(crate) struct Entry {
+pub struct Entry {
     pub column: usize,
     pub number: i128,
 }
 
-// A row of the tableau: its entries by ascending columns. Where no entry stands the number is 0.
+/// A row: its entries by ascending columns. Where no entry stands the number is 0.
 #[derive(Drop)]
-pub(crate) struct Row {
-    pub(crate) entries: Vec<Entry>,
-    pub(crate) ghost ascending: { Ascends 0 entries.items } by { Ascends-prop 0 entries.items },
+pub struct Row {
+    pub entries: Vec<Entry>,
+    pub ghost ascending: { Ascends 0 entries.items } by { Ascends-prop 0 entries.items },
 }
 
 // The least column of two rows, the number of each there, and the entries after it.

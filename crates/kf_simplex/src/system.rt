@@ -1,7 +1,10 @@
 ghost use Rattle.std.specs.Prelude.{◌≡◌, ◌≤◌, ◌^◌, ◌*◌, ◌+◌, ◌<◌, ◌≤ℤ◌, pos, length, unsigned_abs};
 ghost use Rattle.std.specs.List.{All};
+ghost use Rattle.kf_simplex.specs.Cells.{AllNarrow};
+ghost use Rattle.kf_simplex.specs.Entries.{IsRowWithin, number_in};
 
 use crate::NumberList;
+use crate::row::Row;
 use std::marker::Model;
 
 /// One equation: the sum of each coefficient times its unknown is `rhs`.
@@ -52,6 +55,27 @@ pub struct System {
     pub unknowns: u32,
     pub rows: EquationList,
     pub ghost lengths: { All (λ q. length q.coefs ≡ unknowns) rows },
+}
+
+/// One equation by its coefficients that aren't 0.
+#[derive(Drop)]
+pub struct SparseEquation {
+    /// The coefficients by ascending unknowns, at most 2^62 in absolute value.
+    pub coefs: Row,
+    /// The right side, from 0 to 2^62.
+    pub rhs: i64,
+    pub ghost narrow: { AllNarrow (number_in coefs.entries.items) },
+    pub ghost not_negative: { pos 0 ≤ℤ rhs },
+    pub ghost rhs_narrow: { unsigned_abs rhs ≤ 2 ^ 62 },
+}
+
+/// A system of equations that have few coefficients each, over unknowns that must not be negative.
+#[derive(Drop)]
+pub struct SparseSystem {
+    /// How many unknowns there are.
+    pub unknowns: u32,
+    pub rows: Vec<SparseEquation>,
+    pub ghost within: { All (λ q. IsRowWithin unknowns q.coefs.entries.items) rows.items },
 }
 
 /// How many cells the tableau of a system with so many unknowns and equations has.

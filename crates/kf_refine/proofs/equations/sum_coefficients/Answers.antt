@@ -1,27 +1,23 @@
-use Rattle.std.proofs.Common.{◌+◌, ◌*◌, ◌<◌, arith}
-use Rattle.kf_refine.proofs.Coefficients.{within, ones_none, ones_more, ones_all}
-use Rattle.kf_refine.proofs.equations.sum_coefficients.Goals.{In-loop-l}
+use Rattle.std.proofs.Common.{◌+◌, ◌*◌, arith}
+use Rattle.kf_simplex.proofs.Entries.{made_ascends}
+use Rattle.kf_refine.proofs.Coefficients.{IsOne, ones_none, ones_more, ones_all, ones_within}
 use Rattle.kf_refine.proofs.equations.sum_coefficients.Goals as goal
 
-pub returns : goal.returns
-returns c =
-    ones_all c.args.rows c.args.columns c.args.p c.loop-l.l c.loop-l.coefs.items (omega arith) (omega arith) c.requires.inner c.loop-l.invariant
-
 pub loop-l-init : goal.loop-l-init
-loop-l-init c = ones_none c.args.rows c.args.columns c.args.p c.in_ok-coefs.coefs.items (c.in_ok-coefs.ensures.items_if_clones_equal (λ y h. h))
-
-place : (c : In-loop-l) → c.args.p * c.args.columns + c.loop-l.l < c.args.rows * c.args.columns
-place c = within c.args.rows c.args.columns c.args.p c.loop-l.l c.requires.inner c.loop-l-test.true
-
-pub overflow_mul-p : goal.overflow_mul-p
-overflow_mul-p c = omega (arith, place (goal.at.overflow_mul-p c).In-loop-l, c.requires.few)
-
-pub overflow_add-p : goal.overflow_add-p
-overflow_add-p c = omega (arith, place (goal.at.overflow_add-p c).In-loop-l, c.requires.few)
-
-pub index_mut-requires : goal.index_mut-requires
-index_mut-requires c = rw (c.loop-l.coefs.ok.0, c.loop-l.invariant.many) (place (goal.at.index_mut-requires c).In-loop-l)
+loop-l-init c = rw c.in_ok-entries.ensures.items (ones_none c.args.columns c.args.p c.requires.some)
 
 pub loop-l-preserved : goal.loop-l-preserved
-loop-l-preserved c = ones_more c.args.rows c.args.columns c.args.p c.loop-l.l c.loop-l.coefs.items c.requires.inner c.loop-l-test.true
+loop-l-preserved c =
+    ones_more c.args.columns c.args.p c.requires.some c.loop-l.l c.loop-l.entries.items c.push.new.self.items c.loop-l-test.true c.in_ok-push.ensures.items
     c.loop-l.invariant
+
+pub invariant_of-result : goal.invariant_of-result
+invariant_of-result c = record {
+  ascending = made_ascends (IsOne c.args.columns c.args.p) (c.args.p * c.args.columns + c.loop-l.l) c.loop-l.entries.items c.loop-l.invariant;
+}
+
+pub returns-clause-within : goal.returns-clause-within
+returns-clause-within c = ones_within c.args.columns c.args.p c.requires.some c.loop-l.l c.loop-l.entries.items (omega arith) c.loop-l.invariant
+
+pub returns-clause-numbers : goal.returns-clause-numbers
+returns-clause-numbers c = ones_all c.args.columns c.args.p c.requires.some c.loop-l.l c.loop-l.entries.items (omega arith) c.loop-l.invariant

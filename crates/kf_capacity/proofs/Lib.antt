@@ -1,3 +1,4 @@
+pub mod HyperCapacity
 pub mod Cases
 pub mod Channels
 mod Choices
@@ -5,6 +6,8 @@ pub mod Denominators
 mod Digits
 mod Dividing
 mod Fitting
+mod Inners
+pub mod HyperSums
 mod Named
 mod OwnDenominators
 mod Paired

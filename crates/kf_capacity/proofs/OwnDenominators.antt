@@ -47,7 +47,7 @@ positive_divisor : (d n : ℕ) → 0 < n → d ∣ n → 0 < d
 positive_divisor zero n some h = absurd (omega (arith, some, dvd_antisymm (dvd-zero n) h))
 positive_divisor (suc d) n some h = omega arith
 
-positive_factor : (q d n : ℕ) → q * d ≡ n → 0 < n → 0 < q
+pub positive_factor : (q d n : ℕ) → q * d ≡ n → 0 < n → 0 < q
 positive_factor zero d n is some = omega arith
 positive_factor (suc q) d n is some = omega arith
 
@@ -114,7 +114,7 @@ parts_below n a e within = omega (arith, mul-le-mul_right (n / e) within, mul-di
 
 -- ---- all secrets of a channel
 
-same_maps : {X Y : Type 0} (f g : X → Y) (xs : List X) → All (λ x. f x ≡ g x) xs → map f xs ≡ map g xs
+pub same_maps : {X Y : Type 0} (f g : X → Y) (xs : List X) → All (λ x. f x ≡ g x) xs → map f xs ≡ map g xs
 same_maps f g [] all = refl
 same_maps f g (x ∷ xs) all = λ i. All-head (λ x. f x ≡ g x) x xs all i ∷ same_maps f g xs (All-tail (λ x. f x ≡ g x) x xs all) i
 

@@ -10,3 +10,4 @@ pub mod Laws
 pub mod Shapes
 pub mod Views
 pub mod Vulnerabilities
+pub mod Beliefs

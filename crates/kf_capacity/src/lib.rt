@@ -1,6 +1,7 @@
 //! Bayes capacities of channels, and channels put one behind the other, side by side, or one or the other.
 #![tactic(auto)]
 
+mod beliefs;
 mod capacities;
 mod channel_grid;
 mod column;
@@ -20,6 +21,7 @@ mod values;
 mod visible_choice;
 mod weights;
 
+pub use beliefs::capacity_of_hyper;
 pub use capacities::capacity;
 pub use channel_grid::grid_of;
 pub use error::{CascadeFault, ChoiceFault, GridFault, ParallelFault};

@@ -25,4 +25,4 @@ pub struct Channel {
 mod of_table;
 mod readers;
 
-pub use of_table::channel_of;
+pub use of_table::{channel_of, is_initial};

@@ -1,17 +1,26 @@
 -- Capacities: which grids aren't too wide, and what the steps of their commands come to.
-use Rattle.std.proofs.Common.{◌≡◌, ◌≢◌, ℕ, ◌<◌, ◌≤◌, ◌&&◌, nat_le, le-leb, codes, List, [], Bool, true, false, Result, Ok, Err, refl, sym, ◌∙◌, ap, subst, inl, inr, ⊎_elim, if◌then◌else◌}
+use Rattle.std.proofs.Common.{◌≡◌, ◌≢◌, ℕ, ◌<◌, ◌≤◌, ◌&&◌, All, Option, None, Some, IfSome, pos, nat_le, le-leb, codes, List, [], Bool, true, false, Result, Ok, Err, refl, sym, ◌∙◌, ap, subst, inl, inr, ⊎_elim, if◌then◌else◌}
 use Rattle.std.proofs.lemmas.Bool.{cases_lt, lt-leb}
 use Rattle.kf_frac.specs.Fractions.{limit}
 use Rattle.kf_value.specs.Targets.{Item}
+use Rattle.kf_frac.specs.declared.frac.Frac.{Frac}
+use Rattle.kf_frac.specs.Parts.{IsFraction}
+use Rattle.kf_column.specs.Columns.{IsColumn}
+use Rattle.kf_column.specs.Hypers.{Inner}
+use Rattle.kf_column.specs.Traces.{Row}
+use Rattle.kf_capacity.specs.Beliefs.{IsWholeIn, belief_capacity}
 use Rattle.kf_capacity.specs.Grids.{ChannelTree, GridTree, capacity_of, channel_grid}
+use Rattle.kf_capacity.proofs.HyperCapacity.{capacity_narrow, over_narrow, same_capacity, values_are_secrets}
 use Rattle.kf_capacity.specs.Compositions.{ComposeFault}
-use Rattle.kf_channel.specs.Channels.{all_initial}
+use Rattle.kf_channel.specs.Channels.{AreSecrets, all_initial}
+use Rattle.kf_core.specs.Joint.{joint_of}
 use Rattle.kf_core.specs.Programs.{ProgramTree}
+use Rattle.kf_core.specs.Rows.{IsHyperOf}
 use Rattle.kf_load.specs.Steps.{Refused, Step, After, Gives, refusal}
 use Rattle.kf_text.specs.CapacityTexts.{algebra_text, capacity_text}
-use Rattle.kf_top.specs.Answer.{Composed, ComposedIn, Shown, initial, is_narrow, prints, wide_channel, composed_grid}
+use Rattle.kf_top.specs.Answer.{Composed, ComposedIn, IsChannelTree, Shown, initial, is_narrow, prints, wide_channel, composed_grid}
 use Rattle.kf_top.specs.Steps.{CapacityIn, algebra_shown}
-use Rattle.kf_top.specs.CapacityViews.{ChannelIn, narrow_grid}
+use Rattle.kf_top.specs.CapacityViews.{CapacityAnswers, ChannelIn, narrow_grid}
 use Rattle.kf_top.specs.Stops.{Answers, Stopped}
 use Rattle.kf_top.specs.Views.{shown}
 use Rattle.kf_top.specs.declared.refusal.Done.{Done}
@@ -85,6 +94,30 @@ module _ (turns : ℕ) (p : ProgramTree) where
         → After (Gives (initial p)) (CapacityIn turns) (prints bytes)
     capacity_prints narrow bytes text =
         (p, its.0, (c, its.1, ap prints text ∙ ap (λ b. if b then prints (capacity_text (channel_grid c)) else Err wide_channel) (sym narrow)))
+
+  -- the capacity that the inners of the hyper tell
+  pub belief_tells : (inners : List Inner) (n : ℕ) (f : Frac) → IsHyperOf (joint_of turns p) inners → IsWholeIn inners n → IsFraction f (pos (belief_capacity n inners)) n
+      → (c : ChannelTree) × IsChannelTree turns p c × CapacityAnswers (Ok f) (channel_grid c)
+  belief_tells inners n f hyper whole fraction =
+      let rows : List Row = hyper.rows in
+      let are : All (λ (r : Row). IsColumn r.column) rows = hyper.are_rows.columns in
+      let listed : AreSecrets rows whole.values = values_are_secrets rows inners n are hyper.is_hyper whole in
+      let c : ChannelTree = record { target = p.target; rows = rows; secrets = whole.values } in (
+        c,
+        record { target = refl; rows = hyper.are_rows; secrets = listed },
+        (
+          narrow_is (channel_grid c) (over_narrow p.target rows inners whole.values n are hyper.is_hyper listed whole)
+              (capacity_narrow p.target rows inners whole.values n are hyper.is_hyper listed whole),
+          same_capacity p.target rows inners whole.values n are hyper.is_hyper listed whole f fraction,
+        ),
+      )
+
+  -- where they tell one
+  pub beliefs_tell : (inners : List Inner) → IsHyperOf (joint_of turns p) inners → (found : Option Frac)
+      → IfSome found (λ f. (n : ℕ) × IsWholeIn inners n × IsFraction f (pos (belief_capacity n inners)) n)
+      → IfSome found (λ f. (c : ChannelTree) × IsChannelTree turns p c × CapacityAnswers (Ok f) (channel_grid c))
+  beliefs_tell inners hyper None none = none
+  beliefs_tell inners hyper (Some f) (n, whole, fraction) = belief_tells inners n f hyper whole fraction
 
 -- ---- three capacities
 

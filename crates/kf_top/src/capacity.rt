@@ -1,12 +1,12 @@
 //! The capacities of channels, and of what is put together of two.
 
-ghost use Rattle.std.specs.Prelude.{◌≡◌, ◌<◌, IfErr};
+ghost use Rattle.std.specs.Prelude.{◌≡◌, ◌<◌, Ok, IfErr, IfOk, IfSome};
 ghost use Rattle.kf_load.specs.Views.{program_in};
 ghost use Rattle.kf_support.specs.Cleared.{turns_of};
-ghost use Rattle.kf_capacity.specs.Grids.{channel_grid};
+ghost use Rattle.kf_capacity.specs.Grids.{ChannelTree, channel_grid};
 ghost use Rattle.kf_capacity.specs.Views.{channel_tree, grid_tree};
 ghost use Rattle.kf_load.specs.Steps.{After, Gives};
-ghost use Rattle.kf_top.specs.Answer.{Composed, ComposedIn, initial};
+ghost use Rattle.kf_top.specs.Answer.{Composed, ComposedIn, IsChannelTree, initial};
 ghost use Rattle.kf_top.specs.Steps.{CapacityIn, algebra_shown};
 ghost use Rattle.kf_top.specs.CapacityViews.{way_of, CapacityAnswers, ChannelIn};
 ghost use Rattle.kf_words.specs.Task.{Cascade, Choice, Compose, Parallel};
@@ -16,15 +16,17 @@ ghost use Rattle.kf_words.specs.Jobs.{IsInRange};
 
 use crate::refusal::{Done, Refusal, Stop, beside};
 use kf_capacity::{
-    CascadeFault, ChoiceFault, Grid, GridFault, ParallelFault, capacity as grid_capacity, cascade,
-    choice, grid_of, parallel,
+    CascadeFault, ChoiceFault, Grid, GridFault, ParallelFault, capacity as grid_capacity,
+    capacity_of_hyper, cascade, choice, grid_of, parallel,
 };
-use kf_channel::{Channel, ChannelError, channel_of};
+use kf_channel::{Channel, ChannelError, channel_of, is_initial};
 use kf_frac::Frac;
 use kf_load::Pair;
+use kf_run::hyper_of;
 use kf_support::Cleared;
 use kf_text::{algebra_text, capacity_text};
 use kf_traces::table;
+use kf_value::Mem;
 use std::alloc::Global;
 
 /// How two channels are put together.
@@ -74,8 +76,18 @@ fn capacity_of_channel<'a>(alloc: Global, channel: &Channel) -> Result<Frac, Sto
     }
 }
 
-/// The Bayes capacity of the channel of a cleared program.
-pub(crate) fn capacity<'a>(alloc: Global, cleared: &Cleared) -> Result<Done, Stop<'a>>
+// The capacity of a program's channel from the inners of the program's hyper, where they tell it: no trace is kept.
+fn belief_capacity(alloc: Global, cleared: &Cleared) -> Result<Option<Frac>, Mem>
+    ensures { IfOk result (λ found. IfSome found (λ f. (c : ChannelTree) × IsChannelTree (turns_of cleared.now) (program_in cleared.now) c
+        × CapacityAnswers (Ok f) (channel_grid c))) }
+{
+    let hyper = hyper_of(alloc, cleared)?;
+    let found = capacity_of_hyper(alloc, &hyper)?;
+    Ok(found)
+}
+
+// The printed capacity of a program's channel, from its traces.
+fn trace_capacity<'a>(alloc: Global, cleared: &Cleared) -> Result<Done, Stop<'a>>
     ensures answer { Answers shown result (After (Gives (initial (program_in cleared.now))) (CapacityIn (turns_of cleared.now))) }
     ensures read { IfErr result IsOwn }
 {
@@ -83,6 +95,23 @@ pub(crate) fn capacity<'a>(alloc: Global, cleared: &Cleared) -> Result<Done, Sto
     let capacity = capacity_of_channel(alloc, &channel)?;
     let bytes = capacity_text(alloc, capacity)?;
     Ok(Done { yes: true, bytes })
+}
+
+/// The Bayes capacity of the channel of a cleared program.
+pub(crate) fn capacity<'a>(alloc: Global, cleared: &Cleared) -> Result<Done, Stop<'a>>
+    ensures answer { Answers shown result (After (Gives (initial (program_in cleared.now))) (CapacityIn (turns_of cleared.now))) }
+    ensures read { IfErr result IsOwn }
+{
+    if !is_initial(cleared.program().target.items.as_slice()) {
+        return Err(Stop::Refused(Refusal::NotInitial));
+    }
+    match belief_capacity(alloc, cleared)? {
+        Some(capacity) => {
+            let bytes = capacity_text(alloc, capacity)?;
+            Ok(Done { yes: true, bytes })
+        }
+        None => trace_capacity(alloc, cleared),
+    }
 }
 
 // One channel after the other.

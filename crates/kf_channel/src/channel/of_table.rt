@@ -11,8 +11,8 @@ use kf_hyper::TraceTable;
 use kf_value::TargetItem;
 use std::alloc::Global;
 
-// Whether each variable is read before the statements.
-fn is_initial(items: &[TargetItem]) -> bool
+/// Whether each variable is read before the statements, so that there is a channel from their values.
+pub fn is_initial(items: &[TargetItem]) -> bool
     ensures { result ≡ list_all (λ i. i.initial) items.now }
 {
     items.iter().all(|item| item.initial)

@@ -1,4 +1,4 @@
-ghost use Rattle.std.specs.Prelude.{◌<◌};
+ghost use Rattle.std.specs.Prelude.{◌<◌, IsUtf8};
 
 use crate::cases::Case;
 use crate::errors::CaseError;
@@ -112,7 +112,9 @@ fn try_cases(
     name: &str,
     text: &str,
     tally: &mut Tally,
-) -> io::Result<u64> {
+) -> io::Result<u64>
+    ensures { 0 < tally.old.differ → 0 < tally.new.differ }
+{
     let mut number = 0u64;
     let mut cases = text.split("\ncase ");
     if !cases.next().is_some_and(is_head) {
@@ -125,13 +127,16 @@ fn try_cases(
     Ok(number)
 }
 
-/// Runs the cases of a file. One that isn't whole counts as a case that differs.
+/// Runs the cases of a file, and counts them. One that isn't whole counts as a case that differs.
 pub fn try_file(
     rt: &(impl Print + AllocGlobal),
     name: &str,
     bytes: &[u8],
     tally: &mut Tally,
-) -> io::Result<()> {
+) -> io::Result<()>
+    ensures kept { 0 < tally.old.differ → 0 < tally.new.differ }
+    ensures no_text { ¬ (IsUtf8 bytes.now) → 0 < tally.new.differ }
+{
     let Ok(text) = str::from_utf8(bytes) else {
         return not_run(rt, name, CaseError::Unreadable, tally);
     };

@@ -9,6 +9,7 @@
  *   memory      the words are a program and its words: prints below its answer the kilobytes that it held at most. (A process's peak
  *               has that of the one which starts it; this one is small) */
 #include "../include/kuifje.h"
+#include "allocations.h"
 #include <pthread.h>
 #include <stdio.h>
 #include <stdlib.h>
@@ -26,43 +27,6 @@ static struct kuifje_span words[MOST_WORDS];
 static struct kuifje_file files[MOST_WORDS];
 static struct kuifje_lengths whole;
 static int status;
-
-/* ---- malloc and its friends, as the linker's --wrap has them: one of them may be refused, and what is kept is counted */
-
-void *__real_malloc(size_t size);
-void *__real_realloc(void *block, size_t size);
-void __real_free(void *block);
-static long asked, refused, kept;
-static __thread int counts;
-
-void *__wrap_malloc(size_t size)
-{
-    if (!counts)
-        return __real_malloc(size);
-    if (++asked == refused)
-        return NULL;
-    void *block = __real_malloc(size);
-    kept += block != NULL;
-    return block;
-}
-
-void *__wrap_realloc(void *block, size_t size)
-{
-    if (!counts)
-        return __real_realloc(block, size);
-    if (++asked == refused)
-        return NULL;
-    void *moved = __real_realloc(block, size);
-    kept += block == NULL && moved != NULL;
-    return moved;
-}
-
-void __wrap_free(void *block)
-{
-    if (counts)
-        kept -= block != NULL;
-    __real_free(block);
-}
 
 /* ---- the question */
 

@@ -4,8 +4,10 @@
     python3 hostile/library.py [--quick] [--library lib/libkuifje.a] [--program bin/kuifje]
 
 Twenty-five questions and a dozen bad calls, the cases of crates/kf_cases, buffers of every length, many calls, eight threads, each allocation
-refused in turn, and what valgrind finds. Without --quick all of the cases, a million calls, every command of the pages, and memory beside the
-program's. Ends with 1 where a trial isn't passed. What needs a C compiler or valgrind is left out where there is none, and says so."""
+refused in turn, and what valgrind finds. Then kuifje_ask of include/kuifje_ask.h: the same questions and cases, one for each status, answers that
+are longer than its first buffers, and the trials of hostile/ask.c, by themselves, in valgrind and with the compiler's sanitizers. Without
+--quick all of the cases, a million calls, every command of the pages, and memory beside the program's. Ends with 1 where a trial isn't passed. What
+needs a C compiler, valgrind or the sanitizers is skipped where there is none, and says so."""
 import argparse
 import ctypes
 import importlib.machinery
@@ -19,8 +21,10 @@ from pathlib import Path
 
 TOP = Path(__file__).resolve().parent.parent
 EXAMPLES = TOP / "examples"
-WRAPPED = ["-Wl,--wrap=malloc", "-Wl,--wrap=realloc", "-Wl,--wrap=free"]
+COMPILER = os.environ.get("CC", "cc")
+ALLOCATIONS = [TOP / "hostile" / "allocations.c", "-fno-builtin", "-Wl,--wrap=malloc", "-Wl,--wrap=realloc", "-Wl,--wrap=free"]
 WARNINGS = ["-std=c11", "-D_GNU_SOURCE", "-O1", "-Wall", "-Wextra", "-Werror"]
+SANITIZERS = ["-g", "-fsanitize=address,undefined", "-fno-sanitize-recover=all"]
 
 QUESTIONS = [line.split() for line in """
 hyper examples/guard.kf
@@ -58,6 +62,25 @@ LARGE = {
     "many_stores.kf": ("leak --gain guessing", "var x : 0..65535 := uniform 0..65535;\nvar y : 0..3 := uniform 0..3;\nobserve (x + y) mod 7;\n"),
     "many_rows.kf": ("capacity", "var x : 0..1023 := uniform 0..1023;\nabout old x;\nobserve x div 2;\nobserve choose { x mod 2 : 3, 1 : 1 };\n"),
 }
+# What kuifje_ask is asked beside these: the status, how often it has to run the program, the words, and the files' texts by their names.
+COIN = "var x : bool := flip 1/2;\n"
+ASKED = [
+    (0, 1, "hyper a.kf", {"a.kf": COIN}),
+    (0, 2, "hyper a.kf", {"a.kf": LARGE["many_inners.kf"][1]}),
+    (0, 2, "traces a.kf", {"a.kf": LARGE["many_traces.kf"][1]}),
+    (1, 1, "refine a.kf b.kf", {"a.kf": COIN, "b.kf": COIN + "observe x;\n"}),
+    (2, 1, "hyper a.kf b.kf", {"a.kf": COIN, "b.kf": COIN}),
+    (3, 1, "hyper a.kf", {"b.kf": COIN}),
+    (3, 2, "hyper " + "a" * 5_000, {}),
+    (5, 1, "hyper a.kf", {"a.kf": "var x"}),
+    (6, 1, "hyper a.kf", {"a.kf": "var x : 0..1 := 0;\nobserve 1 div x;\n"}),
+    (7, 1, "hyper a.kf", {"a.kf": COIN + "observe flip 1/999999999;\n" * 5}),
+    (8, 1, "covers a.kf a.kf", {"a.kf": "var x : 0..65535 := 0;\n"}),
+    (9, 1, "leak a.kf --gain table:b.json", {"a.kf": COIN, "b.json": "{}"}),
+    (10, 1, "channel a.kf", {"a.kf": COIN}),
+    (11, 1, "hyper a.kf", {"a.kf": "#" * ((1 << 20) + 1)}),
+    (13, 1, "quiet a.kf 0..2", {"a.kf": COIN + "observe x;\n"}),
+]
 SLACK = 512  # kilobytes: what is loaded of the two programs themselves, by pages
 
 # What takes stack: expressions and blocks as deep as a text may have them, and a type, a set and a choice that are nested.
@@ -85,8 +108,19 @@ class Lengths(ctypes.Structure):
     _fields_ = [("out", ctypes.c_size_t), ("err", ctypes.c_size_t)]
 
 
+class NamedFile(ctypes.Structure):
+    _fields_ = [("name", ctypes.c_char_p), ("bytes", ctypes.c_char_p), ("length", ctypes.c_size_t)]
+
+
+class Answer(ctypes.Structure):
+    _fields_ = [("status", ctypes.c_int), ("out", ctypes.c_void_p), ("out_length", ctypes.c_size_t),
+                ("err", ctypes.c_void_p), ("err_length", ctypes.c_size_t), ("memory", ctypes.c_void_p)]
+
+
 class Library:
     """The shared library, called by ctypes."""
+
+    badly_called, takes_zeros = (64, b"", b""), True
 
     def __init__(self, path):
         self.call = ctypes.CDLL(str(path)).kuifje_run
@@ -112,6 +146,52 @@ class Library:
             text += piece
         pairs = spans[len(words):]
         return self.ask_spans(text, spans[:len(words)], list(zip(pairs[::2], pairs[1::2])), room)
+
+
+class Asked:
+    """kuifje_ask as hostile/ask.c compiles it in this folder, called by ctypes."""
+
+    badly_called, takes_zeros = (64, b"", b"kuifje: a word or a name is null or isn't UTF-8\n"), False
+
+    def __init__(self, folder, archive):
+        self.folder, self.archive = folder, archive
+        self.functions = ctypes.CDLL(str(self.compiled("ask.so", "-shared", "-fPIC")))
+        self.functions.runs_of.restype = ctypes.c_size_t
+        self.functions.asked_of.argtypes = [ctypes.c_size_t, ctypes.POINTER(ctypes.c_char_p), ctypes.POINTER(NamedFile), ctypes.c_size_t,
+                                            ctypes.POINTER(Answer)]
+
+    def compiled(self, name, *options):
+        path = self.folder / name
+        sources = [TOP / "hostile" / "ask.c", *ALLOCATIONS, "-Wl,--wrap=kuifje_run", self.archive]
+        subprocess.run([COMPILER, *WARNINGS, "-Wpedantic", "-Wconversion", *options, *sources, "-o", path], check=True)
+        return path
+
+    def ask(self, words, files):
+        """Status, out and err; both texts have to end in a 0."""
+        answer, named = Answer(), (NamedFile * len(files))(*(NamedFile(name, text, len(text)) for name, text in files))
+        status = self.functions.asked_of(len(words), (ctypes.c_char_p * len(words))(*words), named, len(files), ctypes.byref(answer))
+        out, err = (ctypes.string_at(at, length + 1) for at, length in ((answer.out, answer.out_length), (answer.err, answer.err_length)))
+        self.functions.freed(ctypes.byref(answer))
+        must(status == answer.status and out[-1] == err[-1] == 0, f"kuifje_ask of {words}: another status, or no 0 at the end")
+        return status, out[:-1], err[:-1]
+
+    def trials(self):
+        """Those of hostile/ask.c, by themselves and by what finds faults of memory."""
+        ways, lacks = {"by themselves": [self.compiled("ask")]}, ""
+        if shutil.which("valgrind"):
+            ways["in valgrind"] = ["valgrind", "-q", "--error-exitcode=99", "--leak-check=full", self.folder / "ask"]
+        else:
+            lacks += "; valgrind is skipped, since it isn't here"
+        empty = subprocess.run([COMPILER, *SANITIZERS, "-x", "c", "-", "-o", self.folder / "empty"], input=b"int main(void) { return 0; }",
+                               capture_output=True, check=False)
+        if empty.returncode == 0:
+            ways["with sanitizers"] = [self.compiled("ask-sanitized", *SANITIZERS)]
+        else:
+            lacks += f"; the sanitizers are skipped, since {COMPILER} has none"
+        for way, command in ways.items():
+            done = subprocess.run(command, stdin=subprocess.DEVNULL, capture_output=True, check=False)
+            must(done.returncode == 0, f"kuifje_ask {way}: {done.stderr.decode()}")
+        return f"kuifje_ask: trials passed {', '.join(ways)}; {done.stdout.decode().strip().replace(chr(10), '; ')}{lacks}"
 
 
 def bad_calls(library):
@@ -145,8 +225,7 @@ class Trials:
 
     def __init__(self, folder, archive):
         self.program = str(folder / "kuifje")
-        compiler = os.environ.get("CC", "cc")
-        subprocess.run([compiler, *WARNINGS, TOP / "hostile" / "library.c", archive, *WRAPPED, "-pthread", "-o", self.program], check=True)
+        subprocess.run([COMPILER, *WARNINGS, TOP / "hostile" / "library.c", *ALLOCATIONS, archive, "-pthread", "-o", self.program], check=True)
 
     def ask(self, words, trial=None, before=()):
         environment = {"PATH": "/usr/bin:/bin", "LC_ALL": "C.UTF-8"} | ({"TRIAL": trial} if trial else {})
@@ -162,7 +241,7 @@ class Trials:
 
     def valgrind(self, questions):
         if shutil.which("valgrind") is None:
-            return "valgrind isn't here: left out"
+            return "valgrind is skipped, since it isn't here"
         for words in questions:
             plain = self.ask(words)
             done = self.ask(words, None, ["valgrind", "-q", "--error-exitcode=99", "--leak-check=no"])
@@ -179,6 +258,21 @@ def beside(library, program):
         told = library.ask([b"kuifje", *(word.encode() for word in words)], files)
         must(told == (done.returncode, done.stdout, done.stderr), f"{' '.join(words)}: the library {told}, the program {done}")
     return f"{len(QUESTIONS)} questions as the program answers them"
+
+
+def statuses(asked, program, folder):
+    """A question for each status by the program and by kuifje_ask, and how often kuifje_ask runs the program for it."""
+    for at, (status, runs, question, texts) in enumerate(ASKED):
+        place, words = folder / f"asked{at}", question.split()
+        place.mkdir()
+        for name, text in texts.items():
+            (place / name).write_text(text)
+        done = subprocess.run([program, *words], cwd=place, stdin=subprocess.DEVNULL, capture_output=True, check=False)
+        told = asked.ask([b"kuifje", *(word.encode() for word in words)], [(name.encode(), text.encode()) for name, text in texts.items()])
+        must(done.returncode == status, f"{question}: the program ends with {done.returncode} in place of {status}")
+        must(told == (status, done.stdout, done.stderr), f"{question}: kuifje_ask gives {told[0]} and {told[2]}, or another answer than the program")
+        must(asked.functions.runs_of() == runs, f"{question}: kuifje_ask runs the program {asked.functions.runs_of()} times in place of {runs}")
+    return f"{len(ASKED)} questions for {len({row[0] for row in ASKED})} statuses as the program answers them"
 
 
 def is_text(bytes_):
@@ -200,19 +294,21 @@ def reads_of_cases():
 
 
 def cases(library, few):
-    """The cases of crates/kf_cases. A library has no reads and no writes that fail, and no sink with too little room: such cases are left out."""
+    """The cases of crates/kf_cases. A library has no reads and no writes that fail, and no sink with too little room: such cases are left out, and
+    so are those with a byte of 0 in a word or a name, where the call doesn't take it."""
     reads, asked, left_out = reads_of_cases(), 0, 0
     for path in sorted((TOP / "crates" / "kf_cases" / "data").iterdir())[::8 if few else 1]:
         for case in reads.cases_of(path.read_text(encoding="utf-8")):
-            if any(case[key] for key in reads.NUMBERS) or len(case["out"]) >= case["out_room"] or len(case["err"]) >= case["err_room"]:
+            pieces = [*case["argv"], *(name for name, _ in case["files"])]
+            fails = any(case[key] for key in reads.NUMBERS) or len(case["out"]) >= case["out_room"] or len(case["err"]) >= case["err_room"]
+            if fails or not library.takes_zeros and any(b"\0" in piece for piece in pieces):
                 left_out += 1
                 continue
             asked += 1
-            texts = all(map(is_text, [*case["argv"], *(name for name, _ in case["files"])]))
-            wanted = (case["status"], case["out"], case["err"]) if texts else (64, b"", b"")
+            wanted = (case["status"], case["out"], case["err"]) if all(map(is_text, pieces)) else library.badly_called
             told = library.ask(case["argv"], case["files"])
             must(told == wanted, f"{path.name}, {case['name']}: {told}, where {wanted} is wanted")
-    return f"{asked} cases as they have it, {left_out} left out, since something fails in them"
+    return f"{asked} cases as they have it, {left_out} left out"
 
 
 def most_memory(trials, command):
@@ -267,8 +363,8 @@ def main():
     print(bad_calls(library), flush=True)
     print(beside(library, asked.program.resolve()), flush=True)
     print(cases(library, asked.quick), flush=True)
-    if shutil.which(os.environ.get("CC", "cc")) is None:
-        print("no C compiler: the other trials are left out")
+    if shutil.which(COMPILER) is None:
+        print("the other trials are skipped, since there is no C compiler")
         return
     with tempfile.TemporaryDirectory() as scratch:
         trials = Trials(Path(scratch), asked.library.resolve())
@@ -277,6 +373,11 @@ def main():
         print(trials.pass_all(f"threads {100 if asked.quick else 2_000}", QUESTIONS[:few]), flush=True)
         print(trials.pass_all("refusals", [QUESTIONS[at] for at in (0, 9, 16)]), flush=True)
         print(trials.valgrind(QUESTIONS[:few]), flush=True)
+        ask = Asked(Path(scratch), asked.library.resolve())
+        print(f"kuifje_ask: {beside(ask, asked.program.resolve())}", flush=True)
+        print(f"kuifje_ask: {cases(ask, asked.quick)}", flush=True)
+        print(f"kuifje_ask: {statuses(ask, asked.program.resolve(), Path(scratch))}", flush=True)
+        print(ask.trials(), flush=True)
         if not asked.quick:
             print(memory(trials, asked.program.resolve(), Path(scratch)), flush=True)
             print(stack(trials, Path(scratch)), flush=True)

@@ -1,4 +1,4 @@
-"""Memory: one call of `malloc` refused, the first, the second and so on, by stopping the program there (Linux on x86-64)."""
+"""Memory: one call of `malloc` or `realloc` refused, the first, the second and so on, by stopping the program there (Linux on x86-64)."""
 import ctypes
 import os
 import platform
@@ -14,6 +14,7 @@ REGISTERS, RAX, RIP, RSP = 27, 10, 16, 19
 ENTRY_POINT = 9
 BREAKPOINT, NOTHING_DONE = b"\xcc", b"\xf3\x0f\x1e\xfa"
 DYNAMIC_SYMBOLS = 11
+ALLOCATIONS = (b"malloc", b"realloc")
 
 libc = ctypes.CDLL(None, use_errno=True)
 libc.ptrace.argtypes = [ctypes.c_long, ctypes.c_long, ctypes.c_void_p, ctypes.c_void_p]
@@ -48,7 +49,7 @@ def symbol_offset(path, name):
 
 
 class Stopped:
-    """A program that is stopped before its first step, and then at each call of `malloc`."""
+    """A program that is stopped before its first step, and then where it, or what it has loaded, calls `malloc` or `realloc`."""
 
     def __init__(self, pid):
         self.pid = pid
@@ -56,9 +57,11 @@ class Stopped:
         self.wait()
         self.memory = os.open(f"/proc/{pid}/mem", os.O_RDWR)
         self.run_to(self.entry_point())
-        self.malloc = self.address_of(b"malloc")
-        self.first_bytes = os.pread(self.memory, 4, self.malloc)
-        os.pwrite(self.memory, BREAKPOINT, self.malloc)
+        self.first_bytes = {}
+        for name in ALLOCATIONS:
+            address = self.address_of(name)
+            self.first_bytes[address] = os.pread(self.memory, 4, address)
+            os.pwrite(self.memory, BREAKPOINT, address)
 
     def wait(self):
         """The status with which the program has ended, or None where it is only stopped."""
@@ -94,23 +97,24 @@ class Stopped:
         self.write_registers()
 
     def run_to_call(self):
-        """Runs to the next call of `malloc`: None, or the status with which the program has ended before."""
+        """Runs to the next call: None, or the status with which the program has ended before."""
         trace(CONTINUE, self.pid)
         return self.wait()
 
     def pass_call(self):
         """Lets the call begin as if nothing stood there."""
         self.read_registers()
-        if self.first_bytes == NOTHING_DONE:
-            self.registers[RIP] = self.malloc + len(NOTHING_DONE)
+        called = self.registers[RIP] - len(BREAKPOINT)
+        if self.first_bytes[called] == NOTHING_DONE:
+            self.registers[RIP] = called + len(NOTHING_DONE)
             self.write_registers()
             return
-        self.registers[RIP] = self.malloc
+        self.registers[RIP] = called
         self.write_registers()
-        os.pwrite(self.memory, self.first_bytes[:1], self.malloc)
+        os.pwrite(self.memory, self.first_bytes[called][:1], called)
         trace(STEP, self.pid)
         self.wait()
-        os.pwrite(self.memory, BREAKPOINT, self.malloc)
+        os.pwrite(self.memory, BREAKPOINT, called)
 
     def refuse_call(self):
         """Has the call return a null pointer at once, and lets the program go on alone."""
@@ -120,13 +124,14 @@ class Stopped:
         self.registers[RSP] += 8
         self.registers[RAX] = 0
         self.write_registers()
-        os.pwrite(self.memory, self.first_bytes[:1], self.malloc)
+        for address, first in self.first_bytes.items():
+            os.pwrite(self.memory, first[:1], address)
         trace(DETACH, self.pid)
 
 
 def run_refusing(path, words, folder, refused):
-    """Runs the program with its call number `refused` of `malloc` refused: what it came to, and how many calls there were before its
-    end or that call."""
+    """Runs the program with its call number `refused` of `malloc` or `realloc` refused: what it came to, and how many calls there were before
+    its end or that call."""
     with tempfile.TemporaryFile() as out, tempfile.TemporaryFile() as err:
         process = subprocess.Popen(  # pylint: disable=consider-using-with
             [path, *words], cwd=folder, stdin=subprocess.DEVNULL, stdout=out, stderr=err, preexec_fn=lambda: trace(TRACE_ME, 0))

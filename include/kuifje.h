@@ -1,7 +1,10 @@
 /* Kuifje as a library: what a program gives away, in exact fractions.
  *
  * kuifje_run does what the program `kuifje` does with the same words, over files that the caller has in memory. It reads no file, writes to
- * no stream, keeps nothing between two calls and starts nothing. docs/LIBRARY.md says what is proved of it, and what a caller has to keep to.
+ * no stream, keeps nothing between two calls and starts nothing. It is for Linux on x86-64, of any age. docs/LIBRARY.md says what is proved of
+ * it, and what a caller has to keep to; Debian's package libkuifje-dev has the pages that are named here, below /usr/share/doc/libkuifje-dev.
+ *
+ * From C and C++ kuifje_ask of kuifje_ask.h is shorter: it takes strings, allocates the answer, and calls this one.
  *
  * Link with -lkuifje; `pkg-config --cflags --libs kuifje` has the flags. */
 #ifndef KUIFJE_H
@@ -17,10 +20,24 @@ extern "C" {
 /* The version that this header belongs to, as kuifje_version gives it. */
 #define KUIFJE_VERSION 1000
 
-/* The statuses of a call that has no answer. docs/COMMANDS.md has all others. */
-#define KUIFJE_READ_FAILED 3     /* a file that the words name isn't among the files */
-#define KUIFJE_WANT_OF_MEMORY 12 /* memory was refused */
-#define KUIFJE_BADLY_CALLED 64   /* a span isn't within the bytes, or a word or a name isn't UTF-8 */
+/* How a call ends: the program's statuses, and a last one for the library alone. docs/COMMANDS.md says when each comes, and in which order. */
+enum kuifje_status {
+    KUIFJE_ANSWERED = 0,        /* there is an answer; of refine and covers it is a yes, of check `accepted` */
+    KUIFJE_NO = 1,              /* there is an answer: of refine and covers it is a no, of check `rejected` */
+    KUIFJE_USAGE = 2,           /* there is no such command, or it takes other files, numbers or options */
+    KUIFJE_READ_FAILED = 3,     /* a file that the words name isn't among the files */
+    KUIFJE_WRITE_FAILED = 4,    /* a write failed: of the program alone, since the library writes nothing */
+    KUIFJE_NO_PROGRAM = 5,      /* a text is no program */
+    KUIFJE_FAULT = 6,           /* a program meets a fault */
+    KUIFJE_TOO_WIDE = 7,        /* a number is too wide: it passes 2^127 - 1, or 2^62 in a tableau */
+    KUIFJE_TOO_LARGE = 8,       /* there are too many stores, cells or pivots */
+    KUIFJE_ILL_FORMED = 9,      /* the file of a gain table or of a certificate breaks a rule */
+    KUIFJE_WRONG_TARGET = 10,   /* the command isn't about such a target, or not about two programs with such targets */
+    KUIFJE_TOO_LONG = 11,       /* a file has more than 1,048,576 bytes */
+    KUIFJE_WANT_OF_MEMORY = 12, /* memory was refused */
+    KUIFJE_FEW_STATEMENTS = 13, /* quiet: a program has fewer statements than the words say */
+    KUIFJE_BADLY_CALLED = 64    /* a span isn't within the bytes, or a word or a name isn't UTF-8 */
+};
 
 /* The bytes from `from` up to but not with `end`, counted from 0. Spans may overlap; where both are the same there are none. */
 struct kuifje_span {

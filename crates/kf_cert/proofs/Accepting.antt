@@ -82,7 +82,7 @@ accepted_shows a b (No t) is_a is_b sound marked =
     let values = held (not_rejected rule.Value) marked in
     let fits = held not_wide values.1 in
     let order = held (not_rejected rule.Order) fits.1 in
-    order.0
+    (values.0, order.0)
 
 -- ---- a matrix that proves is accepted
 
@@ -132,7 +132,7 @@ module _ (a b : HyperTree) (rows : List (List Fraction)) (is : Carries a b rows)
   unfolding m n
   sound = from_entries (λ f. 0 < f.den) m n rows is.shape is.is_over.fractions
 
-  in_range : IsInRange rows
+  pub in_range : IsInRange rows
   in_range = from_entries (λ f. (pos 0 ≤ℤ f.num) × (f.num ≤ℤ pos f.den)) (count a) (count b) rows is.shape
       (λ i j l k.
       let some = is.is_over.positive in
@@ -151,7 +151,7 @@ module _ (a b : HyperTree) (rows : List (List Fraction)) (is : Carries a b rows)
   some_over : pos 0 <ℤ pos is.over
   some_over = omega (arith, ints, is.is_over.positive)
 
-  sums : SumToOne (count a) (count b) rows
+  pub sums : SumToOne (count a) (count b) rows
   unfolding d
   sums i l =
       cancel (total (count b) (over_one rows i)) (pos d) (pos is.over) some_over
@@ -160,7 +160,7 @@ module _ (a b : HyperTree) (rows : List (List Fraction)) (is : Carries a b rows)
       ∙ total-scale_right (count b) (pos d) (is.number i)
       ∙ ap (λ (z : ℤ). z *ℤ pos d) (is.stochastic.rows i l))
 
-  cells : CarriesWeights a b (denominator rows) (over_one rows)
+  pub cells : CarriesWeights a b (denominator rows) (over_one rows)
   unfolding d
   cells x j k =
       let w : ℕ → ℤ = λ i. pos (joint a x i) in

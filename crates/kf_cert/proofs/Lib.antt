@@ -33,6 +33,7 @@ pub mod Printable
 pub mod Proclaiming
 pub mod Putting
 pub mod ReadingBack
+pub mod RejectedMarks
 pub mod Rejecting
 pub mod RowShares
 pub mod SaidBack

@@ -44,7 +44,7 @@ separating_marked a b t known separates =
     too_wide never = inr (known, inl (never, refl))
 
 -- a hyper has an inner
-some_inner : (h : HyperTree) → IsProper h → 0 < count h
+pub some_inner : (h : HyperTree) → IsProper h → 0 < count h
 some_inner h proper = some h.inners (subst (λ (n : ℕ). 0 < n) (sym proper.whole) proper.some)
   where
     some : (inners : List Inner) → 0 < sum_by (λ i. i.total) inners → 0 < length inners

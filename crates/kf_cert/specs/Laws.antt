@@ -13,7 +13,8 @@ use Rattle.kf_cert.specs.Marks.{IsMarked, NamesValues, StandsFor, denominator, w
 use Rattle.kf_cert.specs.Shapes.{IsWritable}
 use Rattle.kf_cert.specs.Views.{read_back, IsLowest, IsPrintable, IsSound}
 use Rattle.kf_cert.specs.declared.mark.Mark.{Mark}
-use Rattle.kf_cert.specs.declared.mark.Mark.TheVariants.{Accepted}
+use Rattle.kf_cert.specs.declared.mark.Mark.TheVariants.{Accepted, Rejected}
+use Rattle.kf_cert.specs.declared.mark.Rule.{Rule}
 use Rattle.kf_cert.specs.declared.mark.CheckError.{CheckError}
 use Rattle.kf_cert.specs.declared.mark.CheckError.TheVariants as error
 
@@ -21,15 +22,20 @@ use Rattle.kf_cert.specs.declared.mark.CheckError.TheVariants as error
 abbrev pub IsSeparating : HyperTree → HyperTree → NamedTable → Type 0
 IsSeparating a b t = (table : TableTree) × StandsFor a.target t table × Separates table a b
 
--- what a certificate proves: its matrix carries the one hyper to the other, or its table separates them
+-- what a certificate proves: its matrix carries the one hyper to the other, or its table separates them and names values of their target,
+-- none twice in an action
 abbrev pub Shows : HyperTree → HyperTree → CertTree → Type 0
 Shows a b (Yes rows) = Carries a b rows
 Shows a b (Named t) = Carries a b (matrix_of t)
-Shows a b (No t) = IsSeparating a b t
+Shows a b (No t) = NamesValues a.target t × IsSeparating a b t
 
 -- what is accepted proves
 abbrev pub AcceptedShows : Type 0
 AcceptedShows = (a b : HyperTree) (c : CertTree) → IsProper a → IsProper b → IsSound c → IsMarked a b c (Ok Accepted) → Shows a b c
+
+-- what is rejected doesn't, whichever rule it breaks first
+abbrev pub RejectedShowsNot : Type 0
+RejectedShowsNot = (a b : HyperTree) (c : CertTree) (rule : Rule) → IsProper a → IsMarked a b c (Ok (Rejected rule)) → ¬ Shows a b c
 
 -- a matrix that proves is accepted, if the check isn't too wide
 abbrev pub CarryingAccepted : Type 0

@@ -52,7 +52,7 @@ use Rattle.kf_words.specs.Jobs.{IsInRange}
 use Rattle.kf_words.specs.Laws.{TasksInRange}
 use Rattle.kf_words.specs.Task.{Command, Composition, Cascade, Parallel, Choice, Hyper, Traces, Channel, Trail, Capacity, Compose, Leak, Attack, Reach, Make, Refine, Check, Covers, Quiet, Blame, Task, tables_of}
 use Rattle.kf_words.specs.OfWords.{named}
-use Rattle.kf_laws.specs.Refusals.{ReadFailed, TooLong, BadText, BadRun, WideScale, NotInitial, BadTable, WideGain, OtherTarget, ManyCells, WideTableau, ManyPivots, BadCert, WideCert, OtherRows, NoFit, ManyChannelCells, WideChannel, ManyStores, FewStatements, refusal_for, IsRefining, IsComposing, IsOnCapacities, IsUnder, IsReasoned, RefusalsAreReasoned}
+use Rattle.kf_laws.specs.Refusals.{ReadFailed, TooLong, BadText, BadRun, WideScale, NotInitial, BadTable, WideGain, OtherTarget, ManyCells, WideTableau, ManyPivots, BadCert, WideCert, OtherRows, NoFit, ManyChannelCells, WideChannel, ManyStores, FewStatements, refusal_for, IsRefining, IsOnSameRows, IsOnCapacities, IsUnder, IsReasoned, RefusalsAreReasoned}
 use Rattle.kf_laws.proofs.ClearedPrograms.{every_done}
 use Rattle.kf_laws.proofs.OneAnswer.{HasOne, next_of}
 use Rattle.kf_laws.proofs.TaskFiles.{IsFitting, programs_asked, tasks_fit}
@@ -318,48 +318,49 @@ module _ (task : Task) where
   capacity_refused asked turns p r is =
       record { reason = WideChannel; can = inl asked; is = refused_if (is_narrow (channel_grid is.0)) _ (refusal_for WideChannel) r is.2 }
 
-  module _ (way : Composition) (asked : task.command ≡ Compose way) where
-    composing : IsComposing task.command
-    composing = (way, asked)
+  wide : (way : Composition) → task.command ≡ Compose way → (r : Refused) → r ≡ wide_channel → Reasoned r
+  wide way asked r is = record { reason = WideChannel; can = inr (way, asked); is = is }
 
-    wide : (r : Refused) → r ≡ wide_channel → Reasoned r
-    wide r is = record { reason = WideChannel; can = inr composing; is = is }
+  cascade_refused : task.command ≡ Compose Cascade → (c d : ChannelTree) (x : Result GridTree ComposeFault) (r : Refused) → CascadeCase c d x → Err r ≡ composed_grid x → Reasoned r
+  cascade_refused asked c d (Ok g) r is given = absurd (cc)
+  cascade_refused asked c d (Err compose.Fit) r is given = let same : r ≡ refusal_for NoFit = cc in record { reason = NoFit; can = asked; is = same }
+  cascade_refused asked c d (Err compose.Wide) r is given = wide Cascade asked r (cc)
+  cascade_refused asked c d (Err e) r is given = absurd is
 
+  module _ (asked : IsOnSameRows task.command) where
     other_targets : (r : Refused) → r ≡ other_target → Reasoned r
-    other_targets r is = record { reason = OtherTarget; can = inr (inr composing); is = is }
+    other_targets r is = record { reason = OtherTarget; can = inr (inr asked); is = is }
 
-    cascade_refused : (c d : ChannelTree) (x : Result GridTree ComposeFault) (r : Refused) → CascadeCase c d x → Err r ≡ composed_grid x → Reasoned r
-    cascade_refused c d (Ok g) r is given = absurd (cc)
-    cascade_refused c d (Err compose.Fit) r is given = let same : r ≡ refusal_for NoFit = cc in record { reason = NoFit; can = composing; is = same }
-    cascade_refused c d (Err compose.Wide) r is given = wide r (cc)
-    cascade_refused c d (Err e) r is given = absurd is
+    other_rows : (r : Refused) → r ≡ refusal_for OtherRows → Reasoned r
+    other_rows r is = record { reason = OtherRows; can = asked; is = is }
 
-    parallel_refused : (c d : ChannelTree) (x : Result GridTree ComposeFault) (r : Refused) → ParallelCase c d x → Err r ≡ composed_grid x → Reasoned r
-    parallel_refused c d (Ok g) r is given = absurd (cc)
-    parallel_refused c d (Err compose.Targets) r is given = other_targets r (cc)
-    parallel_refused c d (Err compose.Rows) r is given = let same : r ≡ refusal_for OtherRows = cc in record { reason = OtherRows; can = composing; is = same }
-    parallel_refused c d (Err (compose.Cells count)) r is given =
-        let same : r ≡ refusal_for (ManyChannelCells count) = cc in
-        record { reason = ManyChannelCells count; can = composing; is = same }
-    parallel_refused c d (Err compose.Wide) r is given = wide r (cc)
-    parallel_refused c d (Err e) r is given = absurd is
+  parallel_refused : task.command ≡ Compose Parallel → (c d : ChannelTree) (x : Result GridTree ComposeFault) (r : Refused) → ParallelCase c d x → Err r ≡ composed_grid x → Reasoned r
+  parallel_refused asked c d (Ok g) r is given = absurd (cc)
+  parallel_refused asked c d (Err compose.Targets) r is given = other_targets (inl asked) r (cc)
+  parallel_refused asked c d (Err compose.Rows) r is given = other_rows (inl asked) r (cc)
+  parallel_refused asked c d (Err (compose.Cells count)) r is given =
+      let same : r ≡ refusal_for (ManyChannelCells count) = cc in
+      record { reason = ManyChannelCells count; can = asked; is = same }
+  parallel_refused asked c d (Err compose.Wide) r is given = wide Parallel asked r (cc)
+  parallel_refused asked c d (Err e) r is given = absurd is
 
-    choice_refused : (num den : ℕ) (c d : ChannelTree) (x : Result GridTree ComposeFault) (r : Refused) → ChoiceCase num den c d x → Err r ≡ composed_grid x → Reasoned r
-    choice_refused num den c d (Ok g) r is given = absurd (cc)
-    choice_refused num den c d (Err compose.Targets) r is given = other_targets r (cc)
-    choice_refused num den c d (Err compose.Rows) r is given = let same : r ≡ refusal_for OtherRows = cc in record { reason = OtherRows; can = composing; is = same }
-    choice_refused num den c d (Err compose.Wide) r is given = wide r (cc)
-    choice_refused num den c d (Err e) r is given = absurd is
+  choice_refused : (num den : ℕ) → task.command ≡ Compose (Choice num den) → (c d : ChannelTree) (x : Result GridTree ComposeFault) (r : Refused) → ChoiceCase num den c d x → Err r ≡ composed_grid x → Reasoned r
+  choice_refused num den asked c d (Ok g) r is given = absurd (cc)
+  choice_refused num den asked c d (Err compose.Targets) r is given = other_targets (inr (num, den, asked)) r (cc)
+  choice_refused num den asked c d (Err compose.Rows) r is given = other_rows (inr (num, den, asked)) r (cc)
+  choice_refused num den asked c d (Err compose.Wide) r is given = wide (Choice num den) asked r (cc)
+  choice_refused num den asked c d (Err e) r is given = absurd is
 
-    composed_refused : (w : Composition) (c d : ChannelTree) → Refuses Reasoned (Composed w c d)
-    composed_refused Cascade c d r is = cascade_refused c d is.0 r (cascade_case c d is.0 is.1) is.2
-    composed_refused Parallel c d r is = parallel_refused c d is.0 r (parallel_case c d is.0 is.1) is.2
-    composed_refused (Choice num den) c d r is = choice_refused num den c d is.0 r (choice_case c d num den is.0 is.1) is.2
+  composed_refused : (way : Composition) → task.command ≡ Compose way → (c d : ChannelTree) → Refuses Reasoned (Composed way c d)
+  composed_refused Cascade asked c d r is = cascade_refused asked c d is.0 r (cascade_case c d is.0 is.1) is.2
+  composed_refused Parallel asked c d r is = parallel_refused asked c d is.0 r (parallel_case c d is.0 is.1) is.2
+  composed_refused (Choice num den) asked c d r is = choice_refused num den asked c d is.0 r (choice_case c d num den is.0 is.1) is.2
 
+  module _ (way : Composition) (asked : task.command ≡ Compose way) where
     algebra_refused : (c d : ChannelTree) → Refuses Reasoned (After (Composed way c d) (λ g. Gives (algebra_shown (channel_grid c) (channel_grid d) g)))
     algebra_refused c d =
-        refused_after Reasoned (Composed way c d) (λ g. Gives (algebra_shown (channel_grid c) (channel_grid d) g)) (composed_refused way c d)
-        (λ g _ r is. wide r (refused_if (is_narrow (channel_grid c) && (is_narrow (channel_grid d) && is_narrow g)) _ wide_channel r is))
+        refused_after Reasoned (Composed way c d) (λ g. Gives (algebra_shown (channel_grid c) (channel_grid d) g)) (composed_refused way asked c d)
+        (λ g _ r is. wide way asked r (refused_if (is_narrow (channel_grid c) && (is_narrow (channel_grid d) && is_narrow g)) _ wide_channel r is))
 
     composition_refused : (turns : ℕ) (p q : ProgramTree) → Refuses Reasoned (ComposedIn way turns p q)
     composition_refused turns p q r is = algebra_refused is.0 is.1 r is.4

@@ -8,7 +8,7 @@ use Rattle.kf_load.specs.Texts.{File}
 use Rattle.kf_top.specs.Ends.{AreNamed, Sunk, TookLine}
 use Rattle.kf_top.specs.Outcome.{TaskOutcome}
 use Rattle.kf_top.specs.Steps.{HasCauses}
-use Rattle.kf_words.specs.Task.{Command, Composition, Task, Channel, Capacity, Compose, Leak, Attack, Refine, Check, Covers, Quiet, task_of}
+use Rattle.kf_words.specs.Task.{Command, Composition, Cascade, Parallel, Choice, Task, Channel, Capacity, Compose, Leak, Attack, Refine, Check, Covers, Quiet, task_of}
 use Rattle.kf_words.specs.OfWords.{named}
 
 -- ---- reasons
@@ -90,6 +90,10 @@ IsChecking command = (name : List ℕ) × (command ≡ Check name)
 abbrev pub IsComposing : Command → Type 0
 IsComposing command = (way : Composition) × (command ≡ Compose way)
 
+-- it puts two channels of the same secrets together
+abbrev pub IsOnSameRows : Command → Type 0
+IsOnSameRows command = (command ≡ Compose Parallel) ⊎ ((num den : ℕ) × (command ≡ Compose (Choice num den)))
+
 -- it asks for a capacity
 abbrev pub IsOnCapacities : Command → Type 0
 IsOnCapacities command = (command ≡ Capacity) ⊎ IsComposing command
@@ -108,15 +112,15 @@ CanRefuse task (WideScale name) = Contains task.files name
 CanRefuse task NotInitial = (task.command ≡ Channel) ⊎ IsOnCapacities task.command
 CanRefuse task (BadTable name word) = IsUnder (Table name) task.command
 CanRefuse task WideGain = (g : GainOf (List ℕ)) × IsUnder g task.command
-CanRefuse task OtherTarget = IsRefining task.command ⊎ (IsChecking task.command ⊎ IsComposing task.command)
+CanRefuse task OtherTarget = IsRefining task.command ⊎ (IsChecking task.command ⊎ IsOnSameRows task.command)
 CanRefuse task (ManyCells cells) = IsRefining task.command
 CanRefuse task (WideTableau pivots) = IsRefining task.command
 CanRefuse task ManyPivots = IsRefining task.command
 CanRefuse task (BadCert name word) = task.command ≡ Check name
 CanRefuse task WideCert = IsChecking task.command
-CanRefuse task OtherRows = IsComposing task.command
-CanRefuse task NoFit = IsComposing task.command
-CanRefuse task (ManyChannelCells cells) = IsComposing task.command
+CanRefuse task OtherRows = IsOnSameRows task.command
+CanRefuse task NoFit = task.command ≡ Compose Cascade
+CanRefuse task (ManyChannelCells cells) = task.command ≡ Compose Parallel
 CanRefuse task WideChannel = IsOnCapacities task.command
 CanRefuse task (ManyStores name count) = (task.command ≡ Covers) × Contains task.files name
 CanRefuse task (FewStatements name count) = (from to : ℕ) × (task.command ≡ Quiet from to) × Contains task.files name

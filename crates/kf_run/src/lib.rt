@@ -24,6 +24,6 @@ pub use first_columns::start;
 pub use kf_hyper::CountList;
 pub use kf_push::merge_law;
 pub use laws::trail_laws;
-pub use pusher::Pushing;
+pub use pusher::{Pushing, PushingRef};
 pub use pushes::push;
 pub use stages::{Stages, hyper_of, trail};

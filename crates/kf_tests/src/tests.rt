@@ -1,5 +1,7 @@
-// Calls that cases of whole runs can't show: words to jobs, runs over files that never fail, and a hyper that is too long for a case.
+// Calls that cases of whole runs can't show: words to jobs, runs over files that never fail, a hyper that is too long for a case, and a program
+// that columns are pushed through.
 mod jobs;
+mod pushings;
 mod runs;
 
 use std::process::Abort;

@@ -12,7 +12,7 @@ ghost use Rattle.kf_top.specs.Steps.{BlameOf};
 
 use crate::refusal::{Done, Stop};
 use kf_quiet::{blame_of, quiet_hyper};
-use kf_run::Pushing;
+use kf_run::PushingRef;
 use kf_support::Cleared;
 use kf_text::{blame_text, hyper_text};
 use std::alloc::Global;
@@ -30,7 +30,7 @@ pub(crate) fn quiet<'a>(
         (HyperOf (program_in cleared.now).target (scale_of (turns_of cleared.now) (program_in cleared.now)) (quiet_joint (turns_of cleared.now) (program_in cleared.now) from to)) }
     ensures read { IfErr result IsOwn }
 {
-    let pushing = Pushing::new(cleared);
+    let pushing = PushingRef::new(cleared);
     let hyper = quiet_hyper(alloc, &pushing, from as usize, to as usize)?;
     let bytes = hyper_text(alloc, &hyper)?;
     Ok(Done { yes: true, bytes })
@@ -41,7 +41,7 @@ pub(crate) fn blame<'a>(alloc: Global, cleared: &Cleared) -> Result<Done, Stop<'
     ensures answer { Answers shown result (BlameOf (turns_of cleared.now) (program_in cleared.now)) }
     ensures read { IfErr result IsOwn }
 {
-    let pushing = Pushing::new(cleared);
+    let pushing = PushingRef::new(cleared);
     let blames = blame_of(alloc, &pushing)?;
     let bytes = blame_text(alloc, &blames)?;
     Ok(Done { yes: true, bytes })

@@ -10,7 +10,9 @@ ghost use Rattle.kf_load.specs.Stops.{placed, refused as load_refused};
 ghost use Rattle.kf_top.specs.Answer.{table_word, cert_word};
 ghost use Rattle.kf_top.specs.Stops.{refused};
 ghost use Rattle.kf_top.specs.Ends.{sunk, TookLine};
+ghost use Rattle.kf_top.specs.Written.{TookNotice, notice_line};
 
+use crate::end::{End, Notice};
 use crate::refusal::Refusal;
 use itoa::Buffer;
 use kf_cert::CertError;
@@ -25,8 +27,8 @@ fn write_line<E: Sink>(err: &mut E, pieces: &[&str])
     let _ = write_pieces(err, pieces);
 }
 
-/// Writes a line.
-pub fn write_message<E: Sink>(err: &mut E, name: &str, what: &str)
+// Writes a line.
+fn write_message<E: Sink>(err: &mut E, name: &str, what: &str)
     ensures { TookLine (sunk E.taken E.faults E.room err.old err.new) (message name.now what.now) }
 {
     write_line(err, &["kuifje: ", name, what, "\n"]);
@@ -130,103 +132,70 @@ fn write_statements<E: Sink>(err: &mut E, name: &str, statements: usize)
     write_line(err, &["kuifje: ", name, ": ", statements, " statements\n"]);
 }
 
-// Writes why a file holds no program that can be run, and gives the status.
-fn refuse_file<E: Sink>(err: &mut E, refusal: &LoadRefusal<'_>) -> u8
-    ensures line { TookLine (sunk E.taken E.faults E.room err.old err.new) (load_refused refusal.now).line }
-    ensures status { result ≡ (load_refused refusal.now).status }
-    ensures bound { result ≤ 13 }
+// Writes why a file holds no program that can be run.
+fn write_unloaded<E: Sink>(err: &mut E, refusal: &LoadRefusal<'_>)
+    ensures { TookLine (sunk E.taken E.faults E.room err.old err.new) (load_refused refusal.now).line }
 {
     match refusal {
-        LoadRefusal::ReadFailed(name) => {
-            write_message(err, name, ": read failed");
-            3
-        }
-        LoadRefusal::TooLong(name) => {
-            write_message(err, name, ": longer than 1048576 bytes");
-            11
-        }
-        LoadRefusal::BadText(name, line, column, word) => {
-            write_place(err, name, *line, *column, word);
-            5
-        }
-        LoadRefusal::BadRun(name, line, column, word) => {
-            write_place(err, name, *line, *column, word);
-            6
-        }
-        LoadRefusal::WideScale(name) => {
-            write_message(err, name, ": scale passes 2^127 - 1");
-            7
-        }
-        LoadRefusal::FewStatements(name, statements) => {
-            write_statements(err, name, *statements);
-            13
-        }
+        LoadRefusal::ReadFailed(name) => write_message(err, name, ": read failed"),
+        LoadRefusal::TooLong(name) => write_message(err, name, ": longer than 1048576 bytes"),
+        LoadRefusal::BadText(name, line, column, word) => write_place(
+            err, name, *line, *column, word,
+        ),
+        LoadRefusal::BadRun(name, line, column, word) => write_place(
+            err, name, *line, *column, word,
+        ),
+        LoadRefusal::WideScale(name) => write_message(err, name, ": scale passes 2^127 - 1"),
+        LoadRefusal::FewStatements(name, statements) => write_statements(err, name, *statements),
     }
 }
 
-/// Writes the refusal's line, and gives its status.
-pub fn refuse<E: Sink>(err: &mut E, refusal: &Refusal<'_>) -> u8
-    ensures line { TookLine (sunk E.taken E.faults E.room err.old err.new) (refused refusal.now).line }
-    ensures status { result ≡ (refused refusal.now).status }
-    ensures bound { result ≤ 13 }
+// Writes why there is no answer.
+fn write_refusal<E: Sink>(err: &mut E, refusal: &Refusal<'_>)
+    ensures { TookLine (sunk E.taken E.faults E.room err.old err.new) (refused refusal.now).line }
 {
     match refusal {
-        Refusal::Load(refusal) => refuse_file(err, refusal),
-        Refusal::NotInitial => {
-            write_message(err, "", "target is not initial");
-            10
-        }
-        Refusal::BadTable(name, error) => {
-            write_table(err, name, *error);
-            9
-        }
-        Refusal::WideGain => {
-            write_message(err, "", "gain passes 2^127 - 1");
-            7
-        }
-        Refusal::OtherTarget => {
-            write_message(err, "", "targets differ");
-            10
-        }
-        Refusal::ManyCells(cells) => {
-            write_cells(err, *cells);
-            8
-        }
-        Refusal::WideTableau(pivots) => {
-            write_pivots(err, *pivots);
-            7
-        }
-        Refusal::ManyPivots => {
-            write_message(err, "", "more than 20000 pivots");
-            8
-        }
-        Refusal::BadCert(name, error) => {
-            write_cert(err, name, *error);
-            9
-        }
-        Refusal::WideCert => {
-            write_message(err, "", "certificate passes 2^127 - 1");
-            7
-        }
-        Refusal::OtherRows => {
-            write_message(err, "", "rows differ");
-            10
-        }
-        Refusal::NoFit => {
-            write_message(err, "", "channels do not fit");
-            10
-        }
-        Refusal::ManyChannelCells(cells) => {
-            write_channel_cells(err, *cells);
-            8
-        }
-        Refusal::WideChannel => {
-            write_message(err, "", "channel passes 2^127 - 1");
-            7
-        }
-        Refusal::ManyStores(name, stores) => {
-            write_stores(err, name, *stores);
-            8
-        }
+        Refusal::Load(refusal) => write_unloaded(err, refusal),
+        Refusal::NotInitial => write_message(err, "", "target is not initial"),
+        Refusal::BadTable(name, error) => write_table(err, name, *error),
+        Refusal::WideGain => write_message(err, "", "gain passes 2^127 - 1"),
+        Refusal::OtherTarget => write_message(err, "", "targets differ"),
+        Refusal::ManyCells(cells) => write_cells(err, *cells),
+        Refusal::WideTableau(pivots) => write_pivots(err, *pivots),
+        Refusal::ManyPivots => write_message(err, "", "more than 20000 pivots"),
+        Refusal::BadCert(name, error) => write_cert(err, name, *error),
+        Refusal::WideCert => write_message(err, "", "certificate passes 2^127 - 1"),
+        Refusal::OtherRows => write_message(err, "", "rows differ"),
+        Refusal::NoFit => write_message(err, "", "channels do not fit"),
+        Refusal::ManyChannelCells(cells) => write_channel_cells(err, *cells),
+        Refusal::WideChannel => write_message(err, "", "channel passes 2^127 - 1"),
+        Refusal::ManyStores(name, stores) => write_stores(err, name, *stores),
     }
+}
+
+// Writes the line of a notice.
+fn write_notice<E: Sink>(err: &mut E, notice: &Notice<'_>)
+    ensures { TookLine (sunk E.taken E.faults E.room err.old err.new) (notice_line notice.now) }
+{
+    match notice {
+        Notice::Usage => write_message(
+            err,
+            "",
+            "usage: kuifje COMMAND [FILES] [--gain G] [--turns N] [--json]",
+        ),
+        Notice::Refused(refusal) => write_refusal(err, refusal),
+        Notice::WriteFailed => write_message(err, "", "write failed"),
+        Notice::Mem => write_message(err, "", "want of memory"),
+    }
+}
+
+/// The last step of a run: writes the line, if there is one, and gives the status that it was given, whatever becomes of the line.
+pub fn report<E: Sink>(end: End<'_>, err: &mut E) -> u8
+    ensures status { result ≡ end.entry.status }
+    ensures line { TookNotice end.entry.notice (sunk E.taken E.faults E.room err.old err.new) }
+{
+    if let Some(notice) = &end.notice {
+        write_notice(err, notice);
+    }
+    end.status
 }

@@ -1,82 +1,91 @@
-ghost use Rattle.std.specs.Prelude.{◌≡◌, ◌≤◌, ℕ, List, Some, map, string_bytes};
+ghost use Rattle.std.specs.Prelude.{◌≡◌, ◌≤◌, ℕ, List, None, Some, IfOk, IsErrOf, map, string_bytes};
 ghost use Rattle.kf_top.specs.Answer.{usage as usage_refusal};
 ghost use Rattle.kf_top.specs.Ends.{sunk, IsQuiet, Sunk, TookNothing};
-ghost use Rattle.kf_top.specs.Written.{IsRefused, WrittenOf, want_of_memory};
+ghost use Rattle.kf_top.specs.Written.{EndsAs, IsRefused, WrittenOf, want_of_memory};
 ghost use Rattle.kf_top.specs.Steps.{HasCauses};
 ghost use Rattle.kf_words.specs.Task.{task_of};
 ghost use Rattle.kf_words.specs.Jobs.{task_of_job, HasTurns, IsInRange};
 ghost use Rattle.kf_words.specs.declared.error.WordsError.TheVariants as words_error;
 
+use crate::end::{End, Notice};
 use crate::refusal::{Done, Stop};
-use crate::stderr::{refuse, write_message};
+use crate::status::status_of;
+use crate::stderr::report;
 use crate::work::work;
 use kf_io::{Failed, Files, Sink, write_all};
 use kf_words::{Job, WordsError, read_words};
 use std::alloc::Global;
 
-/// Writes why words ask for nothing that can be done: the usage line, or that memory is wanting. Gives the status.
-pub fn refuse_words<E: Sink>(err: &mut E, error: WordsError) -> u8
-    ensures usage { error ≡ words_error.Usage → IsRefused usage_refusal (sunk E.taken E.faults E.room err.old err.new) result }
-    ensures memory { error ≡ words_error.Mem → IsRefused want_of_memory (sunk E.taken E.faults E.room err.old err.new) result }
-    ensures quiet { (out : Sunk) → TookNothing out → IsQuiet out (sunk E.taken E.faults E.room err.old err.new) result }
-    ensures bound { result ≤ 13 }
+/// How a run ends whose words ask for nothing that can be done: the words are wrong, or memory is wanting.
+pub fn unasked<'a>(error: WordsError) -> End<'a>
+    ensures usage { error ≡ words_error.Usage → EndsAs (IsRefused usage_refusal) result }
+    ensures memory { error ≡ words_error.Mem → EndsAs (IsRefused want_of_memory) result }
+    ensures quiet { (out : Sunk) → TookNothing out → EndsAs (IsQuiet out) result }
+    ensures bound { result.status ≤ 13 }
 {
     match error {
-        WordsError::Usage => {
-            write_message(
-                err,
-                "",
-                "usage: kuifje COMMAND [FILES] [--gain G] [--turns N] [--json]",
-            );
-            2
-        }
-        WordsError::Mem => {
-            write_message(err, "", "want of memory");
-            12
-        }
+        WordsError::Usage => End {
+            status: 2,
+            notice: Some(Notice::Usage),
+        },
+        WordsError::Mem => End {
+            status: 12,
+            notice: Some(Notice::Mem),
+        },
     }
 }
 
-/// Writes an answer, or why there is none, and gives the status.
-pub fn finish<O: Sink, E: Sink>(answer: Result<Done, Stop<'_>>, out: &mut O, err: &mut E) -> u8
-    ensures written { WrittenOf answer.entry (sunk O.taken O.faults O.room out.old out.new) (sunk E.taken E.faults E.room err.old err.new) result }
-    ensures quiet { IsQuiet (sunk O.taken O.faults O.room out.old out.new) (sunk E.taken E.faults E.room err.old err.new) result }
-    ensures bound { result ≤ 13 }
+/// Writes an answer to `out`, if there is one, and says how the run ends.
+pub fn settle<'a, O: Sink>(answer: Result<Done, Stop<'a>>, out: &mut O) -> End<'a>
+    ensures written { EndsAs (WrittenOf answer.entry (sunk O.taken O.faults O.room out.old out.new)) result }
+    ensures quiet { EndsAs (IsQuiet (sunk O.taken O.faults O.room out.old out.new)) result }
+    ensures bound { result.status ≤ 13 }
 {
     match answer {
         Ok(done) => match write_all(out, &done.bytes) {
-            Ok(()) => { if done.yes { 0 } else { 1 } }
-            Err(Failed) => {
-                write_message(err, "", "write failed");
-                4
-            }
+            Ok(()) => End {
+                status: if done.yes { 0 } else { 1 },
+                notice: None,
+            },
+            Err(Failed) => End {
+                status: 4,
+                notice: Some(Notice::WriteFailed),
+            },
         },
-        Err(Stop::Refused(refusal)) => refuse(err, &refusal),
-        Err(Stop::Mem) => {
-            write_message(err, "", "want of memory");
-            12
-        }
+        Err(Stop::Refused(refusal)) => End {
+            status: status_of(&refusal),
+            notice: Some(Notice::Refused(refusal)),
+        },
+        Err(Stop::Mem) => End {
+            status: 12,
+            notice: Some(Notice::Mem),
+        },
     }
 }
 
-// Does the job, and writes its answer, or why there is none.
-fn carry_out<F: Files, O: Sink, E: Sink>(
+// Does what is asked for, if anything is, and writes the answer. Standard error is out of its reach.
+fn carry_out<'a, F: Files, O: Sink>(
     alloc: Global,
     files: &mut F,
-    job: &Job,
+    asked: &'a Result<Job, WordsError>,
     out: &mut O,
-    err: &mut E,
-) -> u8
-    requires turns { HasTurns (task_of_job job.now) }
-    requires range { IsInRange (task_of_job job.now).command }
-    ensures causes { (words : List (List ℕ)) → task_of words ≡ Some (task_of_job job.now)
-        → HasCauses words (F.contents files.old) (F.faults files.old) (F.faults files.new)
-        (sunk O.taken O.faults O.room out.old out.new) (sunk E.taken E.faults E.room err.old err.new) result }
-    ensures quiet { IsQuiet (sunk O.taken O.faults O.room out.old out.new) (sunk E.taken E.faults E.room err.old err.new) result }
-    ensures bound { result ≤ 13 }
+) -> End<'a>
+    requires turns { IfOk asked.now (λ job. HasTurns (task_of_job job)) }
+    requires range { IfOk asked.now (λ job. IsInRange (task_of_job job).command) }
+    ensures causes { (words : List (List ℕ)) → IfOk asked.now (λ job. task_of words ≡ Some (task_of_job job))
+        → (IsErrOf asked.now WordsError.Usage → task_of words ≡ None)
+        → EndsAs (HasCauses words (F.contents files.old) (F.faults files.old) (F.faults files.new)
+        (sunk O.taken O.faults O.room out.old out.new)) result }
+    ensures quiet { EndsAs (IsQuiet (sunk O.taken O.faults O.room out.old out.new)) result }
+    ensures bound { result.status ≤ 13 }
 {
-    let answer = work(alloc, files, job);
-    finish(answer, out, err)
+    match asked {
+        Ok(job) => {
+            let answer = work(alloc, files, job);
+            settle(answer, out)
+        }
+        Err(error) => unasked(*error),
+    }
 }
 
 /// Does what the words ask for: reads their files, writes the answer to `out`, and gives the status.
@@ -95,12 +104,7 @@ pub fn run<F: Files, O: Sink, E: Sink>(
     ensures quiet { IsQuiet (sunk O.taken O.faults O.room out.old out.new) (sunk E.taken E.faults E.room err.old err.new) result }
     ensures bound { result ≤ 13 }
 {
-    match read_words(alloc, words) {
-        Ok(job) => {
-            let status = carry_out(alloc, files, &job, out, err);
-            drop(job);
-            status
-        }
-        Err(error) => refuse_words(err, error),
-    }
+    let asked = read_words(alloc, words);
+    let end = carry_out(alloc, files, &asked, out);
+    report(end, err)
 }

@@ -4,10 +4,14 @@ use Rattle.kf_cert.proofs.NamedRows.{names_all}
 use Rattle.kf_cert.proofs.Printable.{verdicts_writable}
 use Rattle.kf_cert.proofs.Proclaiming.{written}
 use Rattle.kf_cert.proofs.ReadingBack.{reads_back}
+use Rattle.kf_cert.proofs.RejectedMarks.{rejected_shows_not}
 use Rattle.kf_cert.proofs.laws.cert_laws.Goals as goal
 
 pub returns-clause-shows : goal.returns-clause-shows
 returns-clause-shows c = accepted_shows
+
+pub returns-clause-shows_not : goal.returns-clause-shows_not
+returns-clause-shows_not c = rejected_shows_not
 
 pub returns-clause-carrying : goal.returns-clause-carrying
 returns-clause-carrying c = carrying_accepted

@@ -2,7 +2,7 @@ use Rattle.std.proofs.Common.{ap, ◌∙◌}
 use Rattle.kf_column.specs.Joint.{mass}
 use Rattle.kf_run.specs.Pushings.{cleared_of}
 use Rattle.kf_run.proofs.Meant.{start_weighs}
-use Rattle.kf_run.proofs.pusher.PushingPusher.start.Goals as goal
+use Rattle.kf_run.proofs.pusher.PushingRefPusher.start.Goals as goal
 
 pub returns-clause-mass : goal.returns-clause-mass
 returns-clause-mass c =

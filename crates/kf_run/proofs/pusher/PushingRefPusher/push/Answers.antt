@@ -1,6 +1,6 @@
 use Rattle.kf_run.specs.Pushings.{cleared_of}
 use Rattle.kf_run.proofs.Meant.{push_keeps}
-use Rattle.kf_run.proofs.pusher.PushingPusher.push.Goals as goal
+use Rattle.kf_run.proofs.pusher.PushingRefPusher.push.Goals as goal
 
 pub returns-clause-mass : goal.returns-clause-mass
 returns-clause-mass c =

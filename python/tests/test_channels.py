@@ -84,6 +84,59 @@ def test_what_is_no_channel():
             channels.hyper(BOOK, prior)
 
 
+def test_rows_that_are_not_exact_name_their_cell():
+    for row, error, reason in (
+        ([0.5, 0.5], TypeError, "cell 0 in the row of 3 is 0.5, and has to be exact"),
+        ([HALF, float("nan")], TypeError, "cell 1 in the row of 3 is nan, and has to be exact"),
+        ([2, -1], ValueError, "the row of 3 is no distribution: its first 1 cells sum to 2"),
+        ([HALF, -HALF], ValueError, "cell 1 in the row of 3 is -1/2, and may not be below 0"),
+        ([HALF, QUARTER], ValueError, "the row of 3 is no distribution: its first 2 cells sum to 3/4"),
+    ):
+        with pytest.raises(error, match=reason):
+            Channel.from_rows({1: [HALF, HALF], 3: row})
+    with pytest.raises(ValueError, match="there are 3 labels for 2 columns"):
+        Channel.from_rows({1: [HALF, HALF]}, [(0,), (1,), (2,)])
+
+
+def test_whole_numbers_of_numpy_stay_exact():
+    """A fraction of numpy's numbers would have a numerator of 64 bits, which goes round."""
+    numpy = pytest.importorskip("numpy")
+    found = Channel.from_rows({0: numpy.array([1, 0]), 1: numpy.array([0, 1])})
+    assert {type(cell.numerator) for row in found.rows.values() for cell in row} == {int}
+
+
+def test_rows_and_labels_that_are_huge_are_refused_at_once():
+    for work, reason in (
+        (lambda: Channel.from_rows({0: range(10**12)}), "its first 3 cells sum to 3"),
+        (lambda: Channel.from_rows({0: [HALF, HALF]}, range(10**12)), "there are 1000000000000 labels for 2 columns"),
+        (lambda: channels.product(*[Channel.from_rows({x: [1] + [0] * 99 for x in range(100)})] * 2), "the product would have 100000000 cells"),
+        (
+            lambda: channels.parallel(*[Channel.from_rows({x: [1] + [0] * 4999 for x in range(2)})] * 2),
+            "the channel of both would have 50000000 cells",
+        ),
+    ):
+        with pytest.raises(ValueError, match=reason):
+            work()
+
+
+def test_other_things_than_channels_are_named():
+    hyper = channels.hyper(BOOK, dict.fromkeys((1, 2, 3), THIRD))
+    for work, reason in (
+        (lambda: channels.hyper(hyper, {1: 1}), "channel has to be a Channel, and is of type Hyper"),
+        (lambda: channels.from_hyper(BOOK), "found has to be a Hyper, and is of type Channel"),
+        (lambda: channels.reduced(hyper), "channel has to be a Channel"),
+        (lambda: channels.cascade(hyper, BOOK), "a has to be a Channel"),
+        (lambda: channels.parallel(BOOK, hyper), "b has to be a Channel"),
+        (lambda: channels.product(BOOK, None), "b has to be a Channel, and is of type NoneType"),
+        (lambda: channels.hidden_choice(BOOK, BOOK, 0.5), "probability is 0.5, and has to be exact"),
+        (lambda: channels.visible_choice(BOOK, BOOK, None), "probability is None, and has to be exact"),
+    ):
+        with pytest.raises(TypeError, match=reason):
+            work()
+    with pytest.raises(ValueError, match="probability is 3/2, and goes from 0 to 1"):
+        channels.visible_choice(BOOK, BOOK, Fraction(3, 2))
+
+
 @given(made_channels().flatmap(lambda c: st.tuples(st.just(c), priors(c))))
 def test_a_hyper_and_its_channel_are_one(found):
     """A hyper's channel at its prior gives the hyper again; its vulnerability is that of the joint matrix, and no less than the prior's."""

@@ -13,7 +13,7 @@ from pathlib import Path
 import pytest
 
 from kuifje import Engine, KuifjeError, Program, TooLarge, _worker
-from kuifje._protocol import HEAD, LIBRARY, PROGRAM
+from kuifje._protocol import BEGUN, HEAD, LIBRARY, PROGRAM
 from kuifje.answers import Answer, Cache
 
 WORDS, FILES = ["hyper", "p.kf"], {"p.kf": b"var x : 0..1 := 0;\nabout old x;\n"}
@@ -94,7 +94,7 @@ def test_nothing_to_run(tmp_path, monkeypatch):
     _worker.serve(io.BytesIO(), sink)
     assert sink.getvalue() == b" " * 64
     engine = Engine()
-    monkeypatch.setattr("kuifje.engine.VERSION_LENGTH", 0)
+    monkeypatch.setattr("kuifje.workers.VERSION_LENGTH", 0)
     with pytest.raises(KuifjeError, match="no library"):
         engine.ask(WORDS, FILES)
     engine.close()
@@ -106,7 +106,7 @@ def test_a_worker_serves(tmp_path, monkeypatch):
     question = json.dumps({"words": WORDS, "files": [["p.kf", 3]]}).encode() + b"\nabc"
     sink = io.BytesIO()
     _worker.serve(io.BytesIO(question * 2), sink)
-    answer = HEAD.pack(7, 3, 4) + b"abcerr\n"
+    answer = BEGUN + HEAD.pack(7, 3, 4) + b"abcerr\n"
     assert sink.getvalue() == sha256(path.read_bytes()).hexdigest().encode() + answer * 2
 
     def hungry(path, words, files):
@@ -115,7 +115,7 @@ def test_a_worker_serves(tmp_path, monkeypatch):
     monkeypatch.setattr(_worker, "run_program", hungry)
     sink = io.BytesIO()
     _worker.serve(io.BytesIO(question), sink)
-    assert sink.getvalue()[64:] == HEAD.pack(12, 0, 0)
+    assert sink.getvalue()[64:] == BEGUN + HEAD.pack(12, 0, 0)
 
 
 @pytest.mark.usefixtures("built")

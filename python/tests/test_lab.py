@@ -50,13 +50,46 @@ def test_an_order_is_printed_and_drawn(tmp_path):
 def test_two_programs_are_decided(tmp_path):
     """A bet on (0, 0) that loses as much at (1, 0): these are told apart digit by digit alone, which makes it worth the probability of (0, 0)."""
     found = lab("decide", PIN, WHOLE)
-    assert (found.exit_code, found.output) == (0, "refines yes\nfound peeling\ncertificate 122 bytes, accepted\n")
+    priors = "It holds for every prior on the secret, since each of its values is possible.\n"
+    assert (found.exit_code, found.output) == (0, "refines yes\nfound peeling\ncertificate 122 bytes, accepted\n" + priors)
     found = lab("decide", WHOLE, PIN, "--json", "-o", tmp_path / "no.json")
     read = json.loads(found.output)
     assert (found.exit_code, read["refines"], read["worth"]) == (1, False, ["0", "1/9"])
+    assert read["priors"] == "It holds for every prior under which each value of the secret is possible."
     assert json.loads((tmp_path / "no.json").read_text()) == read["certificate"]
     found = lab("decide", PIN, WHOLE, "--seconds", "0", "-o", tmp_path / "none.json")
     assert (found.exit_code, found.output) == (2, "not decided\nreason no time is left\n") and not (tmp_path / "none.json").exists()
+
+
+UNIFORM = "var x : 0..3 := uniform 0..3;\nabout old x;\nobserve %s;\n"
+SKEWED = UNIFORM.replace("uniform 0..3;", "choose { 0 : 3, 1 : 1 };")
+LEFT = UNIFORM.replace("old x", "x")
+
+
+@pytest.mark.parametrize(
+    ("a", "b", "status", "sentence"),
+    [
+        (SKEWED % "x", SKEWED % "0", 0, "It holds for every prior on the secret's values that are possible here; 2 isn't."),
+        (SKEWED % "0", SKEWED % "x", 1, "It holds for every prior under which the same values are possible as here; 2 isn't."),
+        (
+            UNIFORM % "x",
+            SKEWED % "0",
+            1,
+            "The priors differ: 0 has the probability 1/4 in a.kf, and 3/4 in b.kf. So it says nothing of which program leaks more.",
+        ),
+        (
+            LEFT % "x",
+            LEFT % "0",
+            0,
+            "It holds for the prior that the programs have, and says nothing of others: x isn't old in the target of b.kf, so ",
+        ),
+    ],
+)
+def test_a_decision_says_for_which_priors_it_holds(tmp_path, a, b, status, sentence):
+    for name, text in (("a.kf", a), ("b.kf", b)):
+        (tmp_path / name).write_text(text)
+    found = lab("decide", tmp_path / "a.kf", tmp_path / "b.kf")
+    assert found.exit_code == status and found.output.splitlines()[-1].startswith(sentence)
 
 
 @pytest.mark.parametrize("kind", ["bars", "blame", "channel", "lines", "trail"])
@@ -118,7 +151,12 @@ def test_what_cannot_be_done_ends_with_2(tmp_path, lock):
         (["expand", lock], "undefined"),
         (["expand", lock, "--set", "n"], "NAME=VALUE"),
         (["expand", lock, "--set", "n=1..3", "--set", "t=1"], "3 values"),
+        (["expand", lock, "--set", "n=4", "--set", "t=1", "--set", "nope=1"], "lock.kf.j2 doesn't ask for 'nope': it asks for n, t"),
         (["sweep", lock, "colour", "--set", "n=4", "--set", "t=1"], "colour"),
+        (["sweep", lock, "leak --gain bays", "--set", "n=4", "--set", "t=1"], "gain is bayes, tries:K with K from 1 to 65535"),
+        (["sweep", lock, "capacity --gain bayes", "--set", "n=4", "--set", "t=1"], "capacity takes no --gain"),
+        (["sweep", lock, "reach 3/2", "--set", "n=4", "--set", "t=1"], "the probability lies above 0"),
+        (["sweep", lock, "leak", "--set", "n=4", "--set", "t=1", "--set", "nope=1"], "lock.kf.j2 doesn't ask for 'nope': it asks for n, t"),
         (["gate", tmp_path / "none.toml"], "none.toml"),
     ]:
         found = lab(*words)

@@ -4,9 +4,11 @@ from fractions import Fraction
 
 import pytest
 
-from kuifje import Action, GainTable, KuifjeError, Program, labels, observations, plan
+from kuifje import Action, Engine, GainTable, KuifjeError, OutOfTime, Program, deadlines, labels, observations, plan
+from kuifje.deadlines import Deadline
 from kuifje.model import Noise, Secret, choose, flip, model, observe, uniform
 from kuifje.observations import Fork, Leaf, drawn
+from kuifje.workers import too_late
 
 HALF, QUARTER = Fraction(1, 2), Fraction(1, 4)
 LOCK = """var pin : 0..3 := uniform 0..3;
@@ -135,13 +137,90 @@ def test_many_traces_leave_a_program_without_labels():
     found = labels(Program(COINS))
     assert [label.text for label in found] == [None, None] and "there are 16384 traces" in str(found) and "no label" in str(found)
     printed = str(plan(Program(COINS)))
-    assert "labels are made of 10000 at most" in printed and "├─ inner 0: guess true (value 3/4, probability 1/2)" in printed
+    assert "at most 10000 are gone through" in printed and "├─ inner 0: guess true (value 3/4, probability 1/2)" in printed
 
 
 def test_a_table_of_traces_that_takes_too_long_leaves_no_labels(monkeypatch):
     monkeypatch.setattr(observations, "SECONDS", 0.0)
     found = labels(Program(LOCK))
     assert [label.text for label in found] == [None] * 3 and "too many traces: the question took longer than it may" in found.cause
+
+
+def test_a_tree_with_too_many_leaves_is_a_line_for_each_inner():
+    """The parity of a number is shown three times, right with 3/4: 8 traces, of which those with one number of ones lead to one inner. A trace with k
+    ones has the probability (3^k + 3^(3 - k)) / 128."""
+    noisy_parity = Program("var x : 0..3 := uniform 0..3;\nabout old x;\n" + "observe choose { x mod 2 : 3, 1 - x mod 2 : 1 };\n" * 3)
+    assert str(plan(noisy_parity, leaves=8)).count("guess") == 8
+    head, cause, *lines = str(plan(noisy_parity, leaves=7)).splitlines()
+    assert head == "gain bayes, posterior vulnerability 27/64"  # 2 · 7/32 · 27/56 + 2 · 9/32 · 3/8
+    assert cause == "the tree of 8 traces has more than 7 leaves: a line for each inner has the shortest trace that leads there"
+    assert sorted(line[3:] for line in lines) == [
+        "0, then 0, then 0: guess 0 (value 27/56, probability 7/32)",
+        "0, then 0, then 1, and 2 more: guess 0 (value 3/8, probability 9/32)",
+        "0, then 1, then 1, and 2 more: guess 1 (value 3/8, probability 9/32)",
+        "1, then 1, then 1: guess 1 (value 27/56, probability 7/32)",
+    ]
+    few = str(plan(noisy_parity, leaves=3)).splitlines()
+    assert len(few) == 6 and few[5] == "└─ and 1 more inners: the attack has what is done there"
+
+
+def test_a_shown_number_of_many_values_is_not_printed_whole():
+    """5,000 leaves, each an inner of its own: the first thousand are named."""
+    lines = str(plan(Program("var x : 0..4999 := uniform 0..4999;\nabout old x;\nobserve x;\n"))).splitlines()
+    assert len(lines) == 2 + 1000 + 1 and lines[2] == "├─ 0: guess 0 (value 1, probability 1/5000)"
+    assert lines[1].startswith("the tree of 5000 traces has more than 1000 leaves") and lines[-1].startswith("└─ and 4000 more inners: ")
+
+
+@pytest.fixture
+def two_seconds_each(monkeypatch):
+    """Each question takes two seconds, by a clock that nothing else moves. Gives the clock, and what each question might take."""
+    clock, asked, given = [0.0], Engine._asked, []
+
+    def slow(self, words, files, deadline):
+        given.append((words[0], deadline.left))
+        found = asked(self, words, files, Deadline(None))
+        clock[0] += min(2.0, deadline.left)
+        if deadline.passed:
+            raise too_late(deadline)
+        return found
+
+    monkeypatch.setattr(deadlines, "monotonic", lambda: clock[0])
+    monkeypatch.setattr(Engine, "_asked", slow)
+    return clock, given
+
+
+def test_the_seconds_of_a_plan_are_for_all_its_questions(two_seconds_each):
+    clock, given = two_seconds_each
+    assert plan(Program(LOCK), timeout=7).cause is None
+    assert given == [("hyper", 7), ("attack", 5), ("traces", 3)] and clock == [6]
+    found = plan(Program(LOCK), timeout=5)
+    assert clock == [6 + 5] and found.vulnerability == Fraction(3, 4)
+    assert found.cause == "no inner has a label: there are too many traces: the question took longer than it may: no answer within 1 seconds"
+    with pytest.raises(OutOfTime, match="no answer within 3 seconds"):
+        plan(Program(LOCK), timeout=3)
+    assert clock == [11 + 3]
+
+
+def test_the_seconds_of_labels_are_for_all_their_questions(two_seconds_each):
+    clock, given = two_seconds_each
+    assert labels(Program(LOCK), timeout=5).cause is None and given == [("hyper", 5), ("traces", 3)]
+    assert "no answer within 1 seconds" in labels(Program(LOCK), timeout=3).cause and clock == [4 + 3]
+
+
+def test_a_models_runs_have_the_time_that_its_traces_leave(two_seconds_each, monkeypatch):
+    """Each run takes a quarter of a second. Hyper and attack leave 2.4 seconds, of which traces may take half. In the others end four of 16."""
+    clock, given = two_seconds_each
+    runs = type(noisy).runs
+
+    def slow(self, **public):
+        for run in runs(self, **public):
+            clock[0] += 0.25
+            yield run
+
+    monkeypatch.setattr(type(noisy), "runs", slow)
+    found = plan(noisy, timeout=6.4)
+    assert [command for command, _ in given] == ["hyper", "attack", "traces"] and given[2][1] == pytest.approx(1.2)
+    assert found.cause.endswith("4 runs in Python took 1.2 seconds, and there are more") and clock[0] < 6.4 + 0.25
 
 
 def test_the_runs_of_a_model_label_what_traces_cannot(monkeypatch):
@@ -158,7 +237,7 @@ def test_the_runs_of_a_model_label_what_traces_cannot(monkeypatch):
     monkeypatch.setattr(observations, "MOST_RUNS", 31)
     assert (
         labels(noisy).cause
-        == "no inner has a label: there are 16 traces, and labels are made of 15 at most; there are more than 31 runs in Python, too"
+        == "no inner has a label: there are 16 traces, and at most 15 are gone through; there are more than 31 runs in Python, too"
     )
 
 

@@ -65,7 +65,7 @@ def test_the_page_runs(command, printed, tmp_path, monkeypatch):
 def test_each_rule_has_a_section_with_both_texts():
     sections = re.split(r"^## ", PAGE, flags=re.MULTILINE)[1:]
     listed = re.findall(r"^\| \[([\w-]+)\]\(#\1\)", PAGE, flags=re.MULTILINE)
-    assert [section.split("\n")[0] for section in sections] == listed and len(listed) == 7
+    assert [section.split("\n")[0] for section in sections] == listed and len(listed) == 9
     for rule, section in zip(listed, sections):
         hints = [block for block in section.split("```") if block.startswith("text\nkuifje-lab lint")]
         assert len(hints) == 2 and f": {rule}: " in hints[0] and hints[1].count("\n") == 2, rule
@@ -75,8 +75,43 @@ def test_each_rule_has_a_section_with_both_texts():
 
 
 @pytest.mark.usefixtures("built")
+@pytest.mark.parametrize(
+    ("text", "found"),
+    [
+        ("var x : 0..3 := 2;\nabout old x;\nx := uniform 0..3;\nobserve x;\n", ["old x has one value, 2, "]),
+        ("var x : 0..3 := 2; var y : bool := true;\nabout old x, old y;\nobserve x;\n", ["old x, old y has one value, (2, true), "]),
+        ("var x : 0..3 := choose { 1 : 4 }; var y : bool := flip 1/2;\nabout old x;\nobserve x = 1 and y;\n", ["old x has one value, 1, "]),
+        ("var x : 0..3 := 2; var y : bool := flip 1/2;\nabout old x, old y;\nobserve x;\n", []),
+        ("var x : 0..3 := uniform 0..3;\nabout old x;\nobserve x;\nx := 0;\n", []),
+    ],
+)
+def test_a_secret_with_one_value(text, found):
+    """What is known before is known: the prior vulnerability is 1 where there is one value, and only there."""
+    hints = [hint.text for hint in lint(Program(text), slow=NEVER)]
+    assert len(hints) == len(found) and all(text.startswith(begins) for text, begins in zip(hints, found))
+    assert (Program(text).leak().prior_vulnerability == 1) == bool(found)
+
+
+@pytest.mark.usefixtures("built")
+@pytest.mark.parametrize(
+    ("about", "found"),
+    [
+        ("old x, y", "y is asked about as it is left, and x as before the first statement; for what it was, write 'old y'"),
+        ("y, old x, z", "y and z are asked about as they are left, and x as before the first statement; for what they were, write 'old y, old z'"),
+        ("old x, x", None),
+        ("old x, old y, x", None),
+        ("old x, old y", None),
+    ],
+)
+def test_a_target_of_which_one_item_is_not_old(about, found):
+    text = "".join(f"var {name} : 0..1 := uniform 0..1;\n" for name in "xyz") + f"about {about};\nobserve x;\n"
+    hints = [(hint.rule, hint.line, hint.text) for hint in lint(Program(text), slow=NEVER)]
+    assert hints == ([("mixed-target", 4, found)] if found else [])
+
+
+@pytest.mark.usefixtures("built")
 def test_a_whole_comparison_without_its_last_turn():
-    """Three tries of 64 are three beliefs in place of four: the third try is never seen. With it an open lock is one of 4 outcomes."""
+    """Three tries of 64 are three posteriors in place of four: the third try is never seen. With it an open lock is one of 4 outcomes."""
     program = Program(WHOLE)
     assert program.leak().posterior_vulnerability == Fraction(3, 64)
     (hint,) = lint(program, slow=NEVER)
@@ -150,13 +185,13 @@ def test_priors_of_what_is_left_and_targets_that_differ():
     left = first.replace("about old x;\n", "about x;\n")
     even, odd = left + "x := x - x mod 2;\n", left + "x := x - x mod 2 + 1;\n"
     (hint,) = [hint for hint in lint(Program(even, name="even.kf"), Program(odd), refine=True) if hint.rule == "priors-differ"]
-    assert hint.text.endswith("differ, so refine says no: 0 has the probability 1/2 in even.kf, and 0 here")
+    assert hint.text.endswith("differ, so refine says no, and nothing of which leaks more: 0 has the probability 1/2 in even.kf, and 0 here")
 
 
 @pytest.mark.usefixtures("built")
 def test_a_target_that_names_a_helper_and_one_that_is_set():
-    text = "var x : 0..1 := 0; var y : 0..1 := 0;\nabout old x, y;\ny := x;\n"
-    assert rules(Program(text), covers=True) == []
+    text = "var x : 0..1 := uniform 0..1; var y : 0..1 := 0;\nabout old x, y;\ny := x;\n"
+    assert rules(Program(text), covers=True) == [("mixed-target", 2)]
     helper = text.replace(", y;", ";")
     assert rules(Program(helper), covers=True) == [("covers-helper", 1)]
     assert rules(Program(helper + "y := 1;\n"), covers=True) == []
@@ -187,13 +222,14 @@ def test_what_takes_too_long_says_so():
         "var x : 0..3 := uniform 0..3; var y : 0..3 := uniform 0..3; var b : bool := false;\nabout old x;\nobserve y;\nwhile not b { b := true; }\n"
     )
     hints = lint(Program(text, engine=Engine(timeout=0)), slow=-1)
-    assert [(hint.rule, hint.line) for hint in hints] == [("unseen-last-turn", 1), ("unread-variable", 2), ("unread-variable", 3)]
+    unread = [("unread-variable", 2), ("unread-variable", 3)]
+    assert [(hint.rule, hint.line) for hint in hints] == [("constant-secret", 1), ("unseen-last-turn", 1), *unread]
     assert all("isn't known" in hint.text for hint in hints) and "took longer than it may" in str(hints)
 
 
 @pytest.mark.usefixtures("built")
 def test_hints_are_rows_and_a_refusal_is_raised():
-    found = lint(Program("var x : 0..1 := uniform 0..1;\n", name="a.kf"), Program("var x : bool := true;\nabout old x;\n"))
+    found = lint(Program("var x : 0..1 := uniform 0..1;\n", name="a.kf"), Program("var x : bool := flip 1/2;\nabout old x;\n"))
     assert [row["file"] for row in found.records()] == ["a.kf"] and '"rule": "no-secret"' in found.to_json()
     assert repr(found).startswith("<Hints>\na.kf:1: no-secret: ") and "<td>no-secret</td>" in found._repr_html_()
     with pytest.raises(Refusal):
@@ -227,6 +263,7 @@ def test_hints_on_a_template_and_on_a_model_have_their_lines():
     (hint,) = lint(templates.Template(text, "lock.kf.j2").program({"n": 2}), slow=NEVER)
     assert (hint.rule, hint.file, hint.line) == ("unseen-last-turn", "lock.kf.j2", 4)
     (hint,) = lint(swallowed.program(), slow=NEVER)
+    assert list(lint(swallowed, slow=NEVER)) == [hint]
     begins = Path(__file__).read_text(encoding="utf-8").split("\n").index("def swallowed(pin: Secret = uniform(range(4))):") + 1
     assert hint.rule == "unseen-last-turn" and Path(hint.file).name == "test_lint.py" and hint.line == begins + 2
 

@@ -35,7 +35,7 @@ def test_lines_have_their_colours_and_numbers():
 def test_a_legend_says_what_colours_mean():
     items = [re.sub(r"<.*?>", "", item) for item in re.findall(r"<li.*?</li>", listing(TEXT, Lines.parse(ANSWER)))]
     assert items == [
-        "▯▯▯▯ 0: shows nothing that others don&#x27;t show too, which isn&#x27;t that it shows nothing",
+        "▯▯▯▯ 0: worth nothing to this adversary beside the other lines, though it may show something",
         "▮▯▯▯ up to 1/8 (0.125) less",
         "▮▮▯▯ up to 1/4 (0.25) less",
         "▮▮▮▯ up to 3/8 (0.375) less",

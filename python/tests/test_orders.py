@@ -4,8 +4,9 @@ import json
 
 import pytest
 
-from kuifje import Engine, Program, Refusal, TooLarge, check, order
+from kuifje import Engine, Program, Refusal, TooLarge, certificate, check, covers, order, refine
 from kuifje.engine import Answer
+from kuifje.model import Public, Secret, model, observe, one_of, uniform
 from kuifje.orders import Order, Pair
 
 
@@ -62,15 +63,64 @@ def test_a_pair_that_takes_too_long_has_no_verdict():
     assert len(found.open) == 2 and all(isinstance(pair.cause, TooLarge) for pair in found.pairs.values())
 
 
+@pytest.mark.usefixtures("built")
 def test_names_differ():
-    with pytest.raises(ValueError):
-        order(about_x("whole", "x"), about_x("whole", "0"))
-    with pytest.raises(ValueError):
+    whole, nothing = about_x("whole", "x"), about_x("whole", "0")
+    with pytest.raises(ValueError, match="two are called 'whole': give names="):
+        order(whole, nothing)
+    assert order(whole, nothing, names=["all", "none"]).edges == ((("all",), ("none",)),)
+    for names in (["all"], ["all", "none", "more"]):
+        with pytest.raises(ValueError, match="2 programs and"):
+            order(whole, nothing, names=names)
+    with pytest.raises(ValueError, match="at least one program"):
         order()
+
+
+@pytest.mark.usefixtures("built")
+def test_another_prior_is_said_to_be_one():
+    """Neither is safer: the first shows nothing of a value that is 0 half the time, the second all of one that is uniform."""
+    skewed = Program("var x : 0..3 := choose { 0 : 3, 1 : 1, 2 : 1, 3 : 1 };\nabout old x;\nobserve 0;\n", name="skewed.kf")
+    found = order(skewed, about_x("whole", "x"), about_x("half", "x div 2"))
+    assert found.apart == (("skewed", "whole"), ("skewed", "half")) and found.edges == ((("whole",), ("half",)),)
+    text = "skewed and whole have other priors, so nothing is said of which leaks more: 0 has the probability 1/2 in skewed, and 1/4 in whole\n"
+    assert text in str(found) and "leaks less than skewed" not in str(found)
+    assert found.records()[0] == {"program": "skewed", "skewed": "yes", "whole": "another prior", "half": "another prior"}
+    assert found.records()[2] == {"program": "half", "skewed": "another prior", "whole": "no", "half": "yes"}
+    read = json.loads(found.to_json())
+    assert read["apart"] == [["skewed", "whole"], ["skewed", "half"]]
+    assert {(v["of"], v["by"]): v["another_prior"] is None for v in read["verdicts"]}[("half", "whole")] is True
+    assert all(v["another_prior"] for v in read["verdicts"] if "skewed" in (v["of"], v["by"]))
+
+
+@model
+def shifted(x: Secret = uniform(range(8)), by: Public = one_of(range(4))):
+    observe(x >> by)
+
+
+@model
+def parity(x: Secret = uniform(range(8))):
+    observe(x & 1)
+
+
+@pytest.mark.usefixtures("built")
+def test_programs_of_one_model_are_called_by_their_inputs():
+    """A shift by one more shows a function of what the shift shows; the last bit is another one."""
+    found = order(shifted.program(by=1), shifted.program(by=2), parity)
+    assert found.names == ("shifted(by=1)", "shifted(by=2)", "parity") and found.edges == ((("shifted(by=1)",), ("shifted(by=2)",)),)
+
+
+@pytest.mark.usefixtures("built")
+def test_a_model_with_several_programs_is_named():
+    for asked in (order, refine, certificate, covers):
+        with pytest.raises(TypeError, match=r"shifted has a program for each of its public inputs: .* shifted\.program\(by=0\)"):
+            asked(parity, shifted)
+    assert refine(parity, parity).refines and order(parity).nodes == (("parity",),)
 
 
 class Answering(Engine):
     """An engine that gives one answer to all questions."""
+
+    timeout = None
 
     def __init__(self, status, line):
         self.answer = Answer(status, b"", f"kuifje: {line}\n".encode())
@@ -103,6 +153,6 @@ def test_the_lines_of_an_order_are_its_transitive_reduction():
 def test_an_order_is_json_and_a_data_frame():
     found = made("ab", {("a", "b")})
     read = json.loads(found.to_json())
-    assert read == {"nodes": [["a"], ["b"]], "edges": [[["a"], ["b"]]], "open": [], "verdicts": []}
+    assert read == {"nodes": [["a"], ["b"]], "edges": [[["a"], ["b"]]], "open": [], "apart": [], "verdicts": []}
     pytest.importorskip("pandas")
     assert found.to_pandas().to_dict("records") == [{"program": "a", "a": "yes", "b": "yes"}, {"program": "b", "a": "no", "b": "yes"}]

@@ -8,6 +8,7 @@ import pytest
 matplotlib = pytest.importorskip("matplotlib")
 
 from kuifje import Order, Pair, Program, channels, pictures  # noqa: E402
+from kuifje.design import Corner  # noqa: E402
 from kuifje.texts import Blame, BlameLine, Lines, Trail  # noqa: E402
 
 STORED = Path(__file__).parent / "pictures"
@@ -21,6 +22,7 @@ TRAIL = Trail((1, 2, 2, 3))
 NAMES = ("whole", "parity", "odd", "half", "other", "nothing")
 YES = {("whole", name) for name in NAMES} | {(name, "nothing") for name in NAMES} | {("parity", "odd"), ("odd", "parity")}
 UNKNOWN = ({"half", "other"},)
+CURVE = [Corner(Fraction(0), Fraction(1), TWO), Corner(HALF, Fraction(3, 5), TWO), Corner(Fraction(3, 2), HALF, TWO)]
 ORDER = Order(NAMES, {(a, b): Pair(True if (a, b) in YES else None if {a, b} in UNKNOWN else False) for a in NAMES for b in NAMES if a != b})
 
 DRAWN = {
@@ -31,6 +33,7 @@ DRAWN = {
     "vulnerability": lambda: pictures.vulnerability(TWO),
     "blame": lambda: pictures.blame(Program(TEXT), BLAME),
     "trail": lambda: pictures.trail(Program(TEXT), TRAIL),
+    "tradeoff": lambda: pictures.tradeoff(CURVE),
 }
 
 
@@ -84,6 +87,16 @@ def test_posterior_vulnerability_by_hand():
     assert list(prior.get_ydata()) == [max(k, 20 - k) / 20 for k in range(21)]
 
 
+def test_a_curve_goes_through_its_corners():
+    axes = pictures.tradeoff(CURVE)
+    curve, corners = (line.get_xydata().tolist() for line in axes.lines)
+    assert corners == [[0, 1], [0.5, 0.6], [1.5, 0.5]] == curve[:3] and curve[3][1] == 0.5 and curve[3][0] > 1.5
+    assert texts_of(axes) == ["(0, 1)", "(1/2, 3/5)", "(3/2, 1/2)", "no channel"]
+    assert len(pictures.tradeoff(CURVE[:1]).lines) == 2
+    with pytest.raises(ValueError, match="a curve has a corner"):
+        pictures.tradeoff([])
+
+
 def test_the_least_leak_stands_above():
     heights = {text.get_text(): text.get_position()[1] for text in pictures.hasse(ORDER).texts}
     assert heights["nothing"] > heights["half"] == heights["parity = odd"] > heights["whole"] and "?" in heights
@@ -106,8 +119,8 @@ def test_lines_stand_beside_their_statements():
         pictures.lines(Program(text.removesuffix("observe 0;\n")), Lines.parse(answer))
 
 
-def test_beliefs_stand_beside_their_lines():
-    """Two beliefs after the first statement and the second, four after the third: bars of half the length, and of the whole."""
+def test_numbers_of_posteriors_stand_beside_their_lines():
+    """Two posteriors after the first statement and the second, four after the third: bars of half the length, and of the whole."""
     axes = pictures.trail(Program(TEXT), Trail((1, 2, 2, 4)))
     places = [(text.get_text(), text.get_position()[1]) for text in axes.texts]
     assert {("2", 2), ("2", 5), ("4", 6)} <= set(places)
@@ -133,3 +146,11 @@ def test_statements_on_one_line_are_marked_together():
 def test_what_does_not_fit_is_refused(draw):
     with pytest.raises(ValueError):
         draw()
+
+
+def test_a_picture_of_an_order_names_other_priors():
+    names = "abcd"
+    pairs = {(a, b): Pair(False, apart=f"0 has the probability 1 in {a}, and 0 in {b}") for a in names for b in names if a != b}
+    texts = [text.get_text() for text in pictures.hasse(Order(tuple(names[:2]), pairs)).texts]
+    assert texts[-1] == "top leaks least\na and b: other priors"
+    assert pictures.hasse(Order(tuple(names), pairs)).texts[-1].get_text().endswith("\na and d: other priors\n.. and more")

@@ -1,12 +1,20 @@
 """Questions to the program: by hand, from the first pages. They need a built program."""
 
+import math
+import os
+import shutil
 import signal
+import subprocess
+import sys
 from fractions import Fraction
+from pathlib import Path
 
 import pytest
 
 import kuifje
-from kuifje import Action, Engine, GainTable, Program, Refusal, TooLarge, channels, measures
+from kuifje import Action, Engine, GainTable, OutOfTime, Program, Refusal, TooLarge, channels, measures
+from kuifje._protocol import PROGRAM
+from kuifje.workers import too_late
 
 pytestmark = pytest.mark.usefixtures("built")
 
@@ -122,11 +130,33 @@ def test_a_question_that_takes_too_much_memory_is_ended():
     engine.close()
 
 
+def test_comparisons_have_a_bound_where_nothing_is_said(monkeypatch):
+    """A minute; the engine's, where that has one; and none where none is said. Other questions have none but the engine's."""
+
+    def asked(self, words, files, deadline):
+        raise too_late(deadline)
+
+    monkeypatch.setattr(Engine, "_asked", asked)
+    bounded = Program(PARITY.text, name="bounded.kf", engine=Engine(timeout=7))
+    for question in (kuifje.refine, kuifje.certificate, kuifje.covers):
+        with pytest.raises(OutOfTime, match="no answer within 60 seconds; give timeout=None for none$"):
+            question(WHOLE, PARITY)
+        for timeout, seconds in ((None, "inf"), (math.inf, "inf"), (5, "5"), (60, "60")):
+            with pytest.raises(OutOfTime, match=f"no answer within {seconds} seconds$"):
+                question(WHOLE, PARITY, timeout=timeout)
+        for timeout, seconds in (({}, "7"), ({"timeout": None}, "7"), ({"timeout": 90}, "90"), ({"timeout": math.inf}, "inf")):
+            with pytest.raises(OutOfTime, match=f"no answer within {seconds} seconds$"):
+                question(bounded, PARITY, **timeout)
+    for question in (PARITY.hyper, lambda: kuifje.parallel(WHOLE, PARITY)):
+        with pytest.raises(OutOfTime, match="within inf seconds$"):
+            question()
+
+
 def test_an_interrupt_ends_the_question_alone():
     engine = Engine()
     slow = Program(SLOW.text, engine=engine)
     with pytest.raises(KeyboardInterrupt):
-        previous = signal.signal(signal.SIGALRM, lambda *_: signal.raise_signal(signal.SIGINT))
+        previous = signal.signal(signal.SIGALRM, signal.default_int_handler)  # what SIGINT does, also where that is ignored
         try:
             signal.setitimer(signal.ITIMER_REAL, 0.5)
             slow.hyper(timeout=30)
@@ -199,3 +229,24 @@ def test_answers_that_have_one_row_or_several():
     ]
     assert PARITY.trail().inners == (1, 2) and len(PARITY.quiet(0, 1).inners) == 1
     assert list(PARITY.channel().rows.values()) == [(1, 0), (0, 1)] * 2
+
+
+def test_the_package_runs_the_program(tmp_path):
+    """As its command does: the same words and files, what is printed, and the status; where there is none, how to get it."""
+    (tmp_path / "parity.kf").write_bytes(PARITY.text)
+
+    def run(*words, **environment):
+        given = {"PYTHONPATH": os.pathsep.join(sys.path), "PATH": str(tmp_path), **environment}
+        return subprocess.run([sys.executable, "-m", "kuifje", *words], cwd=tmp_path, env=given, capture_output=True, text=True, check=False)
+
+    named = os.environ.get(PROGRAM) or shutil.which("kuifje")
+    found = run("capacity", "parity.kf", **{PROGRAM: named})
+    assert (found.returncode, found.stdout, found.stderr) == (0, "capacity 2\n", "")
+    found = run("quiet", "parity.kf", "0..9", **{PROGRAM: named})
+    assert (found.returncode, found.stdout, found.stderr) == (13, "", "kuifje: parity.kf: 1 statements\n")
+    found = run("hyper", "parity.kf")
+    assert (found.returncode, found.stdout) == (2, "") and "make" in found.stderr and PROGRAM in found.stderr
+
+
+def test_the_version_is_that_of_the_repository():
+    assert kuifje.__version__ == (Path(__file__).resolve().parents[2] / "VERSION").read_text().strip()

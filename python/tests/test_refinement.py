@@ -3,6 +3,7 @@
 import json
 import random
 import sys
+import time
 from dataclasses import replace
 from fractions import Fraction
 from math import prod
@@ -12,10 +13,11 @@ from hypothesis import given, settings
 from hypothesis import strategies as st
 
 import pairs
-from kuifje import Certificate, KuifjeError, Program, Refusal, TooLarge, certificate, check, refine
-from kuifje.refinement import decide, decisions
+from kuifje import Certificate, Engine, KuifjeError, OutOfTime, Program, Refusal, TooLarge, certificate, check, deadlines, refine
+from kuifje.refinement import decide, decisions, elimination, exact, proofs
 from kuifje.refinement.problem import Deadline, Problem
 from kuifje.refinement.proofs import Proof, Undecided
+from kuifje.workers import too_late
 
 pytestmark = [pytest.mark.usefixtures("built"), pytest.mark.filterwarnings("ignore::kuifje.questions.AsItIsLeft")]
 
@@ -248,6 +250,109 @@ def test_without_time_there_is_no_verdict():
     found = decide(WHOLE, PARITY, seconds=0)
     assert (found.refines, found.found, found.certificate, found.reason) == (None, None, None, "no time is left")
     assert str(found) == "not decided\nreason no time is left\n"
+
+
+@pytest.fixture
+def two_seconds_each(monkeypatch):
+    """Each question takes two seconds, by a clock that nothing else moves. Gives the clock, and what each question might take."""
+    clock, asked, given = [0.0], Engine._asked, []
+
+    def slow(self, words, files, deadline):
+        given.append((words[0], deadline.left))
+        found = asked(self, words, files, Deadline(None))
+        clock[0] += min(2.0, deadline.left)
+        if deadline.passed:
+            raise too_late(deadline)
+        return found
+
+    monkeypatch.setattr(deadlines, "monotonic", lambda: clock[0])
+    monkeypatch.setattr(Engine, "_asked", slow)
+    return clock, given
+
+
+def test_the_seconds_of_a_decision_are_for_all_its_questions(two_seconds_each):
+    """The check may take a fifth of them more."""
+    clock, given = two_seconds_each
+    assert decide(WHOLE, PARITY, seconds=10).refines is True
+    assert given == [("hyper", 10), ("hyper", 8), ("check", 10 + 2 - 4)] and clock == [6]
+    found = decide(WHOLE, PARITY, seconds=4.25)
+    assert found.refines is None and "no answer within 1.1 seconds" in found.reason and clock[0] - 6 == pytest.approx(4.25 * 1.2)
+    clock[0] = 0.0
+    assert decide(WHOLE, PARITY, seconds=3).reason == "no time is left" and clock == [3]
+    with pytest.raises(OutOfTime, match="no answer within 1 seconds"):
+        decide(WHOLE, PARITY, seconds=10, timeout=1)
+
+
+class Looked:
+    """A deadline that is passed at its n-th look."""
+
+    def __init__(self, looks):
+        self.looks, self.seen, self.left = looks, 0, 60.0
+
+    @property
+    def passed(self):
+        self.seen += 1
+        return self.seen > self.looks
+
+    def within(self, seconds):
+        return self
+
+
+def is_looked_at(step, least):
+    """A step looks at its deadline so often at least, and ends at any of these looks."""
+    whole = Looked(10**9)
+    step(whole)
+    assert whole.seen >= least
+    for looks in (0, 1, least // 2, least - 1):
+        early = Looked(looks)
+        with pytest.raises(Undecided):
+            step(early)
+        assert early.seen == looks + 1
+
+
+def test_each_step_over_whole_numbers_looks_at_the_time():
+    """At least once for each inner, entry, equation or action."""
+    rng = random.Random(9)
+    a, b = pairs.garbled(rng, pairs.joint(rng, 12, 4, share=1), 8, 40)
+    first, second = pairs.hyper(a), pairs.hyper(b)
+    problem = Problem.of(first, second)
+    places = [(i, j) for i in range(problem.m) for j in range(problem.n)]
+    matrix = {(i, j): Fraction(1, problem.n) for i, j in places}
+    actions = [{value: 1} for value in range(4)]
+    is_looked_at(lambda deadline: Problem.of(first, second, deadline), 12 + 8 + 4)
+    is_looked_at(lambda deadline: proofs.by_matrix(problem, matrix, deadline), len(places))
+    is_looked_at(lambda deadline: proofs.by_table(problem, actions, deadline), 12 + 8)
+    is_looked_at(lambda deadline: elimination.solution(problem, places, deadline), 2 * len(places))
+    is_looked_at(lambda deadline: exact.tries(problem, deadline), 12 + 8)
+    by_token = problem_of([[2, 1, 0, 0], [0, 0, 1, 2]], [[2, 0, 0, 0], [0, 1, 0, 0], [0, 0, 1, 2]])
+    is_looked_at(lambda deadline: exact.peeling(by_token, deadline), 6)
+
+
+@wanting("scipy")
+def test_each_step_over_floats_looks_at_the_time():
+    from kuifje.refinement import interior, lattice, numeric, rounded_matrix
+
+    rng = random.Random(6)
+    vectors = [[rng.randint(1, 10**6) for _ in range(4)] for _ in range(9)]
+    is_looked_at(lambda deadline: lattice.Lattice(vectors, deadline), 9)
+    a, b = pairs.dense(rng, pairs.joint(rng, 12, 4, share=1), 9, 40)
+    problem = problem_of(a, b)
+    is_looked_at(lambda deadline: interior.middle_of(problem, problem.allowed, deadline), 20)
+    is_looked_at(lambda deadline: rounded_matrix.mended_middle(problem, deadline), 40)
+    is_looked_at(lambda deadline: numeric.one_inner_of_a(problem, deadline), 12)
+
+
+@wanting("scipy")
+def test_what_would_take_longer_than_is_left_and_cannot_be_ended_is_not_begun():
+    from kuifje.refinement import numeric
+
+    done = []
+    numeric.affords(Deadline(60), lambda: done.append(1), 96**3, "little")
+    assert not done  # it isn't tried out for that
+    numeric.affords(Deadline(60), lambda: done.append(1), 100 * 96**3, "more")
+    assert len(done) == 3
+    with pytest.raises(Undecided, match="^much would take about [0-9]+ seconds$"):
+        numeric.affords(Deadline(1), lambda: time.sleep(0.01), 1000 * 96**3, "much")
 
 
 def test_a_check_that_takes_too_long_is_no_verdict(monkeypatch):

@@ -58,7 +58,9 @@ def test_a_report_by_hand(pins):
     assert ["bayes", "1/9 (0.1111)", "2/9 (0.2222)", "2", "1/9 (0.1111)"] in page.rows
     assert ["5", "−2/9 (0.2222), −1/9 (0.1111) ▮▮▮▮", "if first = 1 { observe second = 1; } else { skip; }"] in page.rows
     assert (
-        "up to 1/18 (0.05556) less" in page.text and "up to 2/9 (0.2222) less, the most" in page.text and "0: shows nothing that others" in page.text
+        "up to 1/18 (0.05556) less" in page.text
+        and "up to 2/9 (0.2222) less, the most" in page.text
+        and "0: worth nothing to this adversary" in page.text
     )
     assert ["1", "1/9 (0.1111)", "(1, 1)", "1"] in page.rows
     assert "its Bayes capacity is 3" in page.text and "its Bayes capacity is 2" in page.text

@@ -51,7 +51,9 @@ def test_the_worst_input_by_hand():
     found = worst(below)
     assert (dict(found.inputs), found.value) == ({"bound": 1}, Fraction(1, 4)) and len(found.measured) == 7
     found = worst(below, "leak --gain guessing")
-    assert (dict(found.inputs), found.value) == ({"bound": 4}, Fraction(5, 2)) and str(found).startswith("bound = 4 leaks most: 5/2\n")
+    assert (dict(found.inputs), found.value) == ({"bound": 4}, Fraction(5, 2)) and str(found).startswith(
+        "bound = 4 leaks most (the least number): 5/2\n"
+    )
     assert found.records()[0] == {"bound": 1, "value": Fraction(1 + sum(range(1, 8)), 8)} and "bound = 4 leaks most" in repr(found)
 
 
@@ -62,6 +64,79 @@ def test_the_worst_input_by_other_measures():
     assert dict(worst(below, "reach 1/1").inputs) == {"bound": 4} and worst(below, "reach 1/1").value == 4
     with pytest.raises(TypeError, match="no number"):
         worst(below, "hyper")
+    with pytest.raises(TypeError, match="no number"):
+        worst(below, lambda program: program.capacity() > 1)
+
+
+def guesses(program):
+    return program.leak("guessing").posterior_vulnerability
+
+
+def test_of_a_number_of_guesses_the_least_is_the_worst():
+    """With the bound 4 two halves of four numbers are left, 5/2 guesses; with 1 or 7 one number and seven: (1 + 28) / 8."""
+    found = worst(below, guesses, least=True)
+    assert (dict(found.inputs), found.value, found.least) == ({"bound": 4}, Fraction(5, 2), True)
+    found = worst(below, guesses)
+    assert (dict(found.inputs), found.value) == ({"bound": 1}, Fraction(29, 8))
+    assert worst(below, lambda program: program.leak("guessing")).value == worst(below, "leak --gain guessing", least=True).value == Fraction(5, 2)
+    for measure, least in (("leak --gain guessing", False), ("leak", True), ("reach 1/1", False)):
+        with pytest.raises(ValueError, match="least is"):
+            worst(below, measure, least=least)
+    with pytest.raises(TypeError, match="least is 1"):
+        worst(below, guesses, least=1)
+
+
+@model
+def key(n: Public = one_of([2, 4, 64]), k: Secret = lambda n: uniform(range(n))):
+    observe(k % 2 if n > 2 else 0)
+
+
+def test_inputs_with_different_priors_are_compared_by_leakages():
+    """With n = 2 nothing is shown: 1/2 and then 1/2. With n = 4 a bit is: 2/4 after 1/4, and with n = 64 2/64 after 1/64."""
+    for measure in ("leak", "leak --gain guessing", "reach 1/2", guesses, lambda program: program.capacity()):
+        with pytest.raises(ValueError, match=r"the prior with n = 4 isn't the one with n = 2, .* of=\"multiplicative_leakage\""):
+            worst(key, measure)
+    found = worst(key, of="multiplicative_leakage")
+    assert [value for _, value in found.measured] == [1, 2, 2] and dict(found.inputs) == {"n": 4}
+    assert [value for _, value in worst(key, of="additive_leakage").measured] == [0, Fraction(1, 4), Fraction(1, 64)]
+    assert [value for _, value in worst(key, "capacity").measured] == [1, 2, 2]
+    assert worst(key, lambda program: program.capacity(), own_prior=True).value == 2
+    # 64 numbers take 65/2 guesses, and 32 of them 33/2: 16 fewer, of 4 numbers 5/2 and 3/2
+    found = worst(key, "leak --gain guessing", of="additive_leakage")
+    assert [value for _, value in found.measured] == [0, -1, -16] and dict(found.inputs) == {"n": 64}
+    with pytest.raises(ValueError, match="of is 'prior'"):
+        worst(key, of="prior")
+    with pytest.raises(ValueError, match="a number of leak"):
+        worst(key, "capacity", of="additive_leakage")
+
+
+@model
+def shown(x: Secret = uniform(range(4)), guess: Public = 3, more: Public = one_of([1, 2])):
+    observe(x == guess)
+    observe(x == more)
+
+
+@model
+def single(x: Secret = uniform(range(4)), guess: Public = 3):
+    observe(x == guess)
+
+
+@model
+def alone(x: Secret = uniform(range(4))):
+    observe(x)
+
+
+def test_inputs_that_have_one_value_are_said_to():
+    """Of four numbers two are told from the others, and one guess more is right with 1/2 of 2/4."""
+    found = worst(shown)
+    assert found.value == Fraction(3, 4) and found.fixed == ("guess",)
+    assert str(found).endswith("guess has this value alone, since it isn't declared by one_of\n")
+    with pytest.raises(ValueError, match=r"no public input with several values: write guess: Public = one_of\(\.\.\)"):
+        worst(single)
+    with pytest.raises(ValueError, match="alone has no public input"):
+        worst(alone)
+    with pytest.raises(TypeError, match="worst is asked of a model"):
+        worst(alone.program())
 
 
 # ---- strategies by hand
@@ -117,15 +192,57 @@ def test_the_program_of_a_strategy_is_a_text():
     assert "  # bound = 4\n" in text and Program(text).leak().posterior_vulnerability == Fraction(3, 8)
 
 
+@pytest.mark.parametrize("name", ["rounds", "tries"])
+@pytest.mark.parametrize(
+    ("value", "raised"), [(2.5, TypeError), (True, TypeError), ("3", TypeError), (None, TypeError), (-1, ValueError), (10**30, ValueError)]
+)
+def test_counts_are_whole_numbers_within_bounds(name, value, raised):
+    with pytest.raises(raised, match=f"{name} is a whole number from"):
+        adaptive(below, **{name: value})
+
+
+@pytest.mark.parametrize("queries", [{"bound": 4}, [4], 4, "bound"])
+def test_queries_are_public_inputs(queries):
+    with pytest.raises(TypeError, match="queries is .* has to be a list of public inputs"):
+        adaptive(below, queries)
+
+
+@model
+def liar(x: Secret = uniform(range(2)), day: Public = 0):
+    observe(choose((x, 3), (1 - x, 1)))
+
+
+def test_a_strategy_with_too_many_ways_to_end_is_refused():
+    """A noisy bit, asked 20 times: as long as both values are possible there are two answers, and it is never certain. Where it is surer after a
+    round than can be turned in those that are left, no more is asked: so it ends at each way to be ahead by more than what is left."""
+    ways = {(0, 0): 1}
+    ended = 0
+    for left in range(20, 0, -1):
+        after = {}
+        for (ahead, _), count in ways.items():
+            if abs(ahead) >= left:
+                ended += count
+                continue
+            for step in (-1, 1):
+                after[ahead + step, 0] = after.get((ahead + step, 0), 0) + count
+        ways = after
+    ended += sum(ways.values())
+    with pytest.raises(TooLarge, match=f"^the best strategy of 20 rounds ends in {ended} ways"):
+        adaptive(liar, rounds=20)
+    with pytest.raises(TooLarge, match="400 rounds are too many|400 rounds ends in more than 10.12 ways"):  # as deep as Python may go
+        adaptive(liar, rounds=400)
+    assert adaptive(below, rounds=1000).vulnerability == 1  # three rounds are enough, and no more are asked
+
+
 def test_what_cannot_be_played(monkeypatch):
     with pytest.raises(ValueError, match="at least one query"):
         adaptive(below, [], 2)
-    with pytest.raises(ValueError):
-        adaptive(below, rounds=-1)
+    with pytest.raises(TypeError, match="adaptive is asked of a model"):
+        adaptive(below.program(bound=1))
     with pytest.raises(TypeError):
         adaptive(below, [{"bound": 9}], 1)
-    monkeypatch.setattr(strategies, "MOST_BELIEFS", 5)
-    with pytest.raises(TooLarge, match="^6 beliefs were met, and there may be 5"):
+    monkeypatch.setattr(strategies, "MOST_POSTERIORS", 5)
+    with pytest.raises(TooLarge, match="^6 posteriors were met, and there may be 5"):
         adaptive(below, rounds=3)
 
 

@@ -89,6 +89,10 @@ def test_what_is_no_question_is_raised():
             ("", GRID),
             ("leak", {"n": [4], "t": [1], "gain": [1]}),
             ("leak", {"n": [4], "t": [1], "status": [1]}),
+            ("leak", {"n": [4], "t": [1], "nope": [1]}),
+            ("leak", [{"n": 4, "t": 1}, {"n": 4, "t": 1, "nope": 1}]),
+            ("leak --gain bays", GRID),
+            ("lines --gain tries:0", GRID),
         ):
             with pytest.raises(ValueError):
                 sweep(LOCK, grid, measure, pool)

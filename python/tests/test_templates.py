@@ -136,3 +136,31 @@ def test_a_refusal_of_the_program_is_placed_in_the_template():
     with pytest.raises(Refusal) as caught:
         refine(Program("observe 1;\n", name="a.kf"), template.program({"n": 4, "tries": 2}))
     assert caught.value.file in ("a.kf", "template.kf.j2")
+
+
+def test_the_names_that_a_template_asks_for(tmp_path):
+    """What it declares itself and what jinja2 has, like ``range``, isn't asked for; what an included file asks for is."""
+    (tmp_path / "part.kf.j2").write_text("{{ inner }}{% set own = 1 %}{{ own }}")
+    (tmp_path / "a.kf.j2").write_text("{% for i in range(n) %}{{ i + t }}{% endfor %}{% include 'part.kf.j2' %}{% if debug is defined %}{% endif %}")
+    template = Template.from_file(tmp_path / "a.kf.j2")
+    assert template.names() == {"n", "t", "inner", "debug"}
+    template.check_names(["n", "debug"])
+    with pytest.raises(ValueError, match="a.kf.j2 doesn't ask for 'm': it asks for debug, inner, n, t"):
+        template.check_names(["n", "m"])
+    with pytest.raises(ValueError, match="it asks for nothing"):
+        Template("skip;").check_names(["n"])
+
+
+@pytest.mark.parametrize("text", ["{% include name %}", "{% include 'none.kf.j2' %}", "{% if %}"])
+def test_where_the_names_are_not_known_none_is_refused(tmp_path, text):
+    template = Template(text, folder=tmp_path)
+    assert template.names() is None
+    template.check_names(["whatever"])
+
+
+def test_a_template_whose_text_has_no_end_in_sight_is_refused():
+    """10^10 lines: what is written is bounded, and not made whole first."""
+    with pytest.raises(BadTemplate, match="the text passes 1048576 bytes"):
+        Template("{% for i in range(100000) %}{% for j in range(100000) %}observe {{ i }};\n{% endfor %}{% endfor %}").expand()
+    with pytest.raises(BadTemplate, match="the text passes 1048576 bytes"):
+        Template("{% for i in values %}observe {{ i }};\n{% endfor %}").expand(values=range(10**12))

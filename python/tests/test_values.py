@@ -32,6 +32,12 @@ def test_other_texts_are_refused(text):
         parse_value(text)
 
 
+def test_brackets_without_an_end_are_refused():
+    for text in ("(" * 100_000, "{" * 100_000):
+        with pytest.raises(ValueError, match="too many brackets in each other"):
+            parse_value(text)
+
+
 def test_a_trace_is_a_list_of_values():
     assert split_values("[0, (true, {1})]") == (0, (True, frozenset({1})))
     assert split_values("[]") == ()

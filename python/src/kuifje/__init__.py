@@ -6,7 +6,7 @@ Science of Quantitative Information Flow* (2020).
 
 from .channels import Channel
 from .engine import Engine, default_engine
-from .errors import KuifjeError, Refusal, TooLarge
+from .errors import KuifjeError, OutOfTime, Refusal, TooLarge
 from .observations import Label, Labels, Plan, labels, plan
 from .lints import Hint, Hints, lint
 from .notebook import load_ipython_extension
@@ -30,6 +30,8 @@ from .texts import (
 )
 from .values import Value, format_value, parse_value
 
+__version__ = "0.1.0"
+
 __all__ = [
     "Action",
     "Attack",
@@ -50,6 +52,7 @@ __all__ = [
     "Lines",
     "Mark",
     "Order",
+    "OutOfTime",
     "Pair",
     "Plan",
     "Program",

@@ -1,8 +1,9 @@
 """The process that runs the questions: reads each from standard input, and writes its answer to standard output.
 
 The first that it writes is its version: the SHA-256 of the library or the program that answers, or as many blanks where there is neither. A question
-is a line of JSON with its words and the names and lengths of its files, and then the files' bytes. An answer is a ``HEAD`` with its status and the
-lengths of what was written to ``out`` and ``err``, and then these bytes. A status below 0 is that of a program that a signal ended.
+is a line of JSON with its words and the names and lengths of its files, and then the files' bytes. Once it is read, ``BEGUN`` is written. An answer
+is a ``HEAD`` with its status and the lengths of what was written to ``out`` and ``err``, and then these bytes. A status below 0 is that of a program
+that a signal ended.
 """
 
 from __future__ import annotations
@@ -24,7 +25,7 @@ from pathlib import Path
 from typing import BinaryIO
 
 from ._library import load
-from ._protocol import HEAD, LIBRARY, PROGRAM, VERSION_LENGTH, WANT_OF_MEMORY
+from ._protocol import BEGUN, HEAD, LIBRARY, PROGRAM, VERSION_LENGTH, WANT_OF_MEMORY
 
 Run = Callable[[Sequence[str], Mapping[str, bytes]], tuple[int, bytes, bytes]]
 
@@ -72,8 +73,10 @@ def serve(source: BinaryIO, sink: BinaryIO) -> None:
     while line := source.readline():
         asked = json.loads(line)
         files = {name: source.read(length) for name, length in asked["files"]}
+        sink.write(BEGUN)
+        sink.flush()
         try:
-            status, out, err = (b"", b"") if found is None else found[1](asked["words"], files)
+            status, out, err = run(asked["words"], files)
         except MemoryError:
             status, out, err = WANT_OF_MEMORY, b"", b""
         sink.write(HEAD.pack(status, len(out), len(err)) + out + err)
@@ -83,6 +86,8 @@ def serve(source: BinaryIO, sink: BinaryIO) -> None:
 def main() -> None:
     """``python3 -m kuifje._worker BYTES PARENT``: serves with so much address space, as long as the process PARENT is there."""
     memory, parent = map(int, sys.argv[1:])
+    _, most = resource.getrlimit(resource.RLIMIT_AS)
+    memory = memory if most == resource.RLIM_INFINITY else min(memory, most)
     resource.setrlimit(resource.RLIMIT_AS, (memory, memory))
     resource.setrlimit(resource.RLIMIT_CORE, (0, 0))
     threading.Thread(target=_end_with, args=(parent,), daemon=True).start()

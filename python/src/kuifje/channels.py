@@ -6,11 +6,14 @@ values.
 
 from __future__ import annotations
 
+import numbers
 from collections.abc import Iterable, Mapping, Sequence
 from dataclasses import dataclass
+from decimal import Decimal
 from fractions import Fraction
 from functools import cmp_to_key
 from math import gcd, lcm
+from typing import Any
 
 from .expressions import choose, lookup
 from .texts import Hyper, Inner, Item, Printed, Reader, Target, read_fraction, read_number
@@ -36,6 +39,7 @@ NODES = 1000  # of an expression, at most
 GREATEST = 10**9  # the greatest number in a text
 LENGTH = 1 << 20  # bytes of a text, at most
 SCALE = 2**127 - 1  # the greatest scale
+CELLS = 1 << 24  # of a channel that is put together here
 
 
 @dataclass(frozen=True, repr=False)
@@ -69,17 +73,19 @@ class Channel(Printed):
     def from_rows(cls, rows: Mapping[Value, Sequence[Rational]], columns: Sequence[Label] | None = None, target: str = "x") -> Channel:
         """The channel whose row of a secret has these probabilities, one for each column.
 
-        Columns are labelled ``(0,)``, ``(1,)`` and so on where no labels are given. Raises ``ValueError`` where a probability is below 0, or a row
-        doesn't sum to 1 or has another length than the others.
+        Columns are labelled ``(0,)``, ``(1,)`` and so on where no labels are given. A probability is a ``Fraction``, a whole number or a text,
+        ``"1/3"``. Raises ``TypeError`` where one isn't, as a float, and ``ValueError`` where one is below 0, a row doesn't sum to 1 or has another
+        length than the others, or there are more than 16,777,216 cells.
         """
-        cells = {secret: tuple(map(Fraction, row)) for secret, row in rows.items()}
-        lengths = {len(row) for row in cells.values()}
+        lengths = {len(row) for row in rows.values()}
         if len(lengths) != 1:
             raise ValueError("a channel has rows, all of one length")
-        labels = tuple(columns) if columns is not None else tuple((j,) for j in range(lengths.pop()))
-        for secret, row in cells.items():
-            if len(row) != len(labels) or any(cell < 0 for cell in row) or sum(row) != 1:
-                raise ValueError(f"the row of {format_value(secret)} is no distribution on {len(labels)} columns")
+        (width,) = lengths
+        if columns is not None and len(columns) != width:
+            raise ValueError(f"there are {len(columns)} labels for {width} columns")
+        cells = {secret: _row(secret, row) for secret, row in rows.items()}
+        _bounded(len(rows) * width, "the channel")
+        labels = tuple(columns) if columns is not None else tuple((j,) for j in range(width))
         if len(set(labels)) != len(labels):
             raise ValueError("two columns have one label")
         ordered = ascending(cells)
@@ -124,11 +130,62 @@ from_rows = Channel.from_rows
 to_program = Channel.to_program
 
 
+def rational(number: object, name: str) -> Fraction:
+    """An exact number. Raises ``TypeError`` where it is no ``Fraction``, whole number or text of one, and ``ValueError`` for other texts."""
+    if type(number) is Fraction:
+        return number
+    if isinstance(number, numbers.Rational):
+        return Fraction(int(number.numerator), int(number.denominator))
+    if not isinstance(number, (str, Decimal)):
+        raise TypeError(f"{name} is {number!r}, and has to be exact: a Fraction, a whole number, or a text as '1/3'")
+    try:
+        return Fraction(number)
+    except (ValueError, OverflowError, ZeroDivisionError):
+        raise ValueError(f"{name} is {number!r}, and has to be a Fraction, a whole number, or a text as '1/3'") from None
+
+
+def distribution(weights: Mapping[Value, Any], name: str) -> dict[Value, Fraction]:
+    """A distribution: exact probabilities from 0 on that sum to 1. Raises ``TypeError`` where one isn't exact, else ``ValueError``."""
+    if not isinstance(weights, Mapping):
+        raise TypeError(f"{name} has to be a mapping of values to probabilities, and is of type {type(weights).__name__}")
+    found = {x: rational(p, f"{name}: the probability of {x!r}") for x, p in weights.items()}
+    for x, p in found.items():
+        if p < 0:
+            raise ValueError(f"{name}: the probability of {x!r} is {p}, and may not be below 0")
+    if (whole := sum(found.values())) != 1:
+        raise ValueError(f"{name}: the probabilities sum to {whole}, and have to sum to 1")
+    return found
+
+
+def wanted(value: object, kind: type, name: str) -> None:
+    """Raises ``TypeError`` where an argument isn't of a kind."""
+    if not isinstance(value, kind):
+        raise TypeError(f"{name} has to be a {kind.__name__}, and is of type {type(value).__name__}")
+
+
+def _bounded(cells: int, name: str) -> None:
+    if cells > CELLS:
+        raise ValueError(f"{name} would have {cells} cells, and {CELLS} are allowed")
+
+
+def _row(secret: Value, row: Sequence[Rational]) -> tuple[Fraction, ...]:
+    """The probabilities of a row, looked at up to the first one by which it is no distribution."""
+    cells, left = list[Fraction](), Fraction(1)
+    for cell in row:
+        cells.append(rational(cell, f"cell {len(cells)} in the row of {format_value(secret)}"))
+        left -= cells[-1]
+        if cells[-1] < 0:
+            raise ValueError(f"cell {len(cells) - 1} in the row of {format_value(secret)} is {cells[-1]}, and may not be below 0")
+        if left < 0 or len(cells) > CELLS:
+            break
+    if left:
+        raise ValueError(f"the row of {format_value(secret)} is no distribution: its first {len(cells)} cells sum to {1 - left}")
+    return tuple(cells)
+
+
 def _distribution(channel: Channel, prior: Mapping[Value, Rational]) -> dict[Value, Fraction]:
-    """A prior without its zeros. Raises ``ValueError`` where it is no distribution, or has a value without a row."""
-    weights = {x: Fraction(p) for x, p in prior.items() if p != 0}
-    if any(p < 0 for p in weights.values()) or sum(weights.values()) != 1:
-        raise ValueError("the prior is no distribution")
+    """A prior without its zeros. Raises as ``distribution`` does, and ``ValueError`` where it has a value without a row."""
+    weights = {x: p for x, p in distribution(prior, "prior").items() if p}
     if lacking := [x for x in weights if x not in channel.rows]:
         raise ValueError(f"the channel has no row for {format_value(lacking[0])}")
     return weights
@@ -158,8 +215,9 @@ def hyper(channel: Channel, prior: Mapping[Value, Rational]) -> Hyper:
     """The hyper-distribution that a prior and a channel make (the book, chapter 4): one inner for each posterior, columns in proportion merged.
 
     Inners stand in the program's order: by their values and whole weights without a common factor. Raises ``ValueError`` where the prior is no
-    distribution, or gives a probability above 0 to a value without a row.
+    distribution, or gives a probability above 0 to a value without a row, and ``TypeError`` where a probability isn't exact, as a float.
     """
+    wanted(channel, Channel, "channel")
     weights = _distribution(channel, prior)
     columns = [{x: weights[x] * channel.rows[x][j] for x in weights if channel.rows[x][j]} for j in range(len(channel.columns))]
     return hyper_of_columns(channel.target, columns)
@@ -196,6 +254,8 @@ def from_hyper(found: Hyper) -> Channel:
 
     With the hyper's prior it gives the hyper again (the book, chapter 4).
     """
+    wanted(found, Hyper, "found")
+    _bounded(len(found.inners) * len(found.prior), "the channel")
     labels: list[Label] = [(i,) for i in range(len(found.inners))]
     rows = {x: tuple(inner.outer * inner.distribution.get(x, Fraction(0)) / p for inner in found.inners) for x, p in found.prior.items()}
     return Channel(found.target, tuple(labels), rows)
@@ -203,6 +263,7 @@ def from_hyper(found: Hyper) -> Channel:
 
 def reduced(channel: Channel) -> Channel:
     """The reduced channel (the book, chapter 4): columns of zeros left out, and columns in proportion added up, each under the first one's label."""
+    wanted(channel, Channel, "channel")
     found: dict[tuple[Fraction, ...], tuple[Label, list[Fraction]]] = {}
     for j, label in enumerate(channel.columns):
         column = [row[j] for row in channel.rows.values()]
@@ -217,7 +278,13 @@ def reduced(channel: Channel) -> Channel:
     return Channel(channel.target, tuple(label for label, _ in found.values()), rows)
 
 
+def _channels(a: Channel, b: Channel) -> None:
+    wanted(a, Channel, "a")
+    wanted(b, Channel, "b")
+
+
 def _same_secrets(a: Channel, b: Channel) -> None:
+    _channels(a, b)
     if list(a.rows) != list(b.rows):
         raise ValueError("the channels have different secrets")
 
@@ -227,6 +294,7 @@ def cascade(a: Channel, b: Channel) -> Channel:
 
     Each label of ``a`` is the secret of ``b`` whose items it lists. Raises ``ValueError`` where ``b`` has no such secret.
     """
+    _channels(a, b)
     secrets = {(x if isinstance(x, tuple) and len(b.target.items) > 1 else (x,)): x for x in b.rows}
     if lacking := [label for label in a.columns if label not in secrets]:
         raise ValueError(f"[{', '.join(map(format_value, lacking[0]))}] is no secret of the second channel")
@@ -238,16 +306,22 @@ def cascade(a: Channel, b: Channel) -> Channel:
 def parallel(a: Channel, b: Channel) -> Channel:
     """Both channels, independently, about the same secret (the book, chapter 8); a column is labelled by what both show.
 
-    Raises ``ValueError`` where their secrets differ.
+    Raises ``ValueError`` where their secrets differ, or there would be more than 16,777,216 cells.
     """
     _same_secrets(a, b)
+    _bounded(len(a.rows) * len(a.columns) * len(b.columns), "the channel of both")
     labels = [(x, y) for x in a.columns for y in b.columns]
     rows = {x: tuple(p * q for p in a.rows[x] for q in b.rows[x]) for x in a.rows}
     return Channel(a.target, tuple(labels), rows)
 
 
 def product(a: Channel, b: Channel) -> Channel:
-    """Both channels, each about a secret of its own: the secret is that of both together, and a column is labelled by what both show."""
+    """Both channels, each about a secret of its own: the secret is that of both together, and a column is labelled by what both show.
+
+    Raises ``ValueError`` where there would be more than 16,777,216 cells.
+    """
+    _channels(a, b)
+    _bounded(len(a.rows) * len(b.rows) * len(a.columns) * len(b.columns), "the product")
 
     def items(channel: Channel, x: Value) -> tuple[Value, ...]:
         return x if isinstance(x, tuple) and len(channel.target.items) > 1 else (x,)
@@ -261,9 +335,9 @@ def product(a: Channel, b: Channel) -> Channel:
 
 def _parts(a: Channel, b: Channel, probability: Rational) -> tuple[Fraction, Fraction]:
     _same_secrets(a, b)
-    first = Fraction(probability)
+    first = rational(probability, "probability")
     if not 0 <= first <= 1:
-        raise ValueError(f"{first} is no probability")
+        raise ValueError(f"probability is {first}, and goes from 0 to 1")
     return first, 1 - first
 
 

@@ -10,7 +10,7 @@ from functools import cache
 from importlib.resources import files as resources
 from typing import Protocol, TypedDict
 
-__all__ = ["KuifjeError", "Origin", "Refusal", "TooLarge", "refusal_of"]
+__all__ = ["KuifjeError", "Origin", "OutOfTime", "Refusal", "TooLarge", "refusal_of"]
 
 _PLACED = re.compile(r"(?P<file>.*):(?P<line>[0-9]+):(?P<column>[0-9]+): (?P<kind>\w+)", re.DOTALL)
 _OF_FILE = re.compile(
@@ -54,6 +54,10 @@ class KuifjeError(Exception):
 
 class TooLarge(KuifjeError):
     """A question took more memory or more time than it may, and was ended. The next one starts afresh."""
+
+
+class OutOfTime(TooLarge):
+    """A question, or what is put together of several, took more time than it may."""
 
 
 @dataclass

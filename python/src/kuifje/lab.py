@@ -1,7 +1,8 @@
-"""The command ``kuifje-lab``: reports, orders, pictures, attack plans, hints, sweeps, expanded templates, and a check for pipelines.
+"""The command ``kuifje-lab``: reports, orders, pictures, attack plans, hints, sweeps, templates, floors and repairs, and a check for pipelines.
 
 Each command ends with 0, or with 2 and a line on standard error where it can't be done, which a refusal of a program is, too. ``gate`` ends with 1 as
-well, where a rule doesn't hold, and so do ``decide`` for a no and ``lint`` where it has a hint; ``decide`` ends with 2 where it comes to no verdict.
+well, where a rule doesn't hold, and so do ``decide`` for a no, ``lint`` where it has a hint, ``floor`` where more leaks than what is kept, and
+``repair`` where nothing is found against that; ``decide`` ends with 2 where it comes to no verdict.
 """
 
 from __future__ import annotations
@@ -21,9 +22,11 @@ from . import gates
 from .errors import KuifjeError
 from .observations import plan
 from .lints import SLOW, lint
+from .measured.command import measure
 from .orders import order
 from .program import Program
 from .questions import AsItIsLeft
+from .repair.commands import floor_command, repair_command
 from .values import parse_value
 
 FILE = click.Path(path_type=Path)
@@ -38,6 +41,8 @@ class _Lab(click.Group):
         with warnings.catch_warnings():
             warnings.simplefilter("ignore", AsItIsLeft)
             try:
+                if sys.stdout is None:
+                    raise OSError("standard output is closed")
                 return super().invoke(ctx)
             except ImportError as cause:
                 cause_text = f"{cause.name} isn't installed; the package's page names the Debian packages"
@@ -63,10 +68,14 @@ def _output(command: F) -> F:
 
 
 def _write(text: str, output: Path | None) -> None:
-    if output is None:
-        click.echo(text, nl=False)
-    else:
-        output.write_text(text, encoding="utf-8")
+    """Writes a text to a file, or to standard output. Raises ``OSError``, which names what couldn't be written."""
+    try:
+        if output is None:
+            click.echo(text, nl=False)
+        else:
+            output.write_text(text, encoding="utf-8")
+    except OSError as cause:
+        raise OSError(f"{output or 'standard output'}: {cause.strerror}") from None
 
 
 @main.command()
@@ -104,12 +113,13 @@ def order_(files: tuple[Path, ...], as_json: bool, output: Path | None, turns: i
 @click.option("-o", "--output", type=FILE, help="Writes the certificate to this file.")
 @_asking
 def decide(a: Path, b: Path, as_json: bool, seconds: float, output: Path | None, turns: int, timeout: float | None) -> None:
-    """Prints whether B leaks no more than A, to any adversary, where `kuifje refine` meets its bounds. A certificate is found, and the proved program
-    checks it. Ends with 0 where it is so, with 1 where it isn't, and with 2 where that isn't decided."""
+    """Prints whether B leaks no more than A, to any adversary, where `kuifje refine` meets its bounds, and for which priors that holds. A certificate
+    is found, and the proved program checks it. Ends with 0 where it is so, with 1 where it isn't, and with 2 where that isn't decided."""
     from . import refinement
 
     found = refinement.decide(Program.from_file(a, turns=turns), Program.from_file(b, turns=turns), seconds, timeout)
-    click.echo(found.to_json() + "\n" if as_json else str(found), nl=False)
+    holds = f"{found.priors}\n" if found.priors is not None else ""
+    click.echo(found.to_json() + "\n" if as_json else str(found) + holds, nl=False)
     if output is not None and found.certificate is not None:
         output.write_bytes(found.certificate.text)
     sys.exit({True: 0, False: 1, None: 2}[found.refines])
@@ -154,7 +164,7 @@ def plan_(file: Path, gain: str, turns: int, timeout: float | None) -> None:
 @click.option("--slow", type=float, default=SLOW, show_default=True, help="The seconds after which a program is looked at for unread variables.")
 @_asking
 def lint_(files: tuple[Path, ...], attacker: tuple[str, ...], refine: bool, covers: bool, slow: float, turns: int, timeout: float | None) -> None:
-    """Prints what may be meant otherwise in programs, with the lines. Ends with 0 where there is nothing, and with 1 where there is."""
+    """Prints the lines of programs that may not mean what their author meant. Ends with 0 where there is none, and with 1 where there is one."""
     programs = [Program.from_file(file, turns=turns) for file in files]
     found = lint(*programs, attacker=attacker, refine=refine, covers=covers, slow=slow, timeout=timeout)
     click.echo(str(found), nl=False)
@@ -200,7 +210,9 @@ def expand(template: Path, settings: tuple[str, ...], output: Path | None) -> No
     grid = _grid(settings)
     if several := [name for name, values in grid.items() if len(values) != 1]:
         raise ValueError(f"{several[0]} has {len(grid[several[0]])} values")
-    _write(Template.from_file(template).expand(**{name: values[0] for name, values in grid.items()}).text, output)
+    read = Template.from_file(template)
+    read.check_names(grid)
+    _write(read.expand(**{name: values[0] for name, values in grid.items()}).text, output)
 
 
 @main.command()
@@ -242,22 +254,30 @@ def sweep(
 
 @main.command()
 @click.argument("policy", type=FILE)
+@click.option("--json", "as_json", is_flag=True, help="Prints the results as JSON.")
 @click.option("--junit", type=FILE, help="Writes the results as JUnit XML to this file.")
 @click.option("--sarif", type=FILE, help="Writes the rules that don't hold as SARIF 2.1.0 to this file.")
-@click.option("--timeout", type=float, help="Seconds that a question may take; as long as it takes where it isn't said.")
-def gate(policy: Path, junit: Path | None, sarif: Path | None, timeout: float | None) -> None:
+@click.option("--timeout", type=float, help="Seconds that a question may take; a comparison has 60 where it isn't said.")
+def gate(policy: Path, as_json: bool, junit: Path | None, sarif: Path | None, timeout: float | None) -> None:
     """Ends with 0 where all rules of POLICY hold, with 1 where one doesn't, and with 2 where the policy can't be read or a question got no answer."""
+    from . import gate_reports
+
     try:
         read = gates.Policy.from_file(policy)
     except ValueError as cause:
         raise ValueError(f"{policy}: {cause}") from None
     findings = gates.judge(read, timeout)
-    for finding in findings:
-        click.echo(finding)
-    for path, text in ((junit, gates.junit), (sarif, gates.sarif)):
-        if path is not None:
-            path.write_text(text(findings), encoding="utf-8")
+    _write(gate_reports.as_json(findings) if as_json else "".join(f"{finding}\n" for finding in findings), None)
+    if junit is not None:
+        _write(gate_reports.junit(findings), junit)
+    if sarif is not None:
+        _write(gate_reports.sarif(findings, read.folder), sarif)
     sys.exit(gates.status(findings))
+
+
+main.add_command(floor_command)
+main.add_command(repair_command)
+main.add_command(measure)
 
 
 if __name__ == "__main__":

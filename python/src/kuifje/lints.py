@@ -1,4 +1,4 @@
-"""What a program's text may mean otherwise than its author does, with the lines (docs/LINT.md has a section for each rule).
+"""Hints: the lines of a program where it may not mean what its author meant (docs/LINT.md has a section for each rule).
 
 Where the proved program can say whether something is so, it is asked: about the same text with one more statement, or with two parts exchanged. What
 the text alone shows (names, constants, what is read again) is read here.
@@ -10,18 +10,18 @@ import json
 import time
 from collections.abc import Callable, Iterator, Sequence
 from dataclasses import asdict, dataclass
-from fractions import Fraction
 from itertools import groupby
 from typing import TYPE_CHECKING
 
 from .engine import default_engine
 from .errors import KuifjeError, Refusal, TooLarge
 from .liveness import Forgotten, first_value, forgotten, needed_before
-from .program import Program, _asked
+from .model import Model
+from .priors import Prior, difference
+from .program import Program, _asked, program_of
 from .questions import warning_of
 from .source import Assign, Choose, Declaration, Literal, Source, Sure, While, assigned_in, distributions_in, edited, every, names_in, read
 from .texts import Hyper, html_table
-from .values import Value, ascending, format_value
 
 if TYPE_CHECKING:
     import pandas
@@ -112,6 +112,10 @@ class _Asking:
         words = ["hyper", program.name, "--turns", str(self.program.turns)]
         return _asked(self.program.engine, words, {program.name: program}, self.timeout).out.decode()
 
+    def prior(self) -> Prior:
+        """The prior of the target: of one about first values by the declarations alone."""
+        return Hyper.parse(self.hyper(self.source.text[: self.source.begin]) if self.source.target.is_initial else self.whole).prior
+
     def changed(self, edits: Sequence[Edit]) -> bool:
         """Whether the hyper has other inners where the text has these parts."""
         found = self.hyper(edited(self.source.text, edits))
@@ -153,6 +157,25 @@ def _no_secret(asked: _Asking) -> Iterator[Hint]:
     if (text := warning_of(asked.source.text)) is not None:
         begins = asked.source.begin if asked.source.about is not None else 0
         yield asked.hint("no-secret", begins, text)
+
+
+def _constant_secret(asked: _Asking) -> Iterator[Hint]:
+    """The prior vulnerability is 1: one inner has one value, and there is no other."""
+    if asked.whole.count("\n  ") == 1:
+        value = asked.whole.removesuffix("\n").rpartition("\n  ")[2].rpartition(" ")[0]
+        text = f"{asked.source.target} has one value, {value}, in every run: the prior vulnerability is 1, so nothing can leak"
+        yield asked.hint("constant-secret", _declared(asked.source).at, text)
+
+
+def _mixed_target(asked: _Asking) -> Iterator[Hint]:
+    """Some items of the target are ``old`` and others aren't, apart from variables that are asked about both ways."""
+    items = asked.source.target.items
+    old = [item.name for item in items if item.old]
+    later = [item.name for item in items if not item.old and item.name not in old]
+    if old and later:
+        left, were = ("as it is left", "it was") if len(later) == 1 else ("as they are left", "they were")
+        text = f"{_listed(later)} {'is' if len(later) == 1 else 'are'} asked about {left}, and {_listed(old)} as before the first statement"
+        yield asked.hint("mixed-target", asked.source.begin, f"{text}; for what {were}, write '{', '.join(f'old {name}' for name in later)}'")
 
 
 def _unseen_last_turn(asked: _Asking) -> Iterator[Hint]:
@@ -279,26 +302,15 @@ def _answered(asked: _Asking, rule: str, hints: Iterator[Hint]) -> list[Hint]:
     return found
 
 
-def _prior(asked: _Asking) -> dict[Value, Fraction]:
-    """The prior of a program's target: of one about first values by its declarations alone."""
-    source = asked.source
-    return Hyper.parse(asked.hyper(source.text[: source.begin]) if source.target.is_initial else asked.whole).prior
-
-
 def _priors_differ(a: _Asking, b: _Asking) -> Iterator[Hint]:
     """The target has different priors in two programs; where they are about different targets, they can't be compared."""
     if a.source.target != b.source.target:
         text = f"the target is {b.source.target}, and in {a.program.name} it is {a.source.target}: refine compares programs about one target"
         yield b.hint("priors-differ", b.source.declared, text)
         return
-    first, second = _prior(a), _prior(b)
-    apart = [value for value in ascending(first.keys() | second.keys()) if first.get(value, 0) != second.get(value, 0)]
-    if apart:
-        value = apart[0]
-        text = (
-            f"the priors of {b.source.target} differ, so refine says no: {format_value(value)} has the probability {first.get(value, 0)} in "
-            f"{a.program.name}, and {second.get(value, 0)} here"
-        )
+    apart = difference(a.prior(), b.prior(), (f"in {a.program.name}", "here"))
+    if apart is not None:
+        text = f"the priors of {b.source.target} differ, so refine says no, and nothing of which leaks more: {apart}"
         yield b.hint("priors-differ", _declared(b.source).at, text)
 
 
@@ -308,16 +320,21 @@ def _declared(source: Source) -> Declaration:
 
 
 def lint(
-    *programs: Program, attacker: Sequence[str] = (), refine: bool = False, covers: bool = False, slow: float = SLOW, timeout: float | None = None
+    *programs: Program | Model,
+    attacker: Sequence[str] = (),
+    refine: bool = False,
+    covers: bool = False,
+    slow: float = SLOW,
+    timeout: float | None = None,
 ) -> Hints:
-    """What may be meant otherwise in some programs, with the lines.
+    """Where some programs may not mean what their author meant, with the lines.
 
     ``attacker`` names variables that are the attacker's, each of them in every program that declares one. ``refine`` also compares each program with
     the first, as for ``refine``, and ``covers`` also looks at what that asks. A program that takes more than ``slow`` seconds is looked at for what
-    it could forget. Each question takes ``timeout`` seconds at most. Raises ``Refusal`` where a program is refused, and ``ValueError`` where no
-    program has one of the attacker's variables.
+    it could forget. Each question takes ``timeout`` seconds at most. A model with one program is asked by that. Raises ``Refusal`` where a program is
+    refused, ``TypeError`` where a model has several programs, and ``ValueError`` where no program has one of the attacker's variables.
     """
-    asked = [_Asking(program, timeout) for program in programs]
+    asked = [_Asking(program_of(f"program {number}", program), timeout) for number, program in enumerate(programs, 1)]
     declared = {name for one in asked for name in one.source.names}
     if unknown := [name for name in attacker if name not in declared]:
         raise ValueError(f"there is no variable {unknown[0]!r}")
@@ -326,6 +343,8 @@ def lint(
         own = [name for name in attacker if name in one.source.names]
         rules = {
             "no-secret": _no_secret(one),
+            "constant-secret": _constant_secret(one),
+            "mixed-target": _mixed_target(one),
             "unseen-last-turn": _unseen_last_turn(one),
             "attacker-knows-more": _attacker_knows_more(one, own),
             "exchanged-weights": _exchanged_weights(one),

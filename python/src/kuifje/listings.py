@@ -19,7 +19,7 @@ COLOURS = ("", "#fde8dc", "#fbcfb3", "#f7b083", "#f08f52")  # by quarters of the
 INK = "#16191d"
 LEVELS = len(COLOURS) - 1
 MOST = 1000  # lines of a text that are shown
-NOTHING = "0: shows nothing that others don't show too, which isn't that it shows nothing"
+NOTHING = "0: worth nothing to this adversary beside the other lines, though it may show something"
 
 
 def _style(level: int, more: str = "") -> str:

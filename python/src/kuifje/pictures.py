@@ -1,8 +1,8 @@
 """Pictures of answers, with matplotlib: each function draws on axes of its own or on those given, and returns them.
 
 ``save(axes, path)`` writes a picture as SVG or PNG, by the path's ending, ``svg(axes)`` gives the text of the SVG, and ``show(axes)`` shows it in a
-notebook. Colours are those of Okabe and Ito, which people of all kinds of colour vision tell apart, and no picture depends on colour alone. Numbers
-in pictures are exact where they are short.
+notebook. Colours are those of Okabe and Ito, which colour-blind readers can tell apart, and no picture depends on colour alone. Numbers in pictures
+are exact where they are short.
 """
 
 from __future__ import annotations
@@ -17,6 +17,7 @@ from typing import Any, BinaryIO
 
 from .channels import Channel
 from .channels import hyper as hyper_of
+from .design import Corner
 from .measures import bayes_vulnerability, posterior_vulnerability
 from .orders import Order
 from .program import Program
@@ -24,7 +25,9 @@ from .questions import statement_lines, target_of
 from .texts import Blame, Hyper, Lines, Trail
 from .values import Value, format_value
 
-__all__ = ["bars", "blame", "channel", "hasse", "lines", "save", "show", "svg", "trail", "triangle", "vulnerability"]
+__all__ = ["bars", "blame", "channel", "hasse", "lines", "save", "show", "svg", "tradeoff", "trail", "triangle", "vulnerability"]
+
+MOST_APART = 3  # pairs with other priors that a picture of an order names
 
 BLUE, VERMILION, GREEN, AMBER, PURPLE, SKY, YELLOW, BLACK = ("#0072B2", "#D55E00", "#009E73", "#E69F00", "#CC79A7", "#56B4E9", "#F0E442", "#000000")
 GREY = "#666666"
@@ -197,7 +200,10 @@ def channel(matrix: Channel, axes: Axes | None = None) -> Axes:
 
 
 def hasse(order: Order, axes: Axes | None = None) -> Axes:
-    """The order as a Hasse diagram: what leaks least stands above; a dashed line joins two programs of which it isn't known."""
+    """The order as a Hasse diagram, with the least leaking programs at the top; a dashed line joins two programs without a verdict.
+
+    Where programs have different priors, so that nothing is said about which leaks more, a line of text names them.
+    """
     levels = list(order.levels())
     widest = max(map(len, levels))
     axes = _axes(axes, 2.6 * widest + 1, 1.2 * len(levels) + 1)
@@ -232,7 +238,9 @@ def hasse(order: Order, axes: Axes | None = None) -> Axes:
         )
     axes.set_xlim(-widest / 2 - 0.1, widest / 2 + 0.1)
     axes.set_ylim(-0.5, len(levels) - 0.5)
-    axes.text(0, 1, "top leaks least", transform=axes.transAxes, fontsize=11, va="top")
+    apart = "".join(f"\n{a} and {b}: other priors" for a, b in order.apart[:MOST_APART])
+    more = "\n.. and more" if len(order.apart) > MOST_APART else ""
+    axes.text(0, 1, f"top leaks least{apart}{more}", transform=axes.transAxes, fontsize=11, va="top")
     axes.axis("off")
     return axes
 
@@ -261,6 +269,34 @@ def vulnerability(
     axes.set_ylabel("vulnerability", fontsize=12)
     axes.tick_params(labelsize=11)
     axes.legend(fontsize=12, frameon=False)
+    for side in ("top", "right"):
+        axes.spines[side].set_visible(False)
+    return axes
+
+
+def tradeoff(corners: Sequence[Corner], axes: Axes | None = None) -> Axes:
+    """The least leakage of a channel against the bound on its expected loss, as ``kuifje.design.tradeoff`` gives its corners, each with both numbers.
+
+    Below the curve there is no channel; right of the last corner more loss buys nothing. Raises ``ValueError`` where there is no corner.
+    """
+    if not corners:
+        raise ValueError("a curve has a corner")
+    axes = _axes(axes, 7, 4.5)
+    xs, ys = [float(corner.loss) for corner in corners], [float(corner.value) for corner in corners]
+    right = xs[-1] + 0.25 * (xs[-1] - xs[0] or 1.0)
+    bottom = ys[-1] - 0.2 * (ys[0] - ys[-1] or 1.0)
+    axes.fill_between([*xs, right], [*ys, ys[-1]], bottom, color="#EEEEEE", zorder=0)
+    axes.plot([*xs, right], [*ys, ys[-1]], color=BLUE, linewidth=2.5, zorder=1)
+    axes.plot(xs, ys, linestyle="", marker="o", markersize=9, color=SKY, markeredgecolor=BLUE, markeredgewidth=1.5, zorder=2)
+    for corner, x, y in zip(corners, xs, ys):
+        text = f"({_number(corner.loss)}, {_number(corner.value)})"
+        axes.annotate(text, (x, y), xytext=(7, 7), textcoords="offset points", fontsize=12, zorder=3)
+    axes.text((xs[0] + right) / 2, bottom, "no channel", fontsize=12, color=GREY, ha="center", va="bottom")
+    axes.set_xlim(xs[0] - 0.03 * (right - xs[0]), right)
+    axes.set_ylim(bottom, ys[0] + 0.15 * (ys[0] - ys[-1] or 1.0))
+    axes.set_xlabel("expected loss, at most", fontsize=12)
+    axes.set_ylabel("least leakage", fontsize=12)
+    axes.tick_params(labelsize=11)
     for side in ("top", "right"):
         axes.spines[side].set_visible(False)
     return axes
@@ -311,10 +347,10 @@ def blame(program: Program, found: Blame, axes: Axes | None = None) -> Axes:
 
 
 def lines(program: Program, found: Lines, axes: Axes | None = None) -> Axes:
-    """The program's text, and in its margin what the statements that begin on a line show that no others do, by the gain that was asked about.
+    """The program's text, and in its margin what each statement that begins on a line is worth beside the others, under the gain of the answer.
 
-    That is how far the posterior vulnerability is from the program's own where one of them alone shows nothing (under ``guessing``: how many more
-    guesses are to be expected). Raises ``ValueError`` where the answer has a line that the text hasn't.
+    That is how much lower the posterior vulnerability is if this statement alone shows nothing (under ``guessing``: how many more guesses are to be
+    expected). A statement of 0 may show something all the same. Raises ``ValueError`` where the answer has a line that the text hasn't.
     """
     text = program.text.decode(errors="replace")
     if found.without and found.without[-1].line > len(text.rstrip("\n").split("\n")):
@@ -329,7 +365,7 @@ def lines(program: Program, found: Lines, axes: Axes | None = None) -> Axes:
 
 
 def trail(program: Program, found: Trail, axes: Axes | None = None) -> Axes:
-    """The program's text, and in its margin how many beliefs (inners) about all variables there are after each top-level statement.
+    """The program's text, and in its margin how many posteriors of whole stores there are after each top-level statement.
 
     Bars are on a logarithmic scale. Raises ``ValueError`` where the answer is that of a program with another number of top-level statements.
     """
@@ -338,7 +374,5 @@ def trail(program: Program, found: Trail, axes: Axes | None = None) -> Axes:
     marks: dict[int, list[tuple[str, float]]] = {}
     for line, inners in zip(_starts(text, len(found.inners) - 1), found.inners[1:]):
         marks.setdefault(line, []).append((str(inners), log2(inners) / most))
-    caption = (
-        f"margin: how many beliefs about all variables there are after that statement (bars: logarithms); before the first one {found.inners[0]}"
-    )
+    caption = f"margin: how many posteriors of whole stores there are after that statement (bars: logarithms); before the first one {found.inners[0]}"
     return _listing(axes, text, marks, caption)

@@ -7,12 +7,16 @@ import os
 from collections.abc import Mapping
 from dataclasses import replace
 from fractions import Fraction
+from itertools import islice
 from pathlib import Path
-from typing import TypeVar
+from types import MappingProxyType
+from typing import Any, Protocol, TypeVar
 
+from .arguments import Probability, probability as probability_of, text_of, whole
 from .channels import Channel
 from .engine import Answer, Engine, default_engine
-from .errors import KuifjeError, Origin, refusal_of
+from .errors import KuifjeError, Origin, OutOfTime, refusal_of
+from .gains import TABLE, Gain, gain_of
 from .questions import sentence, warn_of
 from .texts import (
     Attack,
@@ -32,17 +36,69 @@ from .texts import (
 )
 from .values import format_value
 
-__all__ = ["Certificate", "Gain", "Program", "cascade", "certificate", "check", "choice", "covers", "parallel", "refine"]
+__all__ = [
+    "COMPARING",
+    "Certificate",
+    "Gain",
+    "Program",
+    "Writable",
+    "cascade",
+    "certificate",
+    "check",
+    "choice",
+    "covers",
+    "parallel",
+    "program_of",
+    "refine",
+]
 
-TABLE = "gain.json"
 CERTIFICATE = "certificate.json"
 FORMAT = "kuifje-cert-2"  # the format of certificates that is written
-Gain = str | GainTable
+MOST_TURNS = 65_535
+MOST_STATEMENTS = 99_999  # the greatest number of a statement that `quiet` takes
+NO_FILES: Mapping[str, bytes] = MappingProxyType({})
 P = TypeVar("P", bound=Printed)
 
 
+class Comparing(float):
+    """The seconds of a comparison for which none are given; those of its engine, where that has a bound."""
+
+
+COMPARING = Comparing(60)
+"""What ``refine``, ``certificate`` and ``covers`` may take where nothing is said: before they refuse, they may go on for minutes."""
+
+
+class Writable(Protocol):
+    """What can be written as a program, as a model in Python."""
+
+    def program(self) -> Program:
+        """The program."""
+
+
+def program_of(name: str, asked: Any) -> Program:
+    """The program that an argument is, or that a model is written as. Raises ``TypeError`` where it is neither, or a model with several programs."""
+    if isinstance(asked, Program):
+        return asked
+    if callable(written := getattr(asked, "program", None)) and not isinstance(asked, type):
+        found = written(**_only_inputs(asked))
+        if isinstance(found, Program):
+            return found
+    raise TypeError(f"{name} is a Program or a model, and {'None' if asked is None else f'a value of type {type(asked).__name__}'} was given")
+
+
+def _only_inputs(model: Any) -> dict[str, Any]:
+    """The public inputs with which a model has its one program. Raises ``TypeError`` where it has several, by its inputs."""
+    if not callable(inputs := getattr(model, "inputs", None)):
+        return {}
+    found: list[dict[str, Any]] = list(islice(inputs(), 2))
+    if len(found) == 1:
+        return found[0]
+    given = ", ".join(f"{name}={value!r}" for name, value in found[0].items()) if found else ""
+    raise TypeError(f"{model.name} has a program for each of its public inputs: ask one of them, as {model.name}.program({given})")
+
+
 def _asked(
-    engine: Engine | None, words: list[str], programs: Mapping[str, Program], timeout: float | None, files: Mapping[str, bytes] = {}
+    engine: Engine | None, words: list[str], programs: Mapping[str, Program], timeout: float | None, files: Mapping[str, bytes] = NO_FILES
 ) -> Answer:
     """The answer to a question about programs, by the names that the words have for them, and other files. Raises ``Refusal`` where there is none."""
     texts = {name: program.text for name, program in programs.items()} | dict(files)
@@ -56,39 +112,27 @@ def _asked(
     raise program.expansion.placed(refusal)
 
 
-def _gain(gain: Gain) -> tuple[str, dict[str, bytes]]:
-    """The word of a gain, and the file that it needs: ``bayes``, ``tries:K``, ``guessing``, or a table."""
-    if isinstance(gain, GainTable):
-        return f"table:{TABLE}", {TABLE: gain_json(gain).encode()}
-    if gain.startswith("table:"):
-        path = Path(gain.removeprefix("table:"))
-        return f"table:{TABLE}", {TABLE: path.read_bytes()}
-    return gain, {}
-
-
-def gain_json(table: GainTable) -> str:
-    """The file of a gain table (docs/FORMATS.md, "Gain tables"), as ``kuifje leak --gain table:FILE`` takes it."""
-    actions = [{"gains": [[format_value(value), gain] for value, gain in action.gains.items()], "name": action.name} for action in table.actions]
-    return json.dumps({"actions": actions, "format": "kuifje-gain-1", "over": table.over, "rest": table.rest}, separators=(",", ":"))
-
-
 class Program:
     """A program, by its text (docs/LANGUAGE.md).
 
-    ``name`` is what refusals call it, ``turns`` how many turns a loop may take each time it is entered, ``engine`` what answers (the default engine
-    where none is given), and ``expansion`` what the text was made of: a template, or
-    a model in Python. Each question takes ``timeout`` seconds at most
-    (none: the engine's), and raises ``Refusal`` where the program gives no answer and ``TooLarge`` where that takes too much time or memory.
-    Raises ``ValueError`` where the name can't be a file's.
+    ``name`` is what refusals call it, ``turns`` how many turns a loop may take each time it is entered, from 1 to 65,535, ``engine`` what answers
+    (the default engine where none is given), and ``expansion`` what the text was made of: a template, or a model in Python.
+
+    Each question takes ``timeout`` seconds at most. None means as many as the engine says, which has no bound where none was given to it; with
+    ``math.inf`` there is none in any case. A question raises ``Refusal`` where the program gives no answer, ``TooLarge`` where that takes too much
+    memory, and ``OutOfTime``, which is a ``TooLarge``, where it takes too much time. ``TypeError`` and ``ValueError`` name an argument that isn't
+    what it may be, before anything is asked. ``Program(..)`` itself raises them, too, also where the name can't be a file's.
     """
 
     def __init__(
         self, text: str | bytes, *, name: str = "program.kf", turns: int = 1024, engine: Engine | None = None, expansion: Origin | None = None
     ) -> None:
+        if not isinstance(name, str) or engine is not None and not isinstance(engine, Engine):
+            raise TypeError("name is a str, and engine an Engine or None")
         if name.startswith("-") or "/" in name or "\0" in name or name in ("", ".", "..", TABLE, CERTIFICATE):
             raise ValueError(f"{name!r} can't be the name of a program")
-        self.text = text.encode() if isinstance(text, str) else bytes(text)
-        self.name, self.turns, self.engine, self.expansion = name, turns, engine, expansion
+        self.text, self.turns = text_of("text", text), whole("turns", turns, 1, MOST_TURNS)
+        self.name, self.engine, self.expansion = name, engine, expansion
 
     @classmethod
     def from_file(cls, path: str | os.PathLike[str], *, turns: int = 1024, engine: Engine | None = None) -> Program:
@@ -127,20 +171,21 @@ class Program:
         ``gain`` is ``"bayes"`` (one guess), ``"tries:3"`` (so many), ``"guessing"`` (the expected number of guesses, where less is worse for the
         secret), a ``GainTable``, or ``"table:"`` and the path of one. Raises ``OSError`` where that file can't be read.
         """
-        word, files = _gain(gain)
+        word, files = gain_of(gain)
         return self._answer(Leakage, ["leak", self.name, "--gain", word], timeout, files)
 
     def attack(self, gain: Gain = "bayes", timeout: float | None = None) -> Attack:
         """What an adversary with this gain function does best at each inner; ``gain`` is as for ``leak``."""
-        word, files = _gain(gain)
+        word, files = gain_of(gain)
         return self._answer(Attack, ["attack", self.name, "--gain", word], timeout, files)
 
-    def reach(self, probability: Fraction, timeout: float | None = None) -> Reach:
+    def reach(self, probability: Probability, timeout: float | None = None) -> Reach:
         """The least number of tries that guess the target with at least this probability once a run is seen.
 
-        ``probability`` lies above 0 and is at most 1, with a numerator and a denominator below 10^9; else it is a ``Refusal``.
+        ``probability`` is a ``Fraction`` or a text like ``"9/10"``. It lies above 0 and is at most 1, with a numerator and a denominator below 10^9.
         """
-        return self._answer(Reach, ["reach", self.name, f"{probability.numerator}/{probability.denominator}"], timeout)
+        wanted = probability_of("probability", probability, one=True)
+        return self._answer(Reach, ["reach", self.name, f"{wanted.numerator}/{wanted.denominator}"], timeout)
 
     def capacity(self, timeout: float | None = None) -> Fraction:
         """The Bayes capacity of the channel: the sum of its columns' greatest cells (the book, chapter 7).
@@ -160,22 +205,25 @@ class Program:
         Each observation, conditional, loop and assignment to a visible variable has its place; in a loop it shows nothing in any turn. ``gain`` is as
         for ``leak``.
         """
-        word, files = _gain(gain)
+        word, files = gain_of(gain)
         found = self._answer(Lines, ["lines", self.name, "--gain", word], timeout, files)
         return replace(found, source=self.text.decode(errors="replace"))
 
     def quiet(self, start: int, end: int, timeout: float | None = None) -> Hyper:
         """The hyper-distribution where the top-level statements from ``start`` up to but not with ``end`` show nothing, both counted from 0.
 
-        ``start`` is below ``end``, and ``end`` at most the number of statements; else it is a ``Refusal``.
+        ``start`` is below ``end``. It is a ``Refusal`` where there are fewer statements than ``end``.
         """
+        start, end = whole("start", start, 0, MOST_STATEMENTS - 1), whole("end", end, 1, MOST_STATEMENTS)
+        if start >= end:
+            raise ValueError(f"start is below end, and {start} and {end} were given")
         return self._answer(Hyper, ["quiet", self.name, f"{start}..{end}"], timeout)
 
     def trail(self, timeout: float | None = None) -> Trail:
         """How many inners about all variables there are before the first top-level statement and after each."""
         return self._answer(Trail, ["trail", self.name], timeout)
 
-    def _answer(self, kind: type[P], words: list[str], timeout: float | None, files: Mapping[str, bytes] = {}) -> P:
+    def _answer(self, kind: type[P], words: list[str], timeout: float | None, files: Mapping[str, bytes] = NO_FILES) -> P:
         """The answer to a question about this program, which goes along with it."""
         words = [*words, "--turns", str(self.turns)]
         found = kind.parse(_asked(self.engine, words, {self.name: self}, timeout, files).out.decode())
@@ -190,7 +238,7 @@ class Certificate:
     """
 
     def __init__(self, text: str | bytes) -> None:
-        self.text = text.encode() if isinstance(text, str) else bytes(text)
+        self.text = text_of("text", text)
 
     @classmethod
     def of_matrix(cls, rows: int, columns: int, entries: Mapping[tuple[int, int], Fraction]) -> Certificate:
@@ -212,7 +260,9 @@ class Certificate:
         return f"<Certificate, {len(self.text)} bytes>"
 
 
-def _two(words: list[str], a: Program, b: Program, timeout: float | None, files: Mapping[str, bytes] = {}, last: tuple[str, ...] = ()) -> Answer:
+def _two(
+    words: list[str], a: Program, b: Program, timeout: float | None, files: Mapping[str, bytes] = NO_FILES, last: tuple[str, ...] = ()
+) -> Answer:
     """The answer to a question about two programs, which are called ``a-`` and ``b-`` and their names where these are one."""
     if a.turns != b.turns:
         raise KuifjeError(f"loops may take {a.turns} turns in one program, and {b.turns} in the other")
@@ -220,6 +270,17 @@ def _two(words: list[str], a: Program, b: Program, timeout: float | None, files:
     command, *others = words
     words = [command, *others, first, second, *last, "--turns", str(a.turns)]
     return _asked(a.engine, words, {first: a, second: b}, timeout, files)
+
+
+def _compared(words: list[str], a: Program, b: Program, timeout: float | None, last: tuple[str, ...] = ()) -> Answer:
+    """The answer to a question about two programs that may go on for minutes."""
+    engine = a.engine or default_engine()
+    if not isinstance(timeout, Comparing) or engine.timeout is not None:
+        return _two(words, a, b, None if isinstance(timeout, Comparing) else timeout, last=last)
+    try:
+        return _two(words, a, b, float(timeout), last=last)
+    except OutOfTime:
+        raise OutOfTime(f"the question took longer than it may: no answer within {timeout:g} seconds; give timeout=None for none") from None
 
 
 def _of_two(kind: type[P], asked: str, answer: Answer, a: Program, b: Program) -> P:
@@ -230,48 +291,61 @@ def _of_two(kind: type[P], asked: str, answer: Answer, a: Program, b: Program) -
     return replace(kind.parse(answer.out.decode()), question=question)
 
 
-def refine(a: Program, b: Program, timeout: float | None = None) -> Verdict:
+def refine(a: Program | Writable, b: Program | Writable, timeout: float | None = COMPARING) -> Verdict:
     """Whether ``b`` leaks no more than ``a`` under any gain function, with the matrix or the table that proves it.
 
-    In the book (chapter 9): whether b refines a, written A ⊑ B. Both need one target, and the same prior on it for a yes. Raises ``Refusal`` and
-    ``TooLarge`` as a question to a program does, and ``KuifjeError`` where their loops may take different numbers of turns.
+    In the book (chapter 9): whether b refines a, written A ⊑ B. Both are programs or models, and need one target, and the same prior on it for a yes.
+    Its run may go on for minutes before it says that there is no verdict: so it has 60 seconds where nothing is said and the engine has no bound.
+    Raises ``Refusal`` and ``TooLarge`` as a question to a program does, and ``KuifjeError`` where their loops may take different numbers of turns.
     """
-    return _of_two(Verdict, "Does {b} leak no more than {a}, to any adversary?", _two(["refine"], a, b, timeout), a, b)
+    a, b = program_of("a", a), program_of("b", b)
+    return _of_two(Verdict, "Does {b} leak no more than {a}, to any adversary?", _compared(["refine"], a, b, timeout), a, b)
 
 
-def certificate(a: Program, b: Program, timeout: float | None = None) -> Certificate:
-    """The certificate of ``refine(a, b)``, as ``kuifje refine --json`` writes it (docs/FORMATS.md)."""
-    return Certificate(_two(["refine"], a, b, timeout, last=("--json",)).out)
+def certificate(a: Program | Writable, b: Program | Writable, timeout: float | None = COMPARING) -> Certificate:
+    """The certificate of ``refine(a, b)``, as ``kuifje refine --json`` writes it (docs/FORMATS.md); ``timeout`` is as there."""
+    return Certificate(_compared(["refine"], program_of("a", a), program_of("b", b), timeout, last=("--json",)).out)
 
 
-def covers(a: Program, b: Program, timeout: float | None = None) -> Verdict:
-    """Whether ``b`` leaks no more than ``a`` about initial and final values together, for every prior on the initial stores."""
-    found = Verdict.parse(_two(["covers"], a, b, timeout).out.decode())
+def covers(a: Program | Writable, b: Program | Writable, timeout: float | None = COMPARING) -> Verdict:
+    """Whether ``b`` leaks no more than ``a`` about initial and final values together, for every prior on the initial stores.
+
+    ``timeout`` is as for ``refine``.
+    """
+    a, b = program_of("a", a), program_of("b", b)
+    found = Verdict.parse(_compared(["covers"], a, b, timeout).out.decode())
     return replace(found, question=f"Does {b.name} leak no more than {a.name} about initial and final values together, whatever the prior?")
 
 
-def check(proof: Certificate, a: Program, b: Program, timeout: float | None = None) -> Mark:
+def check(proof: Certificate, a: Program | Writable, b: Program | Writable, timeout: float | None = None) -> Mark:
     """Whether a certificate proves what it says of ``a`` and ``b``, or the first rule that it breaks (docs/FORMATS.md)."""
+    if not isinstance(proof, Certificate):
+        raise TypeError(f"proof is a Certificate, and a value of type {type(proof).__name__} was given")
+    a, b = program_of("a", a), program_of("b", b)
     answer = _two(["check", CERTIFICATE], a, b, timeout, {CERTIFICATE: proof.text})
     return _of_two(Mark, "Does the certificate prove its verdict on {a} and {b}?", answer, a, b)
 
 
-def cascade(a: Program, b: Program, timeout: float | None = None) -> Composition:
+def cascade(a: Program | Writable, b: Program | Writable, timeout: float | None = None) -> Composition:
     """The Bayes capacities of two channels, and of what ``b`` makes of what ``a`` shows. Each item of their targets must be ``old``."""
+    a, b = program_of("a", a), program_of("b", b)
     answer = _two(["cascade"], a, b, timeout)
     return _of_two(Composition, "By what factor can what {b} makes of what {a} shows help an adversary?", answer, a, b)
 
 
-def parallel(a: Program, b: Program, timeout: float | None = None) -> Composition:
+def parallel(a: Program | Writable, b: Program | Writable, timeout: float | None = None) -> Composition:
     """The Bayes capacities of two channels, and of both seen together. Each item of their targets must be ``old``."""
+    a, b = program_of("a", a), program_of("b", b)
     answer = _two(["parallel"], a, b, timeout)
     return _of_two(Composition, "By what factor can what {a} and {b} show together help an adversary?", answer, a, b)
 
 
-def choice(a: Program, b: Program, probability: Fraction, timeout: float | None = None) -> Composition:
+def choice(a: Program | Writable, b: Program | Writable, probability: Probability, timeout: float | None = None) -> Composition:
     """The Bayes capacities of two channels, and of ``a`` with this probability and else ``b``, where it is seen which.
 
-    Each item of their targets must be ``old``.
+    ``probability`` is a ``Fraction`` or a text like ``"1/2"``, above 0 and below 1. Each item of their targets must be ``old``.
     """
-    answer = _two(["choice"], a, b, timeout, last=(f"{probability.numerator}/{probability.denominator}",))
-    return _of_two(Composition, f"By what factor can {{a}} with probability {probability} and else {{b}} help an adversary?", answer, a, b)
+    a, b = program_of("a", a), program_of("b", b)
+    wanted = probability_of("probability", probability, one=False)
+    answer = _two(["choice"], a, b, timeout, last=(f"{wanted.numerator}/{wanted.denominator}",))
+    return _of_two(Composition, f"By what factor can {{a}} with probability {wanted} and else {{b}} help an adversary?", answer, a, b)

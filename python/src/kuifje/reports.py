@@ -111,10 +111,10 @@ def _parts(program: Program, hyper: Hyper, timeout: float | None) -> Iterator[Pa
         more = [f".. and {len(lines) - LINES} more lines"] if len(lines) > LINES else []
         part.table = Markup("<pre>{}</pre>").format("\n".join(lines[:LINES] + more))
 
-    def beliefs(part: Part) -> None:
+    def trail(part: Part) -> None:
         found = program.trail(timeout)
         part.table = _table(found.records())
-        part.pictures.append(picture(lambda p: p.trail(program, found), "How many beliefs there are after each statement"))
+        part.pictures.append(picture(lambda p: p.trail(program, found), "How many posteriors there are after each statement"))
 
     yield _part("Vulnerabilities and leakages", True, vulnerabilities)
     yield _part("The hyper-distribution: which posteriors a run may leave", True, posteriors)
@@ -129,7 +129,7 @@ def _parts(program: Program, hyper: Hyper, timeout: float | None) -> Iterator[Pa
             part.pictures.append(picture(lambda p: p.channel(channel), "The channel as a heat map"))
 
     yield _part("The channel: how likely each trace is, given the secret", True, matrix)
-    yield _part("How many beliefs there are after each statement", True, beliefs)
+    yield _part("How many posteriors there are after each statement", True, trail)
     yield _part("Computed from these answers", False, lambda part: _computed(part, hyper, channels[0] if channels else None))
 
 
@@ -142,7 +142,7 @@ def _computed(part: Part, hyper: Hyper, channel: Channel | None) -> None:
         ("greatest additive leakage under gains that span at most 1", measures.additive_capacity(hyper)),
     ]
     if channel is not None:
-        ratio, epsilon = measures.differential_privacy(channel)
+        ratio, epsilon = measures.differential_privacy(channel, neighbours="all")
         rows.append(("least ratio e^ε of local differential privacy", "infinite" if ratio is None else ratio))
         rows.append(("least ε of local differential privacy", "infinite" if epsilon is None else epsilon))
         if len(channel.rows) == 2:

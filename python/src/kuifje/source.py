@@ -266,6 +266,11 @@ class Source:
         """The line of a place, from 1."""
         return bisect_left(self._line_ends, place) + 1
 
+    def place(self, at: int) -> tuple[int, int]:
+        """The line and the column, in bytes, of a place, both from 1, as the program prints them."""
+        begins = self.text.rfind("\n", 0, at) + 1
+        return self.line(at), len(self.text[begins:at].encode()) + 1
+
 
 # ---- what a part reads and changes
 

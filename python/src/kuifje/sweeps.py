@@ -24,7 +24,7 @@ from .program import Program
 from .questions import AsItIsLeft
 from .templates import Template
 from .texts import Printed
-from .words import answer
+from .words import answer, read
 
 if TYPE_CHECKING:
     import pandas
@@ -114,13 +114,17 @@ def sweep(
     ``timeout`` seconds and ``memory`` bytes. ``cache`` is a folder that keeps answers by their content: a sweep that is run again asks only what is
     new. ``progress`` shows a bar.
 
-    A point without an answer is a row, too: its ``refusal`` says why, and ``status`` is that of a refusal; both columns are always there. Raises what
-    the measure raises otherwise, and what the executor does.
+    A point without an answer is a row, too: its ``refusal`` says why, and ``status`` is that of a refusal; both columns are always there. Raises
+    ``ValueError`` where the words are no question, or a point has a name that the template doesn't ask for, and besides what the measure raises, and
+    what the executor does.
     """
     import pandas
 
     template = template if isinstance(template, Template) else Template.from_file(template)
+    if isinstance(measure, str):
+        read(measure)
     listed = points(grid)
+    template.check_names({name for point in listed for name in point})
     task = _Task(template, measure, turns, timeout, memory, None if cache is None else Path(cache).resolve())
     with _opened(executor) as opened:
         rows = _rows(opened, task, listed, progress)

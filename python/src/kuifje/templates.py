@@ -12,17 +12,18 @@ from __future__ import annotations
 import os
 import re
 from bisect import bisect_right
-from collections.abc import Iterator, Mapping
+from collections.abc import Iterable, Iterator, Mapping
 from dataclasses import dataclass, replace
 from pathlib import Path
 from traceback import extract_tb
 from typing import Any
 
-from jinja2 import FileSystemLoader, StrictUndefined, TemplateError, TemplateSyntaxError
+from jinja2 import FileSystemLoader, StrictUndefined, TemplateError, TemplateSyntaxError, meta
 from jinja2.ext import Extension
 from jinja2.lexer import Token
 from jinja2.sandbox import ImmutableSandboxedEnvironment
 
+from .channels import LENGTH
 from .engine import Engine
 from .errors import KuifjeError, Refusal
 from .expressions import choose, lookup
@@ -30,6 +31,8 @@ from .program import Program
 from .values import format_value
 
 __all__ = ["BadTemplate", "Expansion", "Template"]
+
+LONGEST = 16 * LENGTH  # characters of an expansion, with its marks
 
 # A mark stands in a marked expansion before each piece of text and before each value: which source it is from, and where in that it stands.
 _MARK = re.compile("\0([0-9]+):([0-9]+):([01])\0")
@@ -167,6 +170,31 @@ class Template:
         """The template in a file; it may include those in the same folder."""
         return cls(Path(path).read_text(encoding="utf-8"), Path(path).name, Path(path).resolve().parent)
 
+    def names(self) -> frozenset[str] | None:
+        """The values that the template asks for, and those that it includes do; none where it includes what only its values name, or isn't one."""
+        environment = _Environment(self.folder, self.name, False)
+        found: set[str] = set()
+        known, waiting = {self.name}, [self.text]
+        try:
+            while waiting:
+                tree = environment.parse(waiting.pop())
+                found |= meta.find_undeclared_variables(tree)
+                for name in meta.find_referenced_templates(tree):
+                    if name is None or environment.loader is None:
+                        return None
+                    if name not in known:
+                        known.add(name)
+                        waiting.append(environment.loader.get_source(environment, name)[0])
+        except (TemplateError, OSError):
+            return None
+        return frozenset(found) - environment.globals.keys()
+
+    def check_names(self, names: Iterable[str]) -> None:
+        """Raises ``ValueError`` where there is a name that the template doesn't ask for: most likely it is mistyped."""
+        asked = self.names()
+        if asked is not None and (unknown := set(names) - asked):
+            raise ValueError(f"{self.name} doesn't ask for {min(unknown)!r}: it asks for {', '.join(sorted(asked)) or 'nothing'}")
+
     def expand(self, /, **values: object) -> Expansion:
         """The text with these values. Raises ``BadTemplate`` where there is none."""
         text, _ = self._rendered(values, marked=False)
@@ -186,7 +214,13 @@ class Template:
     def _rendered(self, values: dict[str, object], marked: bool) -> tuple[str, list[_Source]]:
         environment = _Environment(self.folder, self.name, marked)
         try:
-            return environment.from_string(self.text).render(values), environment.sources
+            pieces, length = [], 0
+            for piece in environment.from_string(self.text).generate(values):
+                pieces.append(piece)
+                length += len(piece)
+                if length > LONGEST:
+                    raise BadTemplate(f"the text passes {LENGTH} bytes", self.name)
+            return "".join(pieces), environment.sources
         except TemplateSyntaxError as cause:
             raise BadTemplate(cause.message or "no template", cause.name or self.name, cause.lineno) from None
         except (TemplateError, ArithmeticError, TypeError, ValueError, LookupError) as cause:

@@ -74,7 +74,10 @@ def parse_value(text: str) -> Value:
 
     Raises ``ValueError`` where the text isn't that of a value.
     """
-    value, end = _value_at(text, 0)
+    try:
+        value, end = _value_at(text, 0)
+    except RecursionError:
+        raise ValueError("the text has too many brackets in each other") from None
     if end != len(text):
         raise ValueError(f"{text!r} goes on after a value")
     return value

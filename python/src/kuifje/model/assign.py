@@ -7,14 +7,17 @@ from collections.abc import Iterable, Iterator, Sequence
 from contextlib import contextmanager
 from dataclasses import replace
 
+from ..channels import LENGTH
 from .calls import Calls
 from .errors import Place
 from .evaluate import Binding, bad
 from .symbols import Known, Row, Scalar, Slots, Symbol, is_shared, same_shape, shape_of
-from .tree import Assign, Draw, Expr, Node, Observe, Statement, Store, While, variables
+from .tree import Assign, Draw, Expr, If, Node, Observe, Statement, Store, While, variables
 
 __all__ = ["Assigner", "RESERVED", "flat"]
 
+MOST = 4096  # variables while a model is unfolded; the text may have 32
+FEWER = "use one name for several things in turn, or keep small numbers together in a tuple"
 RESERVED = frozenset(
     "var vis bool set of about old skip observe if else while uniform choose flip true false or and not in union less div mod inter size cond xor "
     "implies subset min max abs".split()
@@ -30,17 +33,22 @@ class Assigner(Calls):
         self.assigned: set[str] = set()
         self.ranges: dict[str, tuple[range, Place]] = {}
         self.names: dict[tuple[object, ...], str] = {}
+        self.taken = set(RESERVED)
         self.hidden = False
         self.several = False
         self.version = 0
+        self.length = 0
 
     def allocate(self, key: tuple[object, ...], hint: str) -> str:
         """The variable of a key; the first time a new one, called as the hint says where that is free."""
         if key not in self.names:
-            taken, name, number = set(self.names.values()) | RESERVED, hint, 2
-            while name in taken:
+            name, number = hint, 2
+            while name in self.taken:
                 name, number = f"{hint}_{number}", number + 1
+            if len(self.names) == MOST:
+                self.bad(f"{name} is one variable too many: there are more than {MOST}", FEWER, self.current)
             self.names[key] = name
+            self.taken.add(name)
         return self.names[key]
 
     def emit(self, statement: Statement) -> None:
@@ -57,6 +65,11 @@ class Assigner(Calls):
         self.changed(names)
         self.assigned.update(names)
         self.out.append(statement)
+        # How many bytes its text has at least: a name, words, the number of a line, and ends; hidden branches may share a line.
+        least = 16 if isinstance(statement, Observe) else 23 if isinstance(statement, If) and not statement.hidden else 12
+        self.length += (sum(map(len, names)) + least) // (2 if self.hidden else 1)
+        if self.length > LENGTH:
+            bad(f"the text passes {LENGTH} bytes", "write a loop by while, or a smaller table", statement.place)
 
     def changed(self, names: Iterable[str]) -> None:
         """Notes that variables have new values: what was read before isn't what they are."""

@@ -13,7 +13,8 @@ from types import FunctionType
 from . import declare
 from .declare import Distribution
 from .errors import Place
-from .evaluate import NEITHER, PRIMITIVES, Evaluator, folded
+from .evaluate import NEITHER, PRIMITIVES, SMALLER, Evaluator, few, folded
+from .sizes import TooMany, length
 from .source import MISSING
 from .symbols import Known, Row, Symbol
 from .tree import Choose, Draw, Expr, Fixed, Flip, Literal, Uniform, UniformRange
@@ -38,10 +39,13 @@ class Calls(Evaluator):
             row = self.row(self.value(node.func.value))
             if isinstance(row, Row):
                 return Row(row.items, row.is_list, row.whole)
+        if function is MISSING and isinstance(node.func, ast.Attribute) and node.func.attr in dir(int):
+            form = "of a number, write what it does: bit_length as sum([x >= 2 ** i for i in range(20)]) where x is at least 0"
+            self.bad(f"{node.func.attr} is a method, and values have none here", form, node)
         if function is MISSING:
             self.bad("this function isn't known", "call functions by their names; arrays and sets have no methods: write s = s | {x}", node)
         arguments = self.arguments(node.args)
-        if not isinstance(function, FunctionType) and not node.keywords and (known := folded(function, *arguments)) is not None:
+        if not isinstance(function, FunctionType) and not node.keywords and (known := self._folded(function, arguments, node)) is not None:
             return known
         named = self.named(node)
         if isinstance(function, FunctionType):
@@ -51,6 +55,16 @@ class Calls(Evaluator):
         if found is None or named or getattr(builtins, name, None) is not function:
             self.bad("this call can't be translated", "what may be called is listed in python/README.md", node)
         return found(node, arguments)
+
+    def _folded(self, function: object, arguments: list[Symbol], node: ast.Call) -> Known | None:
+        """What Python makes of constants. Refuses what would go over too many."""
+        try:
+            if function not in (range, len):
+                for symbol in arguments:
+                    few(length(symbol.value) or 0 if isinstance(symbol, Known) else 0)
+            return folded(function, *arguments)
+        except TooMany as cause:
+            self.bad(str(cause), SMALLER, node)
 
     def named(self, node: ast.Call) -> dict[str, Symbol]:
         """The arguments of a call that are given by name."""
@@ -66,6 +80,8 @@ class Calls(Evaluator):
             if function is declare.flip:
                 return self._flip(node, place)
             return self._uniform(node, place) if function is declare.uniform else self._choose(node, place)
+        except TooMany as cause:
+            self.bad(f"{getattr(function, '__name__')}: {cause}", declare.FEWER, node)
         except (TypeError, ValueError, ZeroDivisionError) as cause:
             self.bad(str(cause), "write flip(1, 5), uniform(range(4)), or choose((0, 3), (1, 1))", node)
 
@@ -91,12 +107,16 @@ class Calls(Evaluator):
             return UniformRange(place, first, self.operation("-", argument, bounds[len(bounds) > 1], Literal(place, 1)))
         values = self.value(argument)
         if isinstance(values, Known):
-            return Fixed(place, Distribution.of((value, 1) for value in values.value))
+            return Fixed(place, Distribution.of(declare.evenly(values.value)))
         if isinstance(row := self.row(values), Row):
             return Choose(place, tuple((self.as_expr(item, argument), Literal(place, 1)) for item in row.items))
         return Uniform(place, self.as_expr(values, argument))
 
     def _choose(self, node: ast.Call, place: Place) -> Draw:
+        if len(node.args) == 1 and not isinstance(node.args[0], (ast.Dict, ast.Starred)):
+            weights = self.value(node.args[0])
+            if isinstance(weights, Known) and isinstance(weights.value, dict):
+                return Fixed(place, Distribution.of(weights.value.items()))
         cases = [self.items(case, node) for case in self._pairs(node)]
         if not cases or any(len(case) != 2 for case in cases):
             self.bad("a case of choose is a value and its weight", "write choose((value, weight), (other, weight))", node)
@@ -115,10 +135,7 @@ class Calls(Evaluator):
             if len(values) < len(keys) or len(set(values)) < len(keys):
                 self.bad("a dictionary keeps one weight of equal keys", "write pairs: choose((value, weight), (other, weight))", node)
             return [Row((Known(key), self.value(weight)), False) for key, weight in zip(values, given.values)]
-        found = self.value(given)
-        if isinstance(found, Known) and isinstance(found.value, dict):
-            return [Known(pair) for pair in found.value.items()]
-        return [found]
+        return [self.value(given)]
 
     def _of_range(self, node: ast.Call, arguments: list[Symbol]) -> Symbol:
         self.bad("how many numbers these are isn't a constant", "write while, or for over the longest range with an if", node)

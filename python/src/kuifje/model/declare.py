@@ -2,18 +2,24 @@
 
 from __future__ import annotations
 
-from collections.abc import Iterable, Mapping
+from collections.abc import Iterable, Iterator, Mapping, Set
 from contextvars import ContextVar
 from dataclasses import dataclass
 from enum import Enum
 from fractions import Fraction
 from functools import cached_property
 from math import gcd
+from numbers import Integral
 from typing import Annotated, Any, Protocol, TypeAlias
 
 from ..values import Value, ascending
+from .errors import BadModel, calling
+from .sizes import CASES, VALUES, TooMany, length
 
 __all__ = ["Domain", "Distribution", "Noise", "Parameter", "Public", "Role", "Secret", "choose", "flip", "hide", "observe", "one_of", "uniform"]
+
+
+FEWER = "take fewer values, or several variables that have fewer each"
 
 
 class Role(Enum):
@@ -51,12 +57,14 @@ class Distribution:
         """The distribution of these cases; equal values are added up.
 
         Raises ``TypeError`` where a value is none of the language, a weight isn't whole, or kinds differ, and ``ValueError`` where a weight is
-        below 0, or all are 0.
+        below 0, or all are 0: ``TooMany`` where there are more values than a type may have.
         """
         found: dict[Value, int] = {}
         kinds = set()
-        for given, weight in cases:
-            if not isinstance(weight, int):
+        for number, (given, weight) in enumerate(cases):
+            if number == CASES:
+                raise TooMany(f"there are more than {CASES} values with weights, and {VALUES} different ones are allowed")
+            if not isinstance(weight, Integral):
                 raise TypeError(f"a weight is a whole number, and {weight!r} isn't")
             if weight < 0:
                 raise ValueError(f"a weight is {weight}, and may not be below 0")
@@ -64,11 +72,15 @@ class Distribution:
                 value = value_of(given)
                 kinds.add(type(value))
                 found[value] = found.get(value, 0) + int(weight)
+                if len(found) > VALUES:
+                    raise TooMany(f"there are more than {VALUES} values, and {VALUES} are allowed")
         if not found:
             raise ValueError("there is no value with a weight above 0")
         if len(kinds) > 1:
             raise TypeError("truths, numbers, tuples and sets can't stand in one distribution")
         common = gcd(*found.values())
+        if sum(found.values()) // common >= 1 << 127:
+            raise ValueError("the weights sum to more than 2^127 - 1")
         return cls({value: found[value] // common for value in ascending(found)})
 
 
@@ -113,7 +125,16 @@ class NotInAModel(RuntimeError):
 
 
 def value_of(value: Any) -> Value:
-    """A Python value as one of the language: a list becomes a tuple, a set a ``frozenset``. Raises ``TypeError`` where it is none."""
+    """A Python value as one of the language: a list becomes a tuple, a set a ``frozenset``, and what numpy has the same of Python.
+
+    Raises ``TypeError`` where it is none, and ``TooMany`` where it has more parts than a type has values.
+    """
+    if isinstance(value, int):
+        return value if type(value) in (int, bool) else int(value)
+    if hasattr(value, "dtype") and hasattr(value, "tolist"):
+        value = value.tolist() if getattr(value, "size", 0) <= VALUES else range(value.size)
+    if isinstance(value, (int, list, tuple, set, frozenset, range)) and (length(value) or 0) > VALUES:
+        raise TooMany(f"a value has {length(value)} parts, and {VALUES} are allowed")
     if isinstance(value, int):
         return value
     if isinstance(value, (list, tuple)):
@@ -131,18 +152,36 @@ def drawn(distribution: Distribution) -> Any:
     return distribution if run is None else run.draw(distribution)
 
 
+def evenly(values: Iterable[Any]) -> Iterator[tuple[Any, int]]:
+    """Each of the values with the weight 1. Raises ``TooMany`` where it is known beforehand that there are more than a type has."""
+    if isinstance(values, (range, Set, Mapping)) and (length(values) or 0) > VALUES:
+        raise TooMany(f"there are {length(values)} values, and {VALUES} are allowed")
+    return ((value, 1) for value in values)
+
+
+def _distribution(word: str, given: Iterable[Any], weighted: bool = False) -> Distribution:
+    """The distribution of a call. Refuses one with too many values at the place of the call."""
+    try:
+        return Distribution.of(given if weighted else evenly(given))
+    except TooMany as cause:
+        raise BadModel(f"{word}: {cause}", FEWER, calling()) from None
+
+
 def uniform(values: Iterable[Any]) -> Any:
     """Each of the values with the same probability: as a parameter's default, or as a draw in the body.
 
-    A value that stands twice in a list counts twice. Raises ``ValueError`` where there is none.
+    A value that stands twice in a list counts twice. Raises ``ValueError`` where there is none, and ``BadModel`` where there are more than 65,536.
     """
-    return drawn(Distribution.of((value, 1) for value in values))
+    return drawn(_distribution("uniform", values))
 
 
 def choose(*cases: Any) -> Any:
-    """Values by whole weights: pairs of a value and its weight, ``choose((bit, 3), (1 - bit, 1))``, or a dictionary, ``choose({0: 9, 1: 1})``."""
+    """Values by whole weights: pairs of a value and its weight, ``choose((bit, 3), (1 - bit, 1))``, or a dictionary, ``choose({0: 9, 1: 1})``.
+
+    Raises ``BadModel`` where more than 65,536 values have a weight.
+    """
     pairs = cases[0].items() if len(cases) == 1 and isinstance(cases[0], Mapping) else cases
-    return drawn(Distribution.of(pairs))
+    return drawn(_distribution("choose", pairs, True))
 
 
 def flip(numerator: int | Fraction, denominator: int = 1) -> Any:
@@ -155,8 +194,8 @@ def flip(numerator: int | Fraction, denominator: int = 1) -> Any:
 
 
 def one_of(values: Iterable[Any]) -> Any:
-    """The values that a public input may take; each question is asked with one of them."""
-    return Domain(tuple(Distribution.of((value, 1) for value in values).weights))
+    """The values that a public input may take; each question is asked with one of them. Raises ``BadModel`` where there are more than 65,536."""
+    return Domain(tuple(_distribution("one_of", values).weights))
 
 
 def observe(value: Any) -> None:

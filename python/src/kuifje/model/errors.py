@@ -2,11 +2,14 @@
 
 from __future__ import annotations
 
+import linecache
+import sys
 from dataclasses import dataclass, replace
+from types import FrameType
 
 from ..errors import KuifjeError
 
-__all__ = ["BadModel", "Place"]
+__all__ = ["BadModel", "Place", "calling"]
 
 
 @dataclass(frozen=True, order=True)
@@ -35,6 +38,17 @@ class Place:
 
     def __str__(self) -> str:
         return f"{self.file}:{self.line}:{self.column}"
+
+
+def calling() -> Place:
+    """The place of the call, outside of this package, that is being made."""
+    frame: FrameType | None = sys._getframe(1)
+    while frame is not None and frame.f_back is not None and frame.f_globals.get("__name__", "").startswith("kuifje."):
+        frame = frame.f_back
+    assert frame is not None
+    code, line = frame.f_code, frame.f_lineno
+    _, _, column, _ = list(code.co_positions())[frame.f_lasti // 2]
+    return Place(code.co_filename, line, (column or 0) + 1, linecache.getline(code.co_filename, line).rstrip("\r\n"), code.co_name)
 
 
 class BadModel(KuifjeError):

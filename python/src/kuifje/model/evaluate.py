@@ -5,15 +5,17 @@ from __future__ import annotations
 import ast
 import operator as operators
 from abc import ABC, abstractmethod
-from collections.abc import Callable, Iterator, Sequence
+from collections.abc import Callable, Iterator, Mapping, Sequence
 from contextlib import contextmanager
 from dataclasses import replace
 from functools import reduce
+from math import prod
 from typing import Any, NoReturn
 
 from . import declare
 from .declare import Distribution, value_of
 from .errors import BadModel, Place
+from .sizes import BITS, ENTRIES, TURNS, TooMany, length, listed
 from .source import MISSING, Source
 from .symbols import Known, Row, Scalar, Slots, Symbol, is_shared, parts_of
 from .tree import Draw, Expr, Literal, Lookup, Operation, SetOf, TupleOf, Variable
@@ -64,6 +66,7 @@ FOLDED: dict[type[ast.AST], Callable[..., Any]] = {
     ast.Not: operators.not_,
 }
 NEITHER = object()
+SMALLER = "go over fewer; a while loop isn't unrolled"
 
 
 def bad(reason: str, form: str, place: Place) -> NoReturn:
@@ -108,6 +111,8 @@ class Evaluator(ABC):
         self.versions: dict[str, int] = {}
         self.strict = True
         self.scope: Scope
+        self.current: ast.AST = ast.Pass()
+        self.turns = 0
 
     @abstractmethod
     def draw(self, draw: Draw, node: ast.AST, at: tuple[int, ...] = ()) -> Symbol:
@@ -116,6 +121,12 @@ class Evaluator(ABC):
     def bad(self, reason: str, form: str, node: ast.AST) -> NoReturn:
         """Refuses a node."""
         bad(reason, form, self.scope.place(node))
+
+    def turn(self, node: ast.AST) -> None:
+        """Counts a turn of a loop that is unrolled. Refuses too many of all loops together."""
+        self.turns += 1
+        if self.turns > TURNS:
+            self.bad(f"loops are unrolled over more than {TURNS} turns", SMALLER, node)
 
     # Names and constants
 
@@ -133,26 +144,69 @@ class Evaluator(ABC):
         return Variable(self.scope.place(node), name, self.versions.get(name, 0))
 
     def constant(self, node: ast.expr) -> Any:
-        """The value of an expression in which only constants stand, by Python; ``NEITHER`` of any other."""
-        scope, names = self.scope, {}
+        """The value of an expression in which only constants stand, by Python; ``NEITHER`` of any other. Refuses one that takes Python too long."""
+        names = self._names_of(node)
+        if names is None:
+            return NEITHER
+        try:
+            self._small(node)
+            value = self._by_python(node, names)
+            return listed(value) if isinstance(value, Iterator) else value
+        except TooMany as cause:
+            self.bad(str(cause), SMALLER, node)
+
+    def _names_of(self, node: ast.expr) -> dict[str, Any] | None:
+        """The values of the local names in an expression, where all are constants and nothing is drawn."""
+        scope, names = self.scope, dict[str, Any]()
         for part in ast.walk(node):
             if isinstance(part, ast.Name) and isinstance(part.ctx, ast.Load) and (part.id in scope.names or part.id in scope.source.locals):
                 binding = scope.names.get(part.id)
                 if not isinstance(binding, Known):
-                    return NEITHER
+                    return None
                 names[part.id] = binding.value
             elif isinstance(part, ast.Call) and scope.source.called(part.func) in PRIMITIVES:
-                return NEITHER
-        free = {name: scope.source.meaning(name) for name in scope.source.function.__code__.co_freevars}
+                return None
+        return names
+
+    def _by_python(self, node: ast.expr, names: Mapping[str, Any]) -> Any:
+        """What Python makes of an expression; ``NEITHER`` where it raises."""
+        source = self.scope.source
+        free = {name: source.meaning(name) for name in source.function.__code__.co_freevars}
         mark = declare.RUNNING.set(_Folding())
         try:
-            code = compile(ast.Expression(node), scope.source.file, "eval")
-            value = eval(code, dict(scope.source.function.__globals__) | free | names)
+            code = compile(ast.Expression(node), source.file, "eval")
+            return eval(code, dict(source.function.__globals__) | free | dict(names))
         except Exception:
             return NEITHER
         finally:
             declare.RUNNING.reset(mark)
-        return list(value) if isinstance(value, Iterator) else value
+
+    def _small(self, node: ast.expr) -> None:
+        """Raises ``TooMany`` where an expression takes Python too long: loops over huge ranges, or huge numbers, lists and texts.
+
+        What stands inside comes first, so that no huge part is worked out for what is around it.
+        """
+        parts = list(ast.walk(node))
+        bound = {name.id for part in parts if isinstance(part, ast.comprehension) for name in ast.walk(part.target) if isinstance(name, ast.Name)}
+        for part in reversed(parts):
+            match part:
+                case ast.BinOp(op=ast.Mult() | ast.Pow() | ast.LShift()):
+                    fits(type(part.op), self._part(part.left, bound), self._part(part.right, bound))
+                case ast.ListComp() | ast.SetComp() | ast.GeneratorExp() | ast.DictComp():
+                    few(prod(length(self._part(generator.iter, bound)) or 1 for generator in part.generators))
+                case ast.Call(args=[_, *_]) if self.scope.source.called(part.func) not in (range, len):
+                    for given in part.args:
+                        if isinstance(given, (ast.Call, ast.Name)):
+                            few(length(self._part(given, bound)) or 0)
+
+    def _part(self, node: ast.expr, bound: set[str]) -> Any:
+        """The value of a part of a constant, where it stands for itself."""
+        if isinstance(node, ast.Constant):
+            return node.value
+        names = self._names_of(node)
+        if names is None or any(isinstance(part, ast.Name) and part.id in bound for part in ast.walk(node)):
+            return NEITHER
+        return self._by_python(node, names)
 
     def evaluate(self, node: ast.expr) -> Symbol:
         """What an expression stands for. Statements that it needs are emitted first."""
@@ -218,10 +272,18 @@ class Evaluator(ABC):
     def _binop(self, node: ast.BinOp) -> Symbol:
         operator = OPERATORS.get(type(node.op))
         left, right = self.value(node.left), self.value(node.right)
+        if isinstance(left, Known) and isinstance(right, Known):
+            try:
+                fits(type(node.op), left.value, right.value)
+            except TooMany as cause:
+                self.bad(str(cause), SMALLER, node)
         if (known := folded(FOLDED.get(type(node.op)), left, right)) is not None:
             return known
-        if operator == "*" and (repeated := _repeated(self.row(left), right) or _repeated(self.row(right), left)):
-            return repeated
+        try:
+            if operator == "*" and (repeated := _repeated(self.row(left), right) or _repeated(self.row(right), left)):
+                return repeated
+        except TooMany as cause:
+            self.bad(str(cause), SMALLER, node)
         if operator == "+" and isinstance(a := self.row(left), Row) and isinstance(b := self.row(right), Row) and a.is_list == b.is_list:
             return Row(a.items + b.items, a.is_list)
         if operator is None:
@@ -327,12 +389,12 @@ class Evaluator(ABC):
 
     def member(self, left: Symbol, right: Symbol, node: ast.AST) -> Expr:
         """Whether one symbol is in another: a range, an array, a tuple or a set."""
-        if isinstance(right, Known) and isinstance(right.value, range) and right.value.step == 1 and len(right.value):
+        if isinstance(right, Known) and isinstance(right.value, range) and right.value.step == 1 and right.value:
             x, place = self.as_expr(left, node), self.scope.place(node)
             ends = Literal(place, right.value[0]), Literal(place, right.value[-1])
             return self.operation("and", node, self.operation("<=", node, ends[0], x), self.operation("<=", node, x, ends[1]))
         if isinstance(right, Known) and not isinstance(right.value, (set, frozenset)):
-            right = Known(list(right.value))
+            right = Known([entry.value for entry in self.items(right, node) if isinstance(entry, Known)])
         if isinstance(entries := self.row(right), Row):
             return self.all_of([self.equal(left, entry, node) for entry in entries.items], node, "or")
         return self.operation("in", node, self.as_expr(left, node), self.as_expr(right, node))
@@ -361,6 +423,8 @@ class Evaluator(ABC):
     def row(self, symbol: Symbol) -> Symbol:
         """A constant list or tuple as a row."""
         if isinstance(symbol, Known) and isinstance(symbol.value, (list, tuple)):
+            if len(symbol.value) > ENTRIES:
+                self.bad(f"there are {len(symbol.value)} entries, and {ENTRIES} are allowed", SMALLER, self.current)
             return Row(tuple(map(Known, symbol.value)), isinstance(symbol.value, list))
         return symbol
 
@@ -396,7 +460,10 @@ class Evaluator(ABC):
             case Row(items=items):
                 return list(items)
             case Known(value=value) if hasattr(value, "__iter__"):
-                return [Known(entry) for entry in value]
+                try:
+                    return [Known(entry) for entry in listed(value)]
+                except TooMany as cause:
+                    self.bad(str(cause), SMALLER, node)
         self.bad("how many entries there are isn't a constant", "go over range(..) of a constant, an array or a constant list", node)
 
     def _comprehended(self, node: ast.ListComp | ast.SetComp | ast.GeneratorExp) -> list[Symbol]:
@@ -407,6 +474,7 @@ class Evaluator(ABC):
                 found.append(self.evaluate(node.elt))
                 return
             for item in self.items(self.value(rest[0].iter), rest[0].iter):
+                self.turn(node)
                 self.bind(rest[0].target, item)
                 tests = [self.test(test) for test in rest[0].ifs]
                 if any(not isinstance(test, Literal) for test in tests):
@@ -499,15 +567,39 @@ class _Folding:
         raise declare.NotInAModel("an observation isn't a constant")
 
 
+def few(number: int) -> None:
+    """Raises ``TooMany`` where so many entries are more than loops may go over."""
+    if number > TURNS:
+        raise TooMany(f"there are {number} entries, and {TURNS} are allowed")
+
+
+def fits(operator: type[ast.AST], left: Any, right: Any) -> None:
+    """Raises ``TooMany`` where the value of an operator would be huge: a number of more than 65,536 bits, or a list or text as long."""
+    for several, times in ((left, right), (right, left)):
+        if operator is ast.Mult and isinstance(several, (list, tuple, str, bytes)) and isinstance(times, int) and len(several) * times > ENTRIES:
+            raise TooMany(f"there are {len(several) * times} entries, and {ENTRIES} are allowed")
+    if not (isinstance(left, int) and isinstance(right, int)):
+        return
+    bits: dict[type[ast.AST], int] = {
+        ast.Mult: left.bit_length() + right.bit_length(),
+        ast.Pow: left.bit_length() * abs(right),
+        ast.LShift: left.bit_length() + right,
+    }
+    if bits.get(operator, 0) > BITS and (left not in (0, 1, -1) or operator is ast.LShift and left):
+        raise TooMany(f"the number has more than {BITS} bits")
+
+
 def folded(work: Any, *symbols: Symbol) -> Known | None:
     """What Python makes of constants; none where one isn't constant, or Python refuses them."""
     if not callable(work) or not all(isinstance(symbol, Known) for symbol in symbols):
         return None
     try:
         value = work(*(symbol.value for symbol in symbols if isinstance(symbol, Known)))
+        return Known(listed(value) if isinstance(value, Iterator) else value)
+    except TooMany:
+        raise
     except Exception:
         return None
-    return Known(list(value) if isinstance(value, Iterator) else value)
 
 
 def _noun(node: ast.AST) -> str:
@@ -517,7 +609,8 @@ def _noun(node: ast.AST) -> str:
 
 
 def _repeated(row: Symbol, count: Symbol) -> Row | None:
-    """A list or tuple that is repeated by a constant."""
+    """A list or tuple that is repeated by a constant. Raises ``TooMany`` where it would be huge."""
     if isinstance(row, Row) and isinstance(count, Known) and isinstance(count.value, int):
+        fits(ast.Mult, row.items, count.value)
         return Row(row.items * count.value, row.is_list)
     return None

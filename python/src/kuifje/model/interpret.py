@@ -1,7 +1,7 @@
 """The runs of a model, by Python itself: its functions run once for each way through their random choices.
 
 The functions are compiled anew with two changes: a guard of ``if`` and ``while`` also keeps its truth, and ``observe`` its place. All else means what
-it means in Python.
+it means in Python. Each run is made a second time by the function that is loaded, as it is: what it draws and shows has to be the same.
 """
 
 from __future__ import annotations
@@ -12,13 +12,13 @@ from collections.abc import Callable, Iterator, Mapping, Sequence
 from dataclasses import dataclass, field
 from fractions import Fraction
 from types import FunctionType
-from typing import Any
+from typing import Any, NoReturn
 
 from ..errors import KuifjeError
 from ..values import Value
 from .declare import RUNNING, Distribution, Parameter, Role, hide, observe, value_of
 from .errors import BadModel, Place
-from .source import Source
+from .source import LAMBDA, Changed, Source
 
 __all__ = ["EndlessLoop", "Run", "Seen", "runs"]
 
@@ -131,6 +131,7 @@ class _Instrument(ast.NodeTransformer):
     def __init__(self, source: Source, public: frozenset[str]) -> None:
         self.source, self.places = source, list[Place]()
         self.known = _known_names(source, public)
+        self.functions: dict[FunctionType, str] = {}
         self.loops = 0
 
     def _kept(self, word: str, value: ast.expr, node: ast.AST) -> ast.Call:
@@ -161,10 +162,14 @@ class _Instrument(ast.NodeTransformer):
         return [ast.copy_location(begin, node), node]
 
     def visit_Call(self, node: ast.Call) -> ast.Call:
-        """An observation."""
+        """An observation, or a call of a function that is compiled anew, too."""
         self.generic_visit(node)
-        if self.source.called(node.func) is observe and len(node.args) == 1 and not node.keywords:
+        called = self.source.called(node.func)
+        if called is observe and len(node.args) == 1 and not node.keywords:
             return ast.copy_location(self._kept("__observe__", node.args[0], node), node)
+        if isinstance(called, FunctionType) and not called.__module__.startswith("kuifje."):
+            name = self.functions.setdefault(called, f"__function_{len(self.functions)}__")
+            node.func = ast.copy_location(ast.Name(name, ast.Load()), node.func)
         return node
 
 
@@ -199,7 +204,7 @@ def _known_names(source: Source, public: frozenset[str]) -> frozenset[str]:
 
 
 def instrumented(function: FunctionType, public: frozenset[str] = frozenset(), made: dict[Any, Any] | None = None) -> Callable[..., Any]:
-    """The function, compiled so that guards and observations are kept; so are the functions that it names. Raises ``BadModel`` without a source."""
+    """The function, compiled so that guards and observations are kept; so are the functions that it calls. Raises ``BadModel`` without a source."""
     made = {} if made is None else made
     if function in made:
         found: Callable[..., Any] = made[function]
@@ -218,12 +223,21 @@ def instrumented(function: FunctionType, public: frozenset[str] = frozenset(), m
     result: Any = names[source.name]
     result.__defaults__, result.__kwdefaults__ = function.__defaults__, function.__kwdefaults__
     made[function] = result
-    for name, called in source.functions():
-        try:
-            names[name] = instrumented(called, made=made)
-        except BadModel:
-            names[name] = called
+    for called, name in marks.functions.items():
+        names[name] = _kept_too(called, made)
     return result  # type: ignore[no-any-return]
+
+
+def _kept_too(function: FunctionType, made: dict[Any, Any]) -> Callable[..., Any]:
+    """A function that is called, compiled anew; one without a source, which a model only calls with constants, is itself."""
+    if function.__name__ == LAMBDA:
+        return function
+    try:
+        return instrumented(function, made=made)
+    except Changed:
+        raise
+    except BadModel:
+        return function
 
 
 def _array(value: Any) -> Any:
@@ -231,12 +245,12 @@ def _array(value: Any) -> Any:
     return [_array(entry) for entry in value] if isinstance(value, list) else value
 
 
-def _drawn(prior: Any, earlier: Mapping[str, Any], run: _Running, made: dict[Any, Any]) -> Any:
+def _drawn(prior: Any, earlier: Mapping[str, Any], run: _Running) -> Any:
     """The value of a parameter: drawn by its distribution, entry by entry of an array, or by a function of earlier parameters."""
     if isinstance(prior, Distribution):
         return run.draw(prior)
     if isinstance(prior, list):
-        return [_drawn(entry, earlier, run, made) for entry in prior]
+        return [_drawn(entry, earlier, run) for entry in prior]
     code = prior.__code__
     return prior(*(_array(earlier[name]) for name in code.co_varnames[: code.co_argcount]))
 
@@ -250,22 +264,70 @@ def flat(value: Any) -> Iterator[Value]:
         yield value_of(value)
 
 
+def _made(run: _Running, body: Callable[..., Any], parameters: Sequence[Parameter], public: Mapping[str, Any]) -> list[Value]:
+    """Makes a run of a function, and gives the values of its secrets."""
+    mark = RUNNING.set(run)
+    try:
+        given: dict[str, Any] = {}
+        for p in parameters:
+            given[p.name] = _array(public[p.name]) if p.role is Role.PUBLIC else _drawn(p.prior, given, run)
+        run.trace.clear()
+        secret = [value for p in parameters if p.role is Role.SECRET for value in flat(given[p.name])]
+        body(**given)
+    finally:
+        RUNNING.reset(mark)
+    return secret
+
+
+class _Loaded(_Running):
+    """A run of the function that is loaded, as it is, beside one that was made: it keeps what is observed, and no guards."""
+
+    def __init__(self, place: Place, like: _Running) -> None:
+        super().__init__([number for number, _ in like.taken], like.turns)
+        self.place, self.like = place, like
+        self.wanted = [seen.value for seen in like.trace if not seen.guard]
+
+    def draw(self, distribution: Distribution) -> Value:
+        """The same choice as in the run beside it."""
+        if len(self.taken) == len(self.like.taken):
+            self.differs()
+        return super().draw(distribution)
+
+    def show(self, value: Any) -> None:
+        """Keeps an observed value."""
+        self.trace.append(Seen(self.place, value_of(value), False))
+        if len(self.trace) > len(self.wanted):
+            self.differs()
+
+    def differs(self) -> NoReturn:
+        """Refuses a function that isn't what was compiled of its source."""
+        form = "a model draws and shows by its parameters alone; where its file was changed, load it again"
+        raise BadModel(f"{self.place.function} doesn't draw and show the same, run once more", form, self.place)
+
+    def compare(self) -> None:
+        """Refuses what was drawn or observed differently from the run beside it."""
+        shown = [seen.value for seen in self.trace]
+        if (self.taken, self.weight, self.scale) != (self.like.taken, self.like.weight, self.like.scale) or _typed(shown) != _typed(self.wanted):
+            self.differs()
+
+
+def _typed(values: Any) -> Any:
+    """Values with their types: 1 isn't true."""
+    return [(type(value), _typed(value) if isinstance(value, tuple) else value) for value in values]
+
+
 def runs(function: FunctionType, parameters: Sequence[Parameter], public: Mapping[str, Any], turns: int = 1024) -> Iterator[Run]:
-    """All runs of a model with these public inputs; an exception of the function comes as it is, and a loop has so many turns at most."""
-    made: dict[Any, Any] = {}
-    body = instrumented(function, frozenset(public), made)
+    """All runs of a model with these public inputs; an exception of the function comes as it is, and a loop has so many turns at most.
+
+    Each run is also made by the function that is loaded. Raises ``BadModel`` where that draws or shows anything else.
+    """
+    body, source = instrumented(function, frozenset(public)), Source(function)
     script: list[int] | None = []
     while script is not None:
         run = _Running(script, turns)
-        mark = RUNNING.set(run)
-        try:
-            given: dict[str, Any] = {}
-            for p in parameters:
-                given[p.name] = _array(public[p.name]) if p.role is Role.PUBLIC else _drawn(p.prior, given, run, made)
-            run.trace.clear()
-            secret = [value for p in parameters if p.role is Role.SECRET for value in flat(given[p.name])]
-            body(**given)
-        finally:
-            RUNNING.reset(mark)
+        secret = _made(run, body, parameters, public)
+        loaded = _Loaded(source.place(source.tree), run)
+        _made(loaded, function, parameters, public)
+        loaded.compare()
         yield Run(secret[0] if len(secret) == 1 else tuple(secret), tuple(run.trace), Fraction(run.weight, run.scale), run.scale)
         script = run.next_script()

@@ -2,12 +2,16 @@
 
 from __future__ import annotations
 
+import ast
+import copy
 import inspect
 import sys
-from collections.abc import Callable, Iterator, Mapping
+from collections.abc import Callable, Iterator, Mapping, Sequence, Sized
 from contextlib import contextmanager
+from dataclasses import replace
 from fractions import Fraction
-from itertools import product
+from functools import update_wrapper
+from itertools import islice
 from pathlib import Path
 from types import FunctionType
 from typing import Annotated, Any, get_args, get_origin, get_type_hints, overload
@@ -18,16 +22,19 @@ from ..program import Gain, Program
 from ..texts import BlameLine, Hyper, Item, Silent, Target
 from ..values import Value
 from . import interpret
+from .assign import FEWER
 from .declare import Distribution, Domain, Parameter, Role, value_of
 from .errors import BadModel, Place
 from .interpret import Run
-from .source import Source
+from .sizes import ENTRIES
+from .source import Source, changed
 from .parameters import Unfolded, unfold
 from .write import Translation, write
 
 __all__ = ["Model", "model"]
 
 DEPTH = 20_000  # of calls in each other, while a model is translated
+LONGEST = 10_000  # characters of a public input in the first line of a text
 
 
 class Model:
@@ -36,16 +43,25 @@ class Model:
     ``turns`` is how many turns a loop may take, ``engine`` what answers (the default engine where none is given). Each method that takes public
     inputs raises ``BadModel`` where the function can't be translated with them, and ``TypeError`` where one lacks, isn't one of the model's, or has
     a value that its ``one_of`` doesn't have. Making a model raises ``BadModel`` where a parameter isn't declared, or none is a secret.
+
+    A model is about the function that is loaded. Where its source, or that of a function that it calls, was changed since, each question raises
+    ``BadModel`` until it is loaded again. Called, a model is its function; its name and its docstring are the function's.
     """
 
     def __init__(self, function: Callable[..., Any], *, turns: int = 1024, engine: Engine | None = None) -> None:
         if not isinstance(function, FunctionType):
             raise TypeError(f"{function!r} is no function of Python")
+        update_wrapper(self, function, updated=())
         self.function, self.turns, self.engine = function, turns, engine
-        self._source = Source(function)
+        self._first = self._source = Source(function)
+        self._loaded = _loaded(function)
         self._parameters = tuple(self._parameter(p) for p in inspect.signature(function).parameters.values())
         if not any(p.role is Role.SECRET for p in self._parameters):
             self._bad("a model has a secret: what is asked about, as it was", f"def {self.name}(pin: Secret = uniform(range(10)))", self.name)
+
+    def __call__(self, *arguments: Any, **named: Any) -> Any:
+        """What the function does in Python; it observes only in the runs of a model."""
+        return self.function(*arguments, **named)
 
     def __repr__(self) -> str:
         return f"<Model {self.name}({', '.join(p.name for p in self._parameters)})>"
@@ -66,16 +82,17 @@ class Model:
         for p in public:
             if p.domain is None and p.default is None:
                 raise TypeError(f"{self.name}: the public input {p.name} has no values to go through: write {p.name}: Public = one_of(..)")
-        for values in product(*(_domain_values(p.domain) if p.domain is not None else [p.default] for p in public)):
+        for values in _each([p.domain if p.domain is not None else Domain((p.default,)) for p in public]):
             yield {p.name: value for p, value in zip(public, values)}
 
     def translation(self, **public: Any) -> Translation:
         """The text in the language, with these public inputs as constants, and where its lines come from."""
         given = self._given(public)
-        with_inputs = "".join(f", with {name} = {value!r}" for name, value in given.items())
-        title = f"The model {self.name} of {Path(self._source.file).name}{with_inputs}.\nAfter # stand lines of {Path(self._source.file).name}."
-        with _deep():
-            return write(self._unfolded(given), self.turns, title, self._source.place(self._source.tree))
+        unfolded, file = self._unfolded(given), Path(self._source.file).name
+        with_inputs = "".join(f", with {name} = {_shown(value)}" for name, value in given.items())
+        title = f"The model {self.name} of {file}{with_inputs}.\nAfter # stand lines of {file}."
+        with self._deep():
+            return write(unfolded, self.turns, title, self._source.place(self._source.tree))
 
     def text(self, **public: Any) -> str:
         """The text in the language, with these public inputs as constants."""
@@ -83,7 +100,8 @@ class Model:
 
     def program(self, **public: Any) -> Program:
         """The program to ask, with these public inputs as constants; its refusals speak of Python lines."""
-        found = self.translation(**public)
+        inputs = ", ".join(f"{name}={value!r}" for name, value in self._given(public).items())
+        found = replace(self.translation(**public), call=f"{self.name}({inputs})" if inputs else self.name)
         return Program(found.text, name=f"{self.name}.kf", turns=self.turns, engine=self.engine, expansion=found)
 
     def blame(self, **public: Any) -> list[tuple[Place, BlameLine]]:
@@ -119,6 +137,7 @@ class Model:
 
         An exception of the function, as of a division by 0, comes as it is. Raises ``EndlessLoop`` where a loop takes more turns than it may.
         """
+        self._read()
         return interpret.runs(self.function, self._parameters, self._given(public), self.turns)
 
     def hyper_of_runs(self, **public: Any) -> Hyper:
@@ -139,8 +158,31 @@ class Model:
 
     # Inside
 
+    def _read(self) -> None:
+        """Reads the source. Raises ``BadModel`` where it isn't that which the model was made of: its defaults and annotations, too."""
+        source = Source(self.function)
+        loaded = all(now is then for now, then in zip(_loaded(self.function), self._loaded))
+        if not loaded or ast.dump(source.tree) != ast.dump(self._first.tree):
+            raise changed(self.function)
+        self._source = source
+
     def _unfolded(self, given: Mapping[str, Any]) -> Unfolded:
-        return unfold(self._source, self._parameters, given)
+        self._read()
+        with self._deep():
+            return unfold(self._source, self._parameters, given)
+
+    @contextmanager
+    def _deep(self) -> Iterator[None]:
+        """Lets Python go deep enough for expressions of 1,000 nodes, one in the other. Refuses what is deeper."""
+        before = sys.getrecursionlimit()
+        sys.setrecursionlimit(max(before, DEPTH))
+        try:
+            yield
+        except RecursionError:
+            form = "write a loop by while, or leave it by its guard"
+            raise BadModel("branches and expressions stand too deep in each other", form, self._source.place(self._source.tree)) from None
+        finally:
+            sys.setrecursionlimit(before)
 
     def _own_line(self, place: Place) -> int:
         """The line of the model's own function that a place is in, or that calls it."""
@@ -158,6 +200,8 @@ class Model:
     def _parameter(self, parameter: inspect.Parameter) -> Parameter:
         name, default = parameter.name, parameter.default
         role = _role(get_type_hints(self.function, include_extras=True).get(name))
+        if sum(1 for _ in islice(_leaves(default), ENTRIES + 1)) > ENTRIES:
+            self._bad(f"{name} has more than {ENTRIES} entries", FEWER, name)
         if role is None or parameter.kind in (parameter.VAR_POSITIONAL, parameter.VAR_KEYWORD):
             self._bad(f"{name} isn't declared", f"write {name}: Secret = .., {name}: Noise = .., or {name}: Public = ..", name)
         if role is Role.PUBLIC:
@@ -192,15 +236,18 @@ class Model:
         return found
 
 
-@contextmanager
-def _deep() -> Iterator[None]:
-    """Lets Python go deep enough for expressions of 1,000 nodes, one in the other."""
-    before = sys.getrecursionlimit()
-    sys.setrecursionlimit(max(before, DEPTH))
+def _loaded(function: FunctionType) -> tuple[object, ...]:
+    """The code and the defaults that a function has."""
+    return function.__code__, function.__defaults__, function.__kwdefaults__
+
+
+def _shown(value: Any) -> str:
+    """A public input as a text; a huge one by its kind alone."""
     try:
-        yield
-    finally:
-        sys.setrecursionlimit(before)
+        text = repr(value) if isinstance(value, range) or not isinstance(value, Sized) or len(value) <= ENTRIES else ""
+    except ValueError:  # of numbers with very many digits
+        text = ""
+    return text if 0 < len(text) <= LONGEST else f"a {type(value).__name__}"
 
 
 def _role(hint: Any) -> Role | None:
@@ -210,6 +257,15 @@ def _role(hint: Any) -> Role | None:
             if isinstance(part, Role):
                 return part
     return None
+
+
+def _leaves(value: Any) -> Iterator[Any]:
+    """The entries of an array, and of those in it; of any other value the value."""
+    if isinstance(value, list):
+        for entry in value:
+            yield from _leaves(entry)
+    else:
+        yield value
 
 
 def _are(value: Any, kind: type) -> bool:
@@ -222,7 +278,17 @@ def _domain_values(domain: Any) -> Iterator[Any]:
     if isinstance(domain, Domain):
         yield from domain.values
     else:
-        yield from map(list, product(*(list(_domain_values(entry)) for entry in domain)))
+        yield from _each(domain)
+
+
+def _each(domains: Sequence[Any]) -> Iterator[list[Any]]:
+    """All rows with a value of each domain, the last one's first; none of them is kept."""
+    if not domains:
+        yield []
+        return
+    for first in _domain_values(domains[0]):
+        for rest in _each(domains[1:]):
+            yield [copy.copy(first), *rest]
 
 
 def _in_domain(value: Any, domain: Any) -> bool:

@@ -5,17 +5,21 @@ from __future__ import annotations
 import ast
 from collections.abc import Mapping, Sequence
 from dataclasses import dataclass
+from types import FunctionType
 from typing import Any
 
+from .assign import FEWER
 from .declare import Distribution, Parameter, Role
 from .errors import Place
 from .evaluate import Scope
-from .source import Source
-from .symbols import Known, Scalar, Slots, shape_of
+from .source import LAMBDA, Source
+from .symbols import Known, Scalar, Slots, Symbol, shape_of
 from .tree import Fixed, Node, Statement
 from .unfold import Unfolder, body_of
 
-__all__ = ["Declared", "Unfolded", "unfold"]
+__all__ = ["VARIABLES", "Declared", "Unfolded", "unfold"]
+
+VARIABLES = 32  # of a program, with the secrets once more, since they are asked about as they were
 
 
 @dataclass(frozen=True)
@@ -65,27 +69,36 @@ class _Parameters(Unfolder):
             found = tuple(self._drawn(name, entry, secret, node, (*at, i)) for i, entry in enumerate(prior))
             return Slots(tuple(entry.name if isinstance(entry, Scalar) else entry for entry in found))
         variable = self.variable_of(name, *at)
+        if len(self.declared) == VARIABLES:
+            self.bad(f"{variable} is one variable too many: {VARIABLES} are allowed", FEWER, node)
         value = Fixed(self.place(node), prior) if isinstance(prior, Distribution) else self._dependent(prior, node)
         self.declared.append(Declared(variable, value, secret, self.place(node)))
         return Scalar(variable, shape_of(value))
 
-    def _dependent(self, prior: Any, node: ast.AST) -> Node:
+    def _dependent(self, prior: FunctionType, node: ast.AST) -> Node:
         """What a function of earlier parameters draws by."""
+        source = Source(prior)
+        body = body_of(source)
+        if len(body) != 1 or not isinstance(body[0], ast.Return) or body[0].value is None:
+            self.bad(f"{source.name} has statements, and draws a parameter", "a function that draws a parameter only returns", node)
+        value, earlier = body[0].value, prior.__code__.co_varnames[: prior.__code__.co_argcount]
         self.strict = False
-        if isinstance(node, ast.Lambda):
-            symbol = self.evaluate(node.body)
+        if source.name == LAMBDA:
+            symbol = self._of_lambda(source, value, earlier)
         else:
-            source = Source(prior)
-            body = body_of(source)
-            if len(body) != 1 or not isinstance(body[0], ast.Return) or body[0].value is None:
-                self.bad(f"{source.name} has statements, and draws a parameter", "a function that draws a parameter only returns", node)
-            value = body[0].value
-            earlier = [
-                self.read(self.scope.names[name], node) for name in source.function.__code__.co_varnames[: source.function.__code__.co_argcount]
-            ]
-            symbol = self._inside(source, ast.copy_location(ast.Call(node, [], []), node), earlier, {}, lambda: self.evaluate(value))
+            given = [self.read(self.scope.names[name], node) for name in earlier]
+            symbol = self._inside(source, ast.copy_location(ast.Call(node, [], []), node), given, {}, lambda: self.evaluate(value))
         self.strict = True
         return self.as_node(symbol, node)
+
+    def _of_lambda(self, source: Source, value: ast.expr, earlier: Sequence[str]) -> Symbol:
+        """What a lambda gives for the parameters that it names, where its other names mean what they mean there."""
+        outer, self.scope = self.scope, Scope(source, "", None)
+        self.scope.names = {name: outer.names[name] for name in earlier}
+        try:
+            return self.evaluate(value)
+        finally:
+            self.scope = outer
 
 
 def unfold(source: Source, parameters: Sequence[Parameter], public: Mapping[str, Any]) -> Unfolded:

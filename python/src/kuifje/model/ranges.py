@@ -12,6 +12,7 @@ from typing import TypeAlias, Union
 
 from ..values import Value
 from .errors import Place
+from .sizes import VALUES
 from .evaluate import bad
 from .tree import (
     Assign,
@@ -40,8 +41,9 @@ from .parameters import Unfolded
 __all__ = ["Range", "Ranges", "Sets", "Truth", "Tuples", "Whole", "count", "join", "least", "of_value"]
 
 BOUND = 1_000_000  # of a range's numbers, on either side of 0
-VALUES = 65_536  # of a type
 BASE = 16  # values of the base of a set
+STEPS = 200_000  # statements that are followed, each turn of a loop anew
+LATEST = 8  # turns that a turn of a loop is compared with; with all others only whether it is the same
 
 
 @dataclass(frozen=True)
@@ -131,7 +133,7 @@ def count(found: Range) -> int:
         case Tuples(parts=parts):
             return reduce(lambda n, part: n * count(part), parts, 1)
         case Sets(of=of):
-            return 1 << count(of) if of is not None else 2
+            return 1 << min(count(of), 128) if of is not None else 2  # all that is more than a type may have
     return 2
 
 
@@ -205,6 +207,7 @@ class Ranges:
         self.types: dict[str, Range] = {}
         self.places: dict[str, Place] = {}
         self._found: dict[int, Range] = {}
+        self._steps = 0
         state: State = {}
         for variable in model.declared:
             state = self.assign(variable.name, self.node(variable.value, state), variable.place, state)
@@ -221,6 +224,9 @@ class Ranges:
         for statement in statements:
             if state is None:
                 return None
+            self._steps += 1
+            if self._steps > STEPS:
+                bad(f"loops take more than {STEPS} steps until it is known how far their variables go", "take fewer turns", statement.place)
             state = self.statement(statement, state)
         return state
 
@@ -296,8 +302,12 @@ class Ranges:
         """The state after a loop, turn by turn until a turn brings nothing new."""
         after: State | None = None
         seen: list[State] = []
+        equal = set[frozenset[tuple[str, Range]]]()
         before: State | None = state
-        while before is not None and len(seen) <= self.turns and not any(_within(before, old) for old in seen):
+        while before is not None and len(seen) <= self.turns and not any(_within(before, old) for old in reversed(seen[-LATEST:])):
+            if (key := frozenset(before.items())) in equal:
+                break
+            equal.add(key)
             seen.append(before)
             self.truth(loop.test, before)
             after = self.either(after, self.assume(loop.test, False, before))
@@ -534,4 +544,11 @@ class Ranges:
 
 def _within(a: State, b: State) -> bool:
     """Whether each variable of the second state stays in its range in the first, and has a value there."""
-    return b.keys() <= a.keys() and all(join(a[name], b[name]) == b[name] for name in b)
+    return b.keys() <= a.keys() and all(_covers(b[name], a[name]) for name in b)
+
+
+def _covers(b: Range, a: Range) -> bool:
+    """Whether a range has all of another one."""
+    if isinstance(a, Whole) and isinstance(b, Whole):
+        return b.low <= a.low and a.high <= b.high
+    return join(a, b) == b

@@ -151,7 +151,8 @@ class Expressions:
     def constant(self, value: Value, found: Range, place: Place) -> Text:
         """The text of a constant."""
         if isinstance(value, int) and not -WIDEST <= value < WIDEST:
-            bad(f"{value} is no number of 64 bits", "numbers go from -2^63 to 2^63 - 1", place)
+            shown = value if value.bit_length() < 1000 else "this"
+            bad(f"{shown} is no number of 64 bits", "numbers go from -2^63 to 2^63 - 1", place)
         return literal(value, found)
 
     def number(self, node: Expr) -> Text:

@@ -12,8 +12,9 @@ from typing import Annotated, Any, get_args, get_origin
 
 from . import declare
 from .assign import Assigner, flat
+from .errors import BadModel
 from .evaluate import NEITHER, Binding, Scope
-from .source import Source
+from .source import LAMBDA, Source
 from .symbols import Known, Row, Scalar, Slots, Symbol, shape_of
 from .tree import Assign, Draw, Expr, If, Literal, Node, Observe, Statement, While
 
@@ -77,6 +78,7 @@ class Unfolder(Assigner):
         then()
 
     def _statement(self, node: ast.stmt) -> None:
+        self.current = node
         match node:
             case ast.Pass():
                 pass
@@ -124,8 +126,9 @@ class Unfolder(Assigner):
         function = self.scope.source.called(node.func) if isinstance(node, ast.Call) else None
         if not isinstance(node, ast.Call) or not isinstance(function, FunctionType) or _is_own(function) or self.constant(node) is not NEITHER:
             return consume(self.evaluate(node), node)
-        if (last := _only_return(Source(function))) is not None:
-            return consume(self._returned(Source(function), node, *self._given(node), partial(self.evaluate, last)), node)
+        source = self.source_of(function, node)
+        if (last := _only_return(source)) is not None:
+            return consume(self._returned(source, node, *self._given(node), partial(self.evaluate, last)), node)
         scope = self.scope
 
         def consumed(symbol: Symbol, at: ast.AST) -> None:
@@ -208,12 +211,12 @@ class Unfolder(Assigner):
             self.bad("a hidden branch only assigns", "a loop's guard is seen: write for over a constant range", node)
         stored = _stored([node])
         before = {n: b for n, b in self.scope.names.items() if n not in stored or self._has_variables(b, n)}
-        versions, assigned, place = dict(self.versions), self.assigned, self.place(node)
+        versions, assigned, place, length = dict(self.versions), self.assigned, self.place(node), self.length
         self.assigned = set()
         self.scope.names = dict(before)
         with self.captured():
             self.run(node.body, lambda: None)
-        changed, self.versions = self.assigned, versions
+        changed, self.versions, self.length = self.assigned, versions, length
         self.assigned = assigned | changed
         self.changed(sorted(changed))
         ends = {n: b for n, b in self.scope.names.items() if n in stored and self._has_variables(b, n)}
@@ -240,6 +243,7 @@ class Unfolder(Assigner):
             then()
         else:
             for item in items:
+                self.turn(node)
                 self.bind(node.target, item)
                 self._turn(node.body, _Loop(None, lambda: None), lambda: None)
             self.run(node.orelse, then)
@@ -263,6 +267,7 @@ class Unfolder(Assigner):
         """The turns from one on, each in the branches of the one before that don't leave the loop."""
         if i == len(items):
             return self.run(node.orelse, then)
+        self.turn(node)
         self.bind(node.target, items[i])
         following = self._outside(outer, lambda: self._turns(node, items, i + 1, then, outer))
         self._turn(node.body, _Loop(self._outside(outer, then), following), following)
@@ -331,7 +336,7 @@ class Unfolder(Assigner):
 
     def call(self, function: FunctionType, node: ast.Call, arguments: Sequence[Symbol], named: Mapping[str, Symbol]) -> Symbol:
         """The value of a call inside an expression: of a function that only returns, its expression; else a variable that each return assigns."""
-        source = Source(function)
+        source = self.source_of(function, node)
         last = _only_return(source)
         if last is not None and len(body_of(source)) == 1:
             return self._returned(source, node, arguments, named, partial(self.evaluate, last))
@@ -364,7 +369,7 @@ class Unfolder(Assigner):
 
     def inline(self, function: FunctionType, node: ast.Call, arguments: Sequence[Symbol], named: Mapping[str, Symbol], consume: Return) -> None:
         """A call, whose value is consumed at each return."""
-        source = Source(function)
+        source = self.source_of(function, node)
 
         def whole() -> None:
             before, loop = self.on_return, self.loop
@@ -373,6 +378,15 @@ class Unfolder(Assigner):
             self.on_return, self.loop = before, loop
 
         self._inside(source, node, arguments, named, whole)
+
+    def source_of(self, function: FunctionType, node: ast.AST) -> Source:
+        """The source of a function that is called there. Refuses a lambda, and what has none."""
+        if function.__name__ == LAMBDA:
+            self.bad("a lambda can't be called here", "write it by def", node)
+        try:
+            return Source(function)
+        except BadModel as cause:
+            raise type(cause)(cause.reason, cause.form, cause.place.called_from(self.place(node))) from None
 
     def _end(self, source: Source) -> None:
         assert self.on_return is not None

@@ -13,12 +13,11 @@ from .evaluate import bad
 from .ranges import Range, Ranges, Truth, Whole, count, join, least
 from .texts import Expressions, Text, cond, distribution_text, infix, literal, type_text, whole
 from .tree import Assign, Choose, Expr, Fixed, Flip, If, Lookup, Node, Observe, Statement, Store, Uniform, UniformRange, Variable, While, variables
-from .assign import RESERVED
-from .parameters import Unfolded
+from .assign import FEWER, RESERVED
+from .parameters import VARIABLES, Unfolded
 
 __all__ = ["Translation", "write"]
 
-VARIABLES = 32  # with the secrets once more, since they are asked about as they were
 BRACKETS = 64  # open at once
 STORES = 1 << 63  # of all variables together
 
@@ -28,11 +27,13 @@ class Translation:
     """The text of a model in the language, and where each of its lines comes from.
 
     ``lines`` has a place for each line of the text, and ``statements`` one for each top-level statement, as ``blame`` and ``quiet`` count them.
+    ``call`` is, of a program's translation, the model with its public inputs, ``early(tries=3)``, and its name alone where it has none.
     """
 
     text: str
     lines: tuple[Place, ...]
     statements: tuple[Place, ...]
+    call: str = ""
 
     def place(self, line: int) -> Place:
         """Where a line of the text comes from, counted from 1. Raises ``IndexError`` where there is no such line."""
@@ -337,7 +338,7 @@ class _Writer:
         if len(names) + len(secrets) > VARIABLES:
             name = names[max(VARIABLES - len(secrets), 0)]
             reason = f"{name} is one variable too many: {len(names)}, and {len(secrets)} secrets once more, where {VARIABLES} are allowed"
-            bad(reason, "use one name for several things in turn, or keep small numbers together in a tuple", self.declared[name][1])
+            bad(reason, FEWER, self.declared[name][1])
         if prod(count(self.types[name]) for name in [*names, *secrets]) > STORES:
             bad("all variables together have more than 2^63 values", "give them smaller ranges, as x: range(6) = 0", self.declared[names[-1]][1])
 

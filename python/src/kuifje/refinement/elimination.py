@@ -6,8 +6,7 @@ import heapq
 from collections.abc import Sequence
 from fractions import Fraction
 
-from .problem import Deadline, Problem
-from .proofs import Undecided
+from .problem import Deadline, Problem, Undecided, in_time
 
 __all__ = ["solution"]
 
@@ -21,11 +20,13 @@ class _System:
     solved for another, and ``solved`` which equation was solved for which unknown, in order.
     """
 
-    def __init__(self, problem: Problem, places: Sequence[tuple[int, int]]) -> None:
+    def __init__(self, problem: Problem, places: Sequence[tuple[int, int]], deadline: Deadline) -> None:
+        self._deadline, self._late = deadline, f"an exact solution for {len(places)} entries takes too long"
         self.equations: list[tuple[dict[int, Fraction], Fraction]] = []
         columns: list[dict[int, dict[int, Fraction]]] = [{c: {} for c in inner} for inner in problem.b]
         rows: list[dict[int, Fraction]] = [{} for _ in problem.a]
         for u, (i, j) in enumerate(places):
+            in_time(deadline, self._late)
             rows[i][u] = Fraction(1)
             for c, weight in problem.a[i].items():
                 columns[j].setdefault(c, {})[u] = Fraction(weight)
@@ -38,7 +39,7 @@ class _System:
                 self.uses[u].add(e)
         self.solved: list[tuple[int, int]] = []
 
-    def eliminate(self, deadline: Deadline) -> None:
+    def eliminate(self) -> None:
         """Solves one equation after the other for an unknown, the shortest first. Raises ``Undecided`` where that can't be done in time or bits."""
         waiting = [(len(terms), e) for e, (terms, _) in enumerate(self.equations)]
         heapq.heapify(waiting)
@@ -48,8 +49,6 @@ class _System:
             terms, value = self.equations[e]
             if e in done or length != len(terms):
                 continue
-            if deadline.passed:
-                raise Undecided(f"an exact solution for {len(self.uses)} entries takes too long")
             if terms:
                 done.add(e)
                 for o in self._solve(e):
@@ -71,6 +70,7 @@ class _System:
 
     def _subtract(self, o: int, u: int, e: int) -> None:
         """Takes so much of the equation e from the equation o that the unknown u is gone there."""
+        in_time(self._deadline, self._late)
         terms, value = self.equations[e]
         changed, to = self.equations[o]
         times = changed[u] / terms[u]
@@ -91,6 +91,7 @@ class _System:
         """The unknowns, those that nothing determines being 0."""
         found = [Fraction(0)] * len(self.uses)
         for u, e in reversed(self.solved):
+            in_time(self._deadline, self._late)
             terms, value = self.equations[e]
             found[u] = (value - sum(q * found[v] for v, q in terms.items() if v != u)) / terms[u]
         return found
@@ -101,6 +102,6 @@ def solution(problem: Problem, places: Sequence[tuple[int, int]], deadline: Dead
 
     Raises ``Undecided`` where there are none, or they take too long to work out.
     """
-    system = _System(problem, places)
-    system.eliminate(deadline)
+    system = _System(problem, places, deadline)
+    system.eliminate()
     return dict(zip(places, system.values()))

@@ -8,8 +8,8 @@ from math import gcd, lcm
 
 from ..values import Value
 from .elimination import solution
-from .problem import Deadline, Problem, Weights
-from .proofs import Gains, Proof, Undecided, by_matrix, by_table
+from .problem import Deadline, Problem, Weights, in_time
+from .proofs import Gains, Proof, by_matrix, by_table
 
 __all__ = ["Functional", "another_prior", "equal_inners", "neighbours", "peeling", "tries", "whole_gains"]
 
@@ -34,7 +34,7 @@ def another_prior(problem: Problem, deadline: Deadline) -> Proof | None:
             for value, weight in inner.items():
                 more[value] = more.get(value, 0) + sign * weight
     likelier = next((value for value, weight in more.items() if weight > 0), None)
-    return None if likelier is None else by_table(problem, [{likelier: 1}])
+    return None if likelier is None else by_table(problem, [{likelier: 1}], deadline)
 
 
 def equal_inners(problem: Problem, deadline: Deadline) -> Proof | None:
@@ -47,7 +47,7 @@ def equal_inners(problem: Problem, deadline: Deadline) -> Proof | None:
         if not (equal := places.get(frozenset(inner.items()))):
             return None
         entries[equal.pop(), j] = Fraction(1)
-    return by_matrix(problem, entries) if problem.m == problem.n else None
+    return by_matrix(problem, entries, deadline) if problem.m == problem.n else None
 
 
 class _Peeling:
@@ -58,14 +58,14 @@ class _Peeling:
     the entry of that row. ``remaining`` is what B has of each value beyond what known rows give.
     """
 
-    def __init__(self, problem: Problem) -> None:
-        self.problem = problem
+    def __init__(self, problem: Problem, deadline: Deadline) -> None:
+        self.problem, self.deadline = problem, deadline
         self.rows: dict[int, Functional] = {}
         self.functionals: dict[int, Functional] = {}
         self.open = [set(row) for row in problem.rows_a]
         self.remaining = [{j: Fraction(weight) for j, weight in row.items()} for row in problem.rows_b]
 
-    def separating(self, deadline: Deadline) -> Functional | None:
+    def separating(self) -> Functional | None:
         """Goes on as long as a value fixes a row; gives a functional that is nowhere above 0 in A and somewhere in B, if one comes up.
 
         Raises ``Undecided`` where that takes too long.
@@ -73,8 +73,7 @@ class _Peeling:
         ready = [c for c, inners in enumerate(self.open) if len(inners) <= 1]
         seen = set(ready)
         while ready:
-            if deadline.passed:
-                raise Undecided(f"{len(self.rows):,} of {self.problem.m:,} rows in time")
+            self._in_time()
             c = ready.pop()
             functional = self._of_value(c)
             if not self.open[c]:
@@ -93,10 +92,14 @@ class _Peeling:
             ready += fixing
         return None
 
+    def _in_time(self) -> None:
+        in_time(self.deadline, f"{len(self.rows):,} of {self.problem.m:,} rows in time")
+
     def _of_value(self, c: int) -> Functional:
         """The functional that has at an inner the value's weight there, without those of the inners whose rows are known."""
         found = {c: Fraction(1)}
         for i, weight in self.problem.rows_a[c].items():
+            self._in_time()
             for d, q in self.functionals.get(i, {}).items():
                 found[d] = found.get(d, Fraction(0)) - weight * q
         return found
@@ -104,6 +107,7 @@ class _Peeling:
     def _subtract(self, i: int) -> None:
         """Takes a known row's inner away from all its values."""
         for c, weight in self.problem.a[i].items():
+            self._in_time()
             self.open[c].discard(i)
             remaining = self.remaining[c]
             for j, q in self.rows[i].items():
@@ -115,19 +119,20 @@ def peeling(problem: Problem, deadline: Deadline) -> Proof | None:
 
     It decides every A that shows a function of the target.
     """
-    found = _Peeling(problem)
-    functional = found.separating(deadline)
+    found = _Peeling(problem, deadline)
+    functional = found.separating()
     if functional is not None:
-        return by_table(problem, [whole_gains(problem, functional), {}])
+        return by_table(problem, [whole_gains(problem, functional), {}], deadline)
     if len(found.rows) < problem.m:
         return None
-    return by_matrix(problem, {(i, j): q for i, row in found.rows.items() for j, q in row.items()}, only=True)
+    return by_matrix(problem, {(i, j): q for i, row in found.rows.items() for j, q in row.items()}, deadline, only=True)
 
 
-def _sums_of_greatest(inners: Sequence[dict[Value, int]], length: int) -> list[int]:
+def _sums_of_greatest(inners: Sequence[dict[Value, int]], length: int, deadline: Deadline) -> list[int]:
     """For each number of tries the probability, times the scale, that these guess the value."""
     found = [0] * length
     for inner in inners:
+        in_time(deadline)
         for rank, weight in enumerate(sorted(inner.values(), reverse=True)):
             found[rank] += weight
     for rank in range(1, length):
@@ -141,13 +146,16 @@ def tries(problem: Problem, deadline: Deadline) -> Proof | None:
     Guessing until it is right is a sum over all numbers of tries, so that it separates only where one of these does.
     """
     length = max(map(len, problem.joint_a + problem.joint_b))
-    sums = zip(_sums_of_greatest(problem.joint_a, length), _sums_of_greatest(problem.joint_b, length))
+    sums = zip(*(_sums_of_greatest(inners, length, deadline) for inners in (problem.joint_a, problem.joint_b)))
     count = next((rank + 1 for rank, (of_a, of_b) in enumerate(sums) if of_b > of_a), None)
     if count is None:
         return None
-    likeliest = [sorted(inner, key=lambda value: -inner[value])[:count] for inner in problem.joint_b]
-    actions = {frozenset(guesses): dict.fromkeys(guesses, 1) for guesses in likeliest}
-    return by_table(problem, list(actions.values()), "bayes" if count == 1 else f"tries:{count}")
+    actions: dict[frozenset[Value], Gains] = {}
+    for inner in problem.joint_b:
+        in_time(deadline)
+        guesses = sorted(inner, key=lambda value: -inner[value])[:count]
+        actions[frozenset(guesses)] = dict.fromkeys(guesses, 1)
+    return by_table(problem, list(actions.values()), deadline, "bayes" if count == 1 else f"tries:{count}")
 
 
 def neighbours(problem: Problem, deadline: Deadline) -> Proof | None:
@@ -161,7 +169,8 @@ def neighbours(problem: Problem, deadline: Deadline) -> Proof | None:
     inners = sorted((ratio(inner), j) for j, inner in enumerate(problem.b))
     places = set()
     for i, inner in enumerate(problem.a):
+        in_time(deadline)
         own = ratio(inner)
         below, above = [j for q, j in inners if q <= own], [j for q, j in inners if q >= own]
         places |= {(i, j) for j in below[-1:] + above[:1]}
-    return by_matrix(problem, solution(problem, sorted(places), deadline))
+    return by_matrix(problem, solution(problem, sorted(places), deadline), deadline)

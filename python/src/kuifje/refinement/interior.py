@@ -12,26 +12,27 @@ them: so a step of Mehrotra's predictor and corrector (1992), with Gondzio's cor
 
 from __future__ import annotations
 
-from collections.abc import Iterable
+from collections.abc import Iterable, Iterator
 from typing import NamedTuple
 
 import numpy as np
 from numpy.typing import NDArray
 from scipy.linalg import LinAlgError, cho_factor, cho_solve
 
-from .numeric import Floats
-from .problem import Deadline, Problem
-from .proofs import Undecided
+from .numeric import SAMPLE, Floats, affords
+from .problem import Deadline, Problem, Undecided
 
 __all__ = ["Middle", "middle_of"]
 
 STEPS = 60
+NUMBERS = 40_000_000  # of an array, at most
 START = 1e-4  # what all of U and V have at first beyond what is over where what B shows is independent of what A does
 SEPARATES = 1e-7  # a table that separates by less doesn't end the search
 ENOUGH = 0.2  # of what is left over; a table that separates by so much of it does
 EXACT = 1e-11  # what may be left over for each equation at the end
 BARRIER = 1e-13  # the mean product of a variable and its dual, at the end
 BLOCK = 256  # rows of a product at once: half as long as all at once takes, where the library doesn't divide products itself
+PART = 2_000_000  # numbers of a product of several matrices
 SPARSE = 0.5  # a share of all places below which each column is taken by itself
 NEGLIGIBLE = 1e-10  # of the normal equations' diagonal: what a place adds below that is left out
 CORRECTIONS = 3  # of a step, at most
@@ -78,7 +79,8 @@ class _Move(NamedTuple):
 class _Method:
     """The variables X, U and V of the program (``primal``), the slacks of its dual (``dual``), and the dual's y and z."""
 
-    def __init__(self, problem: Problem, allowed: Mask) -> None:
+    def __init__(self, problem: Problem, allowed: Mask, deadline: Deadline) -> None:
+        self.deadline, self.turn, self.over = deadline, 0, float("inf")
         self.a, self.b, _ = problem.floats
         self.k, self.m, self.n = problem.k, problem.m, problem.n
         self.beta = self.b.sum(axis=0)
@@ -94,6 +96,18 @@ class _Method:
         self.y, self.z = np.zeros((self.n, self.k)), np.zeros(self.m)
         self.count = self.on.sum() + 2 * self.n * self.k
         self.best: tuple[float, Floats] = (-np.inf, np.zeros((self.k, self.n)))
+
+    def in_time(self) -> None:
+        """Raises ``Undecided`` once the deadline is passed: a step has parts that take long."""
+        if self.deadline.passed:
+            raise Undecided(f"{self.turn} steps of the interior point method leave {self.over:.0e} over")
+
+    def parts(self) -> Iterator[slice]:
+        """The inners of B in parts for which a product doesn't take long."""
+        length = max(1, PART // (self.k * self.m))
+        for start in range(0, self.n, length):
+            self.in_time()
+            yield slice(start, start + length)
 
     def residuals(self) -> None:
         """What is left of the equations of the program and of its dual, the mean product of both, and the table that y is."""
@@ -122,15 +136,19 @@ class _Method:
         """The normal equations in factors, something being added to their diagonals. Raises ``LinAlgError`` where they have none."""
         of_x, of_u, of_v = theta = _three(variable / slack for variable, slack in zip(self.primal, self.dual))
         diagonal = np.arange(self.k)
-        small = np.matmul(self.p[None] * of_x[:, None, :], self.p.T)
+        small = np.concatenate([np.matmul(self.p[None] * of_x[part, None, :], self.p.T) for part in self.parts()])
         small[:, diagonal, diagonal] += of_u + of_v
         small[:, diagonal, diagonal] += damping[0] * np.trace(small, axis1=1, axis2=2)[:, None] / self.k
         lower = np.linalg.inv(np.linalg.cholesky(small))
+        self.in_time()
         weighted = of_x * self.w
-        ties = np.matmul(lower, self.p[None] * weighted[:, None, :]).reshape(self.n * self.k, self.m)
+        ties = np.concatenate([np.matmul(lower[part], self.p[None] * weighted[part, None, :]) for part in self.parts()])
+        ties = ties.reshape(self.n * self.k, self.m)
+        self.in_time()
         sizes = self.w * weighted
         whole = np.diag(sizes.sum(axis=0)) - self._squares(ties, sizes > NEGLIGIBLE * sizes.sum(axis=0))
         whole += damping[1] * np.abs(whole.diagonal()).max() * np.eye(self.m)
+        self.in_time()
         return _Factors(theta, lower, ties, cho_factor(whole, check_finite=False))
 
     def _squares(self, ties: Floats, large: Mask) -> Floats:
@@ -138,15 +156,18 @@ class _Method:
         found = np.zeros((self.m, self.m))
         if large.mean() > SPARSE:
             for start in range(0, len(ties), BLOCK):
+                self.in_time()
                 found += ties[start : start + BLOCK].T @ ties[start : start + BLOCK]
         else:
             for part, row in zip(ties.reshape(self.n, self.k, self.m), large):
+                self.in_time()
                 places = row.nonzero()[0]
                 found[np.ix_(places, places)] += part[:, places].T @ part[:, places]
         return found
 
     def direction(self, factors: _Factors, products: Three) -> _Move:
         """The step after which each variable times its slack has come to these products, to first order."""
+        self.in_time()
         theta = factors.theta
         x, u, v = (product / slack - t * rest for product, slack, t, rest in zip(products, self.dual, theta, self.of_dual))
         by_values = np.einsum("jab,jb->ja", factors.lower, self.of_values - x @ self.p.T - u + v)
@@ -219,13 +240,16 @@ def middle_of(problem: Problem, allowed: Mask, deadline: Deadline) -> Middle:
 
     Raises ``Undecided`` where there is neither in time.
     """
-    method = _Method(problem, allowed)
-    for turn in range(STEPS):
+    k, m, n = problem.k, problem.m, problem.n
+    if (numbers := max(n * k * m, m * m)) > NUMBERS:
+        raise Undecided(f"the interior point method would take {numbers:,} numbers at once, and may take {NUMBERS:,}")
+    affords(deadline, lambda: SAMPLE.T @ SAMPLE, n * k * m * (2 * k + m) + m**3 / 3, "a step of the interior point method")
+    method = _Method(problem, allowed, deadline)
+    for method.turn in range(STEPS):
         method.residuals()
         if method.ended:
             break
-        if deadline.passed:
-            raise Undecided(f"{turn} steps of the interior point method leave {method.over:.0e} over")
+        method.in_time()
         if (factors := _damped(method)) is None:
             break
         method.step(factors)

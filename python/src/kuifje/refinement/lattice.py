@@ -9,6 +9,8 @@ from math import gcd, lcm
 import numpy as np
 from numpy.typing import NDArray
 
+from .problem import NEVER, Deadline, in_time
+
 __all__ = ["Lattice", "reduced"]
 
 Vector = list[int]
@@ -26,7 +28,8 @@ class _Reduction:
     Gram and Schmidt, times ``volumes[j + 1]``.
     """
 
-    def __init__(self, rows: Sequence[Vector]) -> None:
+    def __init__(self, rows: Sequence[Vector], deadline: Deadline) -> None:
+        self.deadline = deadline
         self.rows = [list(row) for row in rows]
         self.volumes = [1] * (len(rows) + 1)
         self.shares = [[0] * len(rows) for _ in rows]
@@ -75,6 +78,7 @@ class _Reduction:
         """Reduces all rows."""
         k = 0
         while k < len(self.rows):
+            in_time(self.deadline, "a lattice takes too long")
             if k > self.known:
                 self.learn(k)
             if k > 0:
@@ -88,9 +92,9 @@ class _Reduction:
             k += 1
 
 
-def reduced(rows: Sequence[Vector]) -> list[Vector]:
-    """A basis of short vectors of the lattice that independent rows of whole numbers span."""
-    reduction = _Reduction(rows)
+def reduced(rows: Sequence[Vector], deadline: Deadline = NEVER) -> list[Vector]:
+    """A basis of short vectors of the lattice that independent rows of whole numbers span. Raises ``Undecided`` where that takes too long."""
+    reduction = _Reduction(rows, deadline)
     reduction.run()
     return reduction.rows
 
@@ -114,13 +118,14 @@ def _coordinates(basis: Sequence[Vector], length: int) -> tuple[int, list[Vector
 class Lattice:
     """The whole combinations of some whole vectors.
 
-    ``kernel`` has short combinations that come to nothing, and ``basis`` combinations with what they come to, of which all others are made.
+    ``kernel`` has short combinations that come to nothing, and ``basis`` combinations with what they come to, of which all others are made. Raises
+    ``Undecided`` where that takes too long to find.
     """
 
-    def __init__(self, vectors: Sequence[Vector]) -> None:
+    def __init__(self, vectors: Sequence[Vector], deadline: Deadline = NEVER) -> None:
         count, length = len(vectors), len(vectors[0])
         heavy = max(abs(x) for vector in vectors for x in vector) ** 2 * count * 2**count + 1
-        rows = reduced([[int(i == j) for j in range(count)] + [heavy * x for x in vector] for i, vector in enumerate(vectors)])
+        rows = reduced([[int(i == j) for j in range(count)] + [heavy * x for x in vector] for i, vector in enumerate(vectors)], deadline)
         self.kernel = [row[:count] for row in rows if not any(row[count:])]
         self.basis = [(row[:count], [x // heavy for x in row[count:]]) for row in rows if any(row[count:])]
         self._over, self._times, self._zero = _coordinates([vector for _, vector in self.basis], length)

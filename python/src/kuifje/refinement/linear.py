@@ -10,9 +10,9 @@ import numpy as np
 from scipy.optimize import linprog
 from scipy.sparse import coo_matrix, csr_matrix, hstack
 
-from .numeric import DIGITS, Floats, Place, made_exact
-from .problem import Deadline, Problem
-from .proofs import Proof, Undecided, by_table
+from .numeric import DIGITS, Floats, Place, allowed_places, made_exact
+from .problem import Deadline, Problem, Undecided, in_time
+from .proofs import Proof, by_table
 
 __all__ = ["linear_program", "near_table"]
 
@@ -28,9 +28,9 @@ INFEASIBLE = 2  # a status of `linprog`
 class _Program:
     """The linear program over the places that supports allow, whose unknowns are which share of each inner of B comes from which of A."""
 
-    def __init__(self, problem: Problem) -> None:
+    def __init__(self, problem: Problem, deadline: Deadline) -> None:
         self.problem = problem
-        self.i, self.j = problem.allowed.nonzero()
+        self.i, self.j = allowed_places(problem, deadline).nonzero()
         if (count := sum(len(problem.a[i]) for i in self.i)) > COEFFICIENTS:
             raise Undecided(f"the linear program has {len(self.i):,} unknowns and {count:,} coefficients")
         a, b, _ = problem.floats
@@ -53,6 +53,7 @@ class _Program:
         equations = self._equations(a / self.outer_a, self.share)
         wanted = np.concatenate(((b / self.outer_b).ravel(), np.ones(self.problem.m)))
         present = np.diff(equations.indptr) > 0
+        in_time(deadline)
         if wanted[~present].any():
             return None
         found = linprog(
@@ -78,6 +79,7 @@ class _Program:
         k, n = b.shape
         count = len(self.i)
         equations = self._equations(a, np.ones(count))
+        in_time(deadline)
         over = coo_matrix((np.ones(k * n), (np.arange(k * n), np.arange(k * n))), shape=(equations.shape[0], k * n))
         found = linprog(
             np.concatenate((np.zeros(count), np.ones(2 * k * n))),
@@ -121,27 +123,29 @@ def _commonest(row: Floats) -> float:
     return float(values[counts.argmax()])
 
 
-def near_table(problem: Problem, table: Floats) -> Proof | None:
+def near_table(problem: Problem, table: Floats, deadline: Deadline) -> Proof | None:
     """The proof of a no by a table that is near to floats, for each kept value (row) and inner of B (column), with the fewest digits that separate.
 
     A number that all actions have at a value doesn't count, so the commonest becomes 0.
     """
+    in_time(deadline)
     gains = _lessened(problem, table)
     gains = np.array([row - _commonest(row) for row in gains]) / problem.floats.prior[:, None]
     gains /= np.abs(gains).max()
     for digits in DIGITS:
+        in_time(deadline)
         whole = np.rint(gains * 10**digits).astype(np.int64)
         common = gcd(*map(int, whole.ravel())) or 1
         columns = {tuple(map(int, column)) for column in whole.T}
         actions = [{problem.values[c]: gain // common for c, gain in enumerate(column) if gain} for column in sorted(columns)]
-        if len(actions) > 1 and (proof := by_table(problem, actions)):
+        if len(actions) > 1 and (proof := by_table(problem, actions, deadline)):
             return proof
     return None
 
 
 def _separating(problem: Problem, program: _Program, deadline: Deadline) -> Proof:
     gap, table = program.table(deadline)
-    if gap > GAP and (proof := near_table(problem, table)):
+    if gap > GAP and (proof := near_table(problem, table, deadline)):
         return proof
     raise Undecided(f"floats see neither a matrix nor a table ({gap:.0e} is left over)")
 
@@ -150,6 +154,8 @@ def _exact_corner(problem: Problem, program: _Program, deadline: Deadline) -> Pr
     """A corner of all matrices that can be checked, else one that is exact; none where there is no corner."""
     wide, reason = None, Undecided("no corner was made exact")
     for cost in program.costs(deadline):
+        if deadline.passed:
+            break
         try:
             entries = program.corner(cost, deadline)
             if entries is None:
@@ -168,5 +174,5 @@ def _exact_corner(problem: Problem, program: _Program, deadline: Deadline) -> Pr
 
 def linear_program(problem: Problem, deadline: Deadline) -> Proof | None:
     """A corner of all matrices, made exact, or another one where its numbers are too wide; where there is none, the table that separates most."""
-    program = _Program(problem)
+    program = _Program(problem, deadline)
     return _exact_corner(problem, program, deadline) or _separating(problem, program, deadline)

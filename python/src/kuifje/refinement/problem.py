@@ -7,13 +7,13 @@ rows sum to 1 (the book, chapter 9). Where the weights of several values stand i
 
 from __future__ import annotations
 
-import time
 from collections.abc import Iterable
 from dataclasses import dataclass
 from functools import cached_property
 from math import gcd, lcm
 from typing import TYPE_CHECKING, NamedTuple
 
+from ..deadlines import NEVER, Deadline
 from ..texts import Hyper
 from ..values import Value
 
@@ -24,30 +24,19 @@ if TYPE_CHECKING:
     Floats = NDArray[np.float64]
     Mask = NDArray[np.bool_]
 
-__all__ = ["Approximation", "Deadline", "Problem", "Weights"]
+__all__ = ["NEVER", "Approximation", "Deadline", "Problem", "Undecided", "Weights", "in_time"]
 
 Weights = dict[int, int]
 
 
-class Deadline:
-    """A time by which a search has to end."""
+class Undecided(Exception):
+    """A way ended without a proof, for a reason that is worth saying."""
 
-    def __init__(self, seconds: float) -> None:
-        self._end = time.monotonic() + seconds
 
-    @property
-    def left(self) -> float:
-        """The seconds that are left, at least 0."""
-        return max(0.0, self._end - time.monotonic())
-
-    @property
-    def passed(self) -> bool:
-        """Whether no time is left."""
-        return self.left == 0
-
-    def within(self, seconds: float) -> Deadline:
-        """A deadline in so many seconds, or this one where it is earlier."""
-        return Deadline(min(seconds, self.left))
+def in_time(deadline: Deadline, reason: str = "no time is left") -> None:
+    """Raises ``Undecided`` for this reason once a deadline is passed."""
+    if deadline.passed:
+        raise Undecided(reason)
 
 
 class Approximation(NamedTuple):
@@ -62,10 +51,11 @@ class Approximation(NamedTuple):
     prior: Floats
 
 
-def _joint(hyper: Hyper, scale: int) -> list[dict[Value, int]]:
+def _joint(hyper: Hyper, scale: int, deadline: Deadline) -> list[dict[Value, int]]:
     """For each inner the joint weights of its values, as whole numbers over a scale. Raises ``ValueError`` where they aren't whole."""
     found = []
     for inner in hyper.inners:
+        in_time(deadline)
         outer, over = inner.outer.numerator * scale, inner.outer.denominator
         weights = {}
         for value, p in inner.distribution.items():
@@ -104,10 +94,13 @@ class Problem:
     rows_b: list[Weights]
 
     @classmethod
-    def of(cls, a: Hyper, b: Hyper) -> Problem:
-        """The problem of two hypers about one target. Raises ``ValueError`` where a weight isn't whole over its hyper's scale."""
+    def of(cls, a: Hyper, b: Hyper, deadline: Deadline = NEVER) -> Problem:
+        """The problem of two hypers about one target.
+
+        Raises ``ValueError`` where a weight isn't whole over its hyper's scale, and ``Undecided`` where it isn't there in time.
+        """
         scale = lcm(a.scale, b.scale)
-        joint_a, joint_b = _joint(a, scale), _joint(b, scale)
+        joint_a, joint_b = _joint(a, scale, deadline), _joint(b, scale, deadline)
         by_value: dict[Value, tuple[Weights, Weights]] = {}
         for side, inners in enumerate((joint_a, joint_b)):
             for number, inner in enumerate(inners):
@@ -115,6 +108,7 @@ class Problem:
                     by_value.setdefault(value, ({}, {}))[side][number] = weight
         kept: dict[tuple[tuple[tuple[int, int], ...], ...], tuple[Value, int]] = {}
         for value, sides in by_value.items():
+            in_time(deadline)
             unit = gcd(*sides[0].values(), *sides[1].values())
             key = tuple(tuple((i, weight // unit) for i, weight in side.items()) for side in sides)
             kept.setdefault(key, (value, unit))

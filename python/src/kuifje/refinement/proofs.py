@@ -14,7 +14,7 @@ from math import lcm
 from ..program import Certificate
 from ..texts import Action, GainTable
 from ..values import Value
-from .problem import Problem
+from .problem import Deadline, Problem, Undecided, in_time
 
 __all__ = ["Entries", "Gains", "Proof", "Undecided", "by_matrix", "by_table"]
 
@@ -25,10 +25,6 @@ GREATEST = 2**127 - 1  # no number that `check` works with may pass this
 LENGTH = 1_048_576  # bytes of a certificate, at most
 SHORTEST = 9  # bytes that an entry of a table takes at least, with its quotes, brackets and commas: ["0","1"],
 FEW = 60  # a table of more actions is left as it is
-
-
-class Undecided(Exception):
-    """A way ended without a proof, for a reason that is worth saying."""
 
 
 @dataclass(frozen=True)
@@ -62,13 +58,14 @@ def _row_sums(problem: Problem, entries: Entries) -> list[Fraction]:
     return rows
 
 
-def _carried(problem: Problem, entries: Entries) -> int | None:
+def _carried(problem: Problem, entries: Entries, deadline: Deadline) -> int | None:
     """The least common denominator of a matrix's entries; none where it doesn't carry A to B."""
     if any(entry < 0 for entry in entries.values()) or any(row != 1 for row in _row_sums(problem, entries)):
         return None
     over = lcm(*{entry.denominator for entry in entries.values()})
     reached: list[dict[int, int]] = [{} for _ in range(problem.n)]
     for (i, j), entry in entries.items():
+        in_time(deadline)
         times, column = entry.numerator * (over // entry.denominator), reached[j]
         for c, weight in problem.a[i].items():
             column[c] = column.get(c, 0) + weight * times
@@ -76,13 +73,13 @@ def _carried(problem: Problem, entries: Entries) -> int | None:
     return over if all(column == inner for column, inner in zip(reached, wanted)) else None
 
 
-def by_matrix(problem: Problem, entries: Entries, *, only: bool = False) -> Proof | None:
+def by_matrix(problem: Problem, entries: Entries, deadline: Deadline, *, only: bool = False) -> Proof | None:
     """The proof of a yes by a matrix, whose entries that aren't named are 0; none where it doesn't carry A to B.
 
-    ``only`` says that no other matrix does.
+    ``only`` says that no other matrix does. Raises ``Undecided`` where that isn't known in time.
     """
     entries = {place: entry for place, entry in entries.items() if entry}
-    over = _carried(problem, entries)
+    over = _carried(problem, entries, deadline)
     if over is None:
         return None
     certificate = Certificate.of_matrix(problem.m, problem.n, entries)
@@ -92,7 +89,7 @@ def by_matrix(problem: Problem, entries: Entries, *, only: bool = False) -> Proo
     return Proof(certificate, obstacle, only)
 
 
-def _scores(inners: Sequence[Mapping[Value, int]], actions: Sequence[Gains]) -> list[dict[int, int]]:
+def _scores(inners: Sequence[Mapping[Value, int]], actions: Sequence[Gains], deadline: Deadline) -> list[dict[int, int]]:
     """For each inner what each action comes to there, times the scale; an action that isn't named comes to 0."""
     gains: dict[Value, list[tuple[int, int]]] = {}
     for k, action in enumerate(actions):
@@ -100,6 +97,7 @@ def _scores(inners: Sequence[Mapping[Value, int]], actions: Sequence[Gains]) -> 
             gains.setdefault(value, []).append((k, gain))
     found = []
     for inner in inners:
+        in_time(deadline)
         scores: dict[int, int] = {}
         for value, weight in inner.items():
             for k, gain in gains.get(value, ()):
@@ -117,28 +115,30 @@ def _worth(scores: Sequence[Mapping[int, int]], chosen: Collection[int]) -> int:
     return total
 
 
-def _needed(of_a: Sequence[Mapping[int, int]], of_b: Sequence[Mapping[int, int]], actions: Sequence[Gains]) -> list[int]:
-    """Actions that still separate once those are dropped, one by one, that aren't needed: those with most entries first."""
+def _needed(of_a: Sequence[Mapping[int, int]], of_b: Sequence[Mapping[int, int]], actions: Sequence[Gains], deadline: Deadline) -> list[int]:
+    """Actions that still separate once those are dropped, one by one, that aren't needed: those with most entries first, as long as there is time."""
     kept = set(range(len(actions)))
     for k in sorted(kept, key=lambda k: -len(actions[k])) if 2 < len(actions) <= FEW else ():
         fewer = kept - {k}
+        if deadline.passed:
+            break
         if fewer and _worth(of_a, fewer) < _worth(of_b, fewer):
             kept = fewer
     return sorted(kept)
 
 
-def by_table(problem: Problem, actions: Sequence[Gains], name: str | None = None) -> Proof | None:
+def by_table(problem: Problem, actions: Sequence[Gains], deadline: Deadline, name: str | None = None) -> Proof | None:
     """The proof of a no by a gain table, whose actions gain 0 at values that they don't name; none where it doesn't separate.
 
-    Actions that aren't needed are left out, where there are few. Raises ``Undecided`` where there are far too many.
+    Actions that aren't needed are left out, where there are few. Raises ``Undecided`` where there are far too many, or it isn't known in time.
     """
     if (count := sum(map(len, actions))) * SHORTEST > LENGTH:
         raise Undecided(f"a table has {count:,} entries, too many for a certificate")
-    of_a, of_b = _scores(problem.joint_a, actions), _scores(problem.joint_b, actions)
+    of_a, of_b = _scores(problem.joint_a, actions, deadline), _scores(problem.joint_b, actions, deadline)
     every = range(len(actions))
     if _worth(of_a, every) >= _worth(of_b, every):
         return None
-    kept = _needed(of_a, of_b, actions)
+    kept = _needed(of_a, of_b, actions, deadline)
     worth = Fraction(_worth(of_a, kept), problem.scale), Fraction(_worth(of_b, kept), problem.scale)
     chosen = [actions[k] for k in kept]
     certificate = Certificate.of_table(GainTable(1, 0, tuple(Action(f"b{k}", gains) for k, gains in enumerate(chosen))))

@@ -18,9 +18,9 @@ import numpy as np
 from .interior import Mask, Middle, middle_of
 from .lattice import Lattice
 from .linear import near_table
-from .numeric import Floats, Place
-from .problem import Deadline, Problem
-from .proofs import GREATEST, Proof, Undecided, by_matrix
+from .numeric import Floats, Place, allowed_places
+from .problem import Deadline, Problem, Undecided, in_time
+from .proofs import GREATEST, Proof, by_matrix
 
 __all__ = ["mended_middle"]
 
@@ -77,7 +77,7 @@ def _middle(problem: Problem, deadline: Deadline) -> Middle:
 
     Where there are very many places, fewer are tried first, as if what B shows were independent of what A does.
     """
-    allowed = problem.allowed
+    allowed = allowed_places(problem, deadline)
     alike = allowed * problem.floats.b.sum(axis=0)
     if allowed.sum() > VERY_MANY and (middle := _middle_of_fewer(problem, alike, allowed, deadline.within(deadline.left / 2))):
         return middle
@@ -114,7 +114,7 @@ class _Mending:
             if deadline.passed:
                 raise Undecided(f"{len(self.lattices)} lattices in time")
             menders = most[:size]
-            lattice = Lattice([self.of_a[i] for i in menders])
+            lattice = Lattice([self.of_a[i] for i in menders], deadline)
             made = frozenset(i for i, vector in enumerate(self.of_a) if lattice.denominator(vector) == 1)
             if made.issuperset(rows):
                 self.lattices.append((menders, lattice, made))
@@ -123,11 +123,15 @@ class _Mending:
             raise Undecided(f"the inner {j} of B isn't a combination of the {len(rows)} inners that may give to it")
         return _Column(rows, menders, lattice)
 
-    def over_denominator(self, over: int) -> dict[Place, Fraction] | None:
-        """The mended matrix over a denominator; none where a mender would have to give less than nothing, or more than it has."""
+    def over_denominator(self, over: int, deadline: Deadline) -> dict[Place, Fraction] | None:
+        """The mended matrix over a denominator; none where a mender would have to give less than nothing, or more than it has.
+
+        Raises ``Undecided`` where it isn't there in time.
+        """
         left, owed = [over] * self.problem.m, [0] * self.problem.m
         parts: dict[Place, int] = {}
         for j, column in self.columns.items():
+            in_time(deadline, "no denominator serves in time")
             given = self._given(j, column, over, left, owed)
             if given is None:
                 return None
@@ -160,14 +164,14 @@ def mended_middle(problem: Problem, deadline: Deadline) -> Proof | None:
         raise Undecided(f"{problem.k} kept values, and a matrix is mended of up to {MOST}")
     middle = _middle(problem, deadline)
     if middle.gap > GAP:
-        return near_table(problem, middle.table)
+        return near_table(problem, middle.table, deadline)
     if not middle.over <= OVER:  # it may be no number
         raise Undecided(f"the interior point method leaves {middle.over:.0e} over")
     mending = _Mending(problem, np.where(middle.above, middle.matrix, 0.0), deadline)
     over = mending.over
     while over * problem.scales[0] <= GREATEST and not deadline.passed:
-        if entries := mending.over_denominator(over):
-            return by_matrix(problem, entries)
+        if entries := mending.over_denominator(over, deadline):
+            return by_matrix(problem, entries, deadline)
         over <<= 4
     if deadline.passed:
         raise Undecided("no denominator serves in time")

@@ -1,0 +1,278 @@
+"""The search for repairs, and the judgement of each: the search isn't trusted, the judgement is the proved program's."""
+
+from __future__ import annotations
+
+from collections.abc import Callable, Iterable, Sequence
+from dataclasses import dataclass, replace
+from difflib import unified_diff
+from fractions import Fraction
+
+from ..arguments import seconds as bound_of
+from ..deadlines import Deadline
+from ..errors import KuifjeError, OutOfTime, Refusal
+from ..measures import posterior_vulnerability
+from ..program import Certificate, Program
+from ..refinement import decide
+from ..source import Observe, While, every
+from ..texts import Hyper
+from .purposes import Floor, Keep, Marked, floor_of, marked, quietly, same
+from .structure import Change, Even, Uncovered, compounds, parents
+
+__all__ = ["Repair", "Repairs", "repair"]
+
+CHANGES = ("structure", "drop", "hide")
+
+
+@dataclass(frozen=True)
+class Repair:
+    """A changed program that was judged: it does the same, still shows what the program is for, and leaks no more.
+
+    ``certificate`` proves that the changed program refines the first one; ``kinds`` are the kinds of its changes, and ``lines`` those of the
+    first text that they are in; ``needed`` has for each change that
+    can be undone alone, by its line and column in the first text, the posterior Bayes vulnerability where it is undone.
+    """
+
+    program: Program
+    diff: str
+    hyper: Hyper
+    certificate: Certificate | None
+    at_floor: bool
+    kinds: tuple[str, ...]
+    lines: tuple[int, ...]
+    needed: dict[tuple[int, int], Fraction]
+
+
+@dataclass(frozen=True)
+class Repairs:
+    """What a program leaks, its floor, the repairs that were found, and what wasn't changed, by its line, with the reason.
+
+    Repairs that change the structure alone come first. No other is called the best: it shows less, or hides what was published.
+    """
+
+    floor: Floor
+    found: tuple[Repair, ...]
+    uncovered: tuple[tuple[int, str], ...]
+
+    @property
+    def best(self) -> Repair | None:
+        """The repair that changes the structure alone, where one was found."""
+        return next((one for one in self.found if one.kinds == ("structure",)), None)
+
+
+class _Search:
+    """One program's search: judged changes are kept, so that none is asked twice."""
+
+    def __init__(self, about_it: Marked) -> None:
+        self.about = about_it
+        self.floor = floor_of(about_it)
+        self.judged: dict[Change, tuple[str, Hyper, Certificate | None] | None] = {}
+        self.uncovered: dict[int, str] = {}
+        self.refused: dict[int, str] = {}
+        self.inner = parents(about_it.source.statements)
+        self.turns = {one.at: self._turns(one) for one in compounds(about_it.source.statements) if isinstance(one, While)}
+
+    def _turns(self, loop: While) -> int:
+        """The greatest number of turns that a loop takes, as the proved program says of a text that counts them."""
+        turn, most = self.about.counters
+        body = loop.body[0].at if loop.body else loop.end - 1
+        edits = [(loop.at, loop.at, f"{turn} := 0; "), (body, body, f"{turn} := {turn} + 1; {most} := max({most}, {turn}); ")]
+        return self.about.most(most, edits)
+
+    # ---- judgement
+
+    def judge(self, change: Change) -> tuple[str, Hyper, Certificate | None] | None:
+        """The changed text with its hyper and certificate, where the proved program says that it does the same, shows the same and leaks no more."""
+        if change not in self.judged:
+            self.judged[change] = self._judge(change)
+        return self.judged[change]
+
+    def _judge(self, change: Change) -> tuple[str, Hyper, Certificate | None] | None:
+        for with_met in (False, True):
+            try:
+                watched, text = (Even(self.about, change, self.turns).text(marks, with_met) for marks in (True, False))
+                found = self._judged(watched, text)
+            except OutOfTime:
+                raise
+            except KuifjeError as cause:
+                why = (
+                    f"a program changed here is refused: {cause.kind}"
+                    if isinstance(cause, Refusal)
+                    else "a program changed here is too large to judge"
+                )
+                self.refused |= {at: why for at in change.even if at not in self.refused}
+                return None
+            if found is not None:
+                return found
+        return None
+
+    def _judged(self, watched: str, text: str) -> tuple[str, Hyper, Certificate | None] | None:
+        if not self.about.is_told(watched) or self.about.joint(watched) != self.about.distributed:
+            return None
+        program = self.about.like(text)
+        hyper = program.hyper(self.about.left)
+        if not same(hyper, self.about.like(watched).hyper(self.about.left)):
+            return None
+        decision = decide(self.about.program, program, seconds=min(10.0, self.about.left))
+        return (text, hyper, decision.certificate) if decision.refines else None
+
+    # ---- changes
+
+    def can_be_even(self, wished: Change) -> frozenset[int]:
+        """The conditionals and loops that can be made even once this is changed, each with all that stands in it."""
+        found: set[int] = set()
+        statements = list(compounds(self.about.source.statements))
+        for statement in reversed(statements):
+            if not self.inner[statement.at] - {statement.at} <= found:
+                continue
+            try:
+                Even(self.about, replace(wished, even=self.inner[statement.at]), self.turns).text(True, False)
+            except Uncovered as cause:
+                self.uncovered.setdefault(statement.at, str(cause))
+                continue
+            found.add(statement.at)
+            self.uncovered.pop(statement.at, None)
+        return frozenset(found)
+
+    def least(self, change: Change) -> Change:
+        """The change with all given back that costs nothing: the hyper stays as it is."""
+        judged = self.judge(change)
+        assert judged is not None
+        for smaller in self._undone(change):
+            change = self._kept(change, smaller, judged[1])
+        return change
+
+    def _undone(self, change: Change) -> Iterable[Callable[[Change], Change]]:
+        """Each part that may be given back, what stands outside before what stands in it."""
+        for statement in compounds(self.about.source.statements):
+            if statement.at in change.even:
+                yield lambda whole, at=statement.at: replace(whole, even=whole.even - {at})  # type: ignore[misc]
+        for at in sorted(change.dropped):
+            yield lambda whole, at=at: replace(whole, dropped=whole.dropped - {at})  # type: ignore[misc]
+        for name in sorted(change.hidden):
+            yield lambda whole, name=name: replace(whole, hidden=whole.hidden - {name})  # type: ignore[misc]
+
+    def _kept(self, change: Change, undo: Callable[[Change], Change], hyper: Hyper) -> Change:
+        smaller = undo(change)
+        if any(not self.inner[at] <= smaller.even for at in smaller.even):
+            return change
+        if not smaller.kinds:
+            return change
+        judged = self.tried(smaller)
+        return smaller if judged is not None and same(judged[1], hyper) else change
+
+    def repair_of(self, change: Change) -> Repair:
+        """The repair that a judged change is."""
+        judged = self.judge(change)
+        assert judged is not None
+        text, hyper, certificate = judged
+        program = self.about.program
+        before = program.text.decode()
+        lines = unified_diff(before.splitlines(keepends=True), text.splitlines(keepends=True), program.name, f"{program.name} (repaired)")
+        changed = tuple(sorted({self.about.source.line(at) for at, _ in self._parts(change)}))
+        at_floor = same(hyper, self.floor.floor)
+        return Repair(self.about.like(text), "".join(lines), hyper, certificate, at_floor, change.kinds, changed, self._needed(change))
+
+    def _parts(self, change: Change) -> list[tuple[int, Change]]:
+        """The place of each part of a change, with the change where this part alone is undone."""
+        found = [(at, replace(change, even=change.even - {at})) for at in change.even]
+        found += [(at, replace(change, dropped=change.dropped - {at})) for at in change.dropped]
+        hidden = [one for one in self.about.source.declarations if one.name in change.hidden]
+        found += [(one.at, replace(change, hidden=change.hidden - {one.name})) for one in hidden]
+        return sorted(found, key=lambda part: part[0])
+
+    def _needed(self, change: Change) -> dict[tuple[int, int], Fraction]:
+        found = {}
+        for at, smaller in self._parts(change):
+            if any(not self.inner[one] <= smaller.even for one in smaller.even):
+                continue
+            judged = self.tried(smaller)
+            if judged is not None or not smaller.kinds:
+                found[self.about.source.place(at)] = posterior_vulnerability(self.floor.hyper if judged is None else judged[1])
+        return found
+
+    def best_of(self, changes: Sequence[Change]) -> Change | None:
+        """The judged change that leaks least to one guess; of several the one at the floor, else that with the fewest inners, else the first."""
+        found = []
+        for i, change in enumerate(changes):
+            if (judged := self.tried(change)) is not None:
+                hyper = judged[1]
+                found.append((posterior_vulnerability(hyper), not same(hyper, self.floor.floor), len(hyper.inners), i, change))
+        return min(found)[-1] if found else None
+
+    def grown(self, change: Change, able: Iterable[int]) -> Change:
+        """The change with each conditional and loop made even, too, as far as each makes it leak less: where all of them at once weren't accepted."""
+        for at in able:
+            more = replace(change, even=change.even | self.inner[at])
+            before = self.judge(change)
+            assert before is not None
+            if same(before[1], self.floor.floor) or more == change or (judged := self.tried(more)) is None:
+                continue
+            if not same(judged[1], before[1]) and posterior_vulnerability(judged[1]) <= posterior_vulnerability(before[1]):
+                change = more
+        return change
+
+    def tried(self, change: Change) -> tuple[str, Hyper, Certificate | None] | None:
+        """As ``judge``; none, too, where nothing is changed or the change can't be made."""
+        try:
+            return self.judge(change) if change.kinds else None
+        except Uncovered:
+            return None
+
+
+def _structures(search: _Search) -> list[Change]:
+    """All that can be made even, and each conditional and loop alone, with all that stands in it."""
+    able = search.can_be_even(Change())
+    wholes = [Change(able, carried=carried) for carried in (False, True)]
+    return wholes + [Change(search.inner[at], carried=carried) for at in sorted(able) for carried in (False, True)]
+
+
+def _others(search: _Search, changes: Sequence[str]) -> list[Change]:
+    """All structure, and all other observations dropped, and visible variables hidden, as far as it is wished."""
+    source = search.about.source
+    kept = {shown.statement.at for shown in search.about.keeps}
+    dropped = frozenset(one.at for one in every(source.statements) if isinstance(one, Observe) and one.at not in kept)
+    hidden = frozenset(one.name for one in source.declarations if one.visible)
+    wished = Change(dropped=dropped if "drop" in changes else frozenset(), hidden=hidden if "hide" in changes else frozenset())
+    if not wished.kinds:
+        return []
+    return [*([replace(wished, even=search.can_be_even(wished))] if "structure" in changes else []), wished]
+
+
+def repair(
+    program: Program, keep: Keep = None, finals: Sequence[str] | None = None, changes: Sequence[str] = ("structure",), seconds: float = 30.0
+) -> Repairs:
+    """Programs that do what this one does, still show what it is for, and leak less.
+
+    ``keep`` are the observations that the program is for, by their lines, from 1, or lines and columns; without it, its one observation at the top
+    level. What counts is the value shown there last, and whether one was. ``finals`` are the variables that have to end as they do, all where none
+    are named. ``changes`` are the kinds that are tried: ``"structure"`` makes branches and loops even and keeps every observation, ``"drop"`` leaves
+    other observations out, ``"hide"`` makes visible variables hidden.
+
+    Each repair is judged by the proved program: the joint distribution of secret, final values and what is kept is the same; whoever observes a run
+    knows what is kept; and the repair refines the program, with a certificate. That none leaks less is said where ``at_floor`` is true, by the law of
+    ``Floor``; else a better one may exist that wasn't found.
+
+    Raises ``BadPurpose`` as ``floor`` does, a ``Refusal`` where the program has no answer, and ``OutOfTime`` after so many ``seconds``.
+    """
+    if wrong := [kind for kind in changes if kind not in CHANGES]:
+        raise ValueError(f"changes are of {', '.join(CHANGES)}, and {wrong[0]!r} was given")
+    with quietly():
+        search = _Search(marked(program, keep, finals, Deadline(bound_of("seconds", seconds))))
+        chosen = [] if search.floor.is_reached else _found(search, changes)
+        found = [search.repair_of(change) for change in chosen]
+    useful = tuple(one for one in found if not same(one.hyper, search.floor.hyper))
+    made = {at for change in chosen for at in change.even}
+    refused = {} if any(one.at_floor for one in found) else {at: why for at, why in search.refused.items() if at not in made}
+    line = search.about.source.line
+    return Repairs(search.floor, useful, tuple(sorted((line(at), why) for at, why in {**refused, **search.uncovered}.items())))
+
+
+def _found(search: _Search, changes: Sequence[str]) -> list[Change]:
+    """The change of structure alone that leaks least, and where it isn't at the floor that of all changes that are wished."""
+    found = []
+    if "structure" in changes and (best := search.best_of(_structures(search))) is not None:
+        found.append(search.least(search.grown(best, sorted(search.can_be_even(Change())))))
+    judged = search.judge(found[0]) if found else None
+    if (judged is None or not same(judged[1], search.floor.floor)) and (other := search.best_of(_others(search, changes))) is not None:
+        found.append(search.least(other))
+    return found

@@ -1,0 +1,226 @@
+"""Programs whose branches and loops are taken whatever their guards say: assignments under a guard become assignments by ``cond``.
+
+A conditional that is made even has no guard left. A loop takes as many turns as it ever does, under a flag that says whether it still goes on. What
+was observed in it is kept in a variable, and shown whether or not it would have been.
+"""
+
+from __future__ import annotations
+
+from collections.abc import Iterable, Iterator, Mapping
+from dataclasses import dataclass, field
+from textwrap import indent
+
+from ..source import Assign, Choose, Distribution, Flip, If, Observe, Skip, Statement, Sure, Type, Uniform, While
+from .kinds import NoType, first_value, type_of, type_text
+from .purposes import Marked, Shown, declared_text, fresh
+
+__all__ = ["Change", "Even", "Uncovered", "compounds", "parents"]
+
+MOST_TURNS = 64  # that a loop is given
+
+
+class Uncovered(Exception):
+    """Why a statement isn't changed."""
+
+
+@dataclass(frozen=True)
+class Change:
+    """What of a program is changed: conditionals and loops that are made even, and observations that are dropped, by the places where they begin.
+
+    ``carried`` says what is shown where a branch would have shown nothing: what was shown there last, or else the first value of the type.
+    ``hidden`` are the visible variables that no longer are.
+    """
+
+    even: frozenset[int] = frozenset()
+    dropped: frozenset[int] = frozenset()
+    hidden: frozenset[str] = frozenset()
+    carried: bool = False
+
+    @property
+    def kinds(self) -> tuple[str, ...]:
+        """The kinds of changes, by their names."""
+        found = (("structure", self.even), ("drop", self.dropped), ("hide", self.hidden))
+        return tuple(name for name, part in found if part)
+
+
+def compounds(statements: Iterable[Statement]) -> Iterator[If | While]:
+    """Each conditional and loop, those in it after it."""
+    for statement in statements:
+        match statement:
+            case If(_, then, otherwise):
+                yield statement
+                yield from compounds(then + otherwise)
+            case While(_, body):
+                yield statement
+                yield from compounds(body)
+
+
+def parents(statements: Iterable[Statement]) -> dict[int, frozenset[int]]:
+    """For each conditional and loop the places of those that stand in it, itself among them."""
+    found: dict[int, frozenset[int]] = {}
+    for statement in compounds(statements):
+        inner = statement.then + statement.otherwise if isinstance(statement, If) else statement.body
+        found[statement.at] = frozenset([statement.at, *(one.at for one in compounds(inner))])
+    return found
+
+
+@dataclass
+class Even:
+    """A program's text with a change made. ``turns`` has the greatest number of turns of each loop, by its place."""
+
+    about: Marked
+    change: Change
+    turns: Mapping[int, int]
+    declared: list[str] = field(default_factory=list)
+    names: list[str] = field(default_factory=list)
+    moved: list[Shown] = field(default_factory=list)
+
+    def __post_init__(self) -> None:
+        self.source = self.about.source
+        self.types: dict[str, Type] = {one.name: one.type for one in self.source.declarations}
+        self.visible = {one.name for one in self.source.declarations if one.visible} - self.change.hidden
+        self.keeps = {shown.statement.at: shown for shown in self.about.keeps}
+
+    # ---- texts
+
+    def text_of(self, part: Distribution) -> str:
+        return self.source.text[part.at : part.end]
+
+    def fresh(self, wanted: str, kind: str, first: str) -> str:
+        """A new variable, declared with its first value."""
+        name = fresh(self.source, wanted, [*self.names, *self.about.marks])
+        self.names.append(name)
+        self.declared.append(f"var {name} : {kind} := {first};")
+        return name
+
+    def text(self, with_marks: bool, with_met: bool) -> str:
+        """The changed text. ``with_marks`` keeps what it is for in variables, and ``with_met`` shows what was moved with whether it was shown at all.
+
+        Raises ``Uncovered`` where the change can't be made.
+        """
+        edits = [*self._roots(self.source.statements, with_met), *self._hidden()]
+        for statement in self._outside(self.source.statements):
+            if statement.at in self.change.dropped:
+                edits.append((statement.at, statement.end, "skip;"))
+            elif with_marks and statement.at in self.keeps:
+                shown = self.keeps[statement.at]
+                edits.append((statement.at, statement.end, " ".join([*self.about.kept(shown), f"observe {shown.value};"])))
+        kept = self.about.keeps if with_marks else tuple(self.moved)
+        return declared_text(self.source, edits, kept, self.declared)
+
+    def _hidden(self) -> list[tuple[int, int, str]]:
+        return [(one.at, one.at + len("vis"), "var") for one in self.source.declarations if one.name in self.change.hidden]
+
+    def _outside(self, statements: Iterable[Statement]) -> Iterator[Observe]:
+        """The observations that stand in nothing that is made even."""
+        for statement in statements:
+            if isinstance(statement, Observe):
+                yield statement
+            elif isinstance(statement, (If, While)) and statement.at not in self.change.even:
+                yield from self._outside(statement.then + statement.otherwise if isinstance(statement, If) else statement.body)
+
+    def _roots(self, statements: Iterable[Statement], with_met: bool) -> list[tuple[int, int, str]]:
+        """What stands in the place of each conditional and loop that is made even and stands in none that is."""
+        edits = []
+        for statement in statements:
+            if not isinstance(statement, (If, While)):
+                continue
+            if statement.at in self.change.even:
+                before = len(self.moved)
+                lines = self.even(statement, None)
+                lines += [self._show(shown, with_met) for shown in self.moved[before:]]
+                column = statement.at - (self.source.text.rfind("\n", 0, statement.at) + 1)
+                edits.append((statement.at, statement.end, indent("\n".join(lines), " " * column).lstrip(" ")))
+            else:
+                edits += self._roots(statement.then + statement.otherwise if isinstance(statement, If) else statement.body, with_met)
+        return edits
+
+    @staticmethod
+    def _show(shown: Shown, with_met: bool) -> str:
+        return f"observe ({shown.met}, {shown.value});" if with_met else f"observe {shown.value};"
+
+    # ---- statements under a guard
+
+    def even(self, statement: Statement, guard: str | None) -> list[str]:
+        """The statement where a guard holds, and nothing that can be noticed where it doesn't."""
+        match statement:
+            case Skip():
+                return []
+            case Assign(name, value):
+                if guard is not None and name in self.visible:
+                    raise Uncovered(f"an assignment of the visible variable {name} would be seen where there is none today")
+                return [self.assign(name, value, guard)]
+            case Observe():
+                return self._observe(statement, guard)
+            case If(asked, then, otherwise):
+                return self._branches(asked, then, otherwise, guard)
+            case While(asked, body):
+                return self._loop(statement, asked, body, guard)
+
+    def assign(self, name: str, value: Distribution, guard: str | None, instead: str | None = None) -> str:
+        """An assignment where a guard holds; where it doesn't the variable takes another value, or keeps its own."""
+        if guard is None:
+            return f"{name} := {self.text_of(value)};"
+        other = name if instead is None else instead
+        match value:
+            case Sure():
+                return f"{name} := cond({guard}, {self.text_of(value)}, {other});"
+            case Flip(over, under):
+                return f"{name} := choose {{ cond({guard}, true, {other}) : {over}, cond({guard}, false, {other}) : {under - over} }};"
+            case Uniform(low, None):
+                return f"{name} := uniform cond({guard}, {self.source.text[low.at : low.end]}, {{{other}}});"
+            case Uniform(low, high):
+                assert high is not None
+                ends = (f"cond({guard}, {self.source.text[end.at : end.end]}, {other})" for end in (low, high))
+                return f"{name} := uniform {'..'.join(ends)};"
+            case Choose(cases):
+                parts = (f"cond({guard}, {case.value_text}, {other}) : cond({guard}, {case.weight_text}, 1)" for case in cases)
+                return f"{name} := choose {{ {', '.join(parts)} }};"
+
+    def _guard(self, asked: Distribution, guard: str | None, name: str) -> list[str]:
+        """Keeps what a guard says in a variable, false where the one around it is false."""
+        if isinstance(asked, Sure):
+            return [f"{name} := {self.text_of(asked)};" if guard is None else f"{name} := {guard} and ({self.text_of(asked)});"]
+        return [self.assign(name, asked, guard, "false")]
+
+    def _branches(self, asked: Distribution, then: tuple[Statement, ...], otherwise: tuple[Statement, ...], guard: str | None) -> list[str]:
+        name = self.fresh("yes", "bool", "false")
+        lines = self._guard(asked, guard, name)
+        other = [statement for statement in otherwise if not isinstance(statement, Skip)]
+        if other:
+            no = self.fresh("no", "bool", "false")
+            lines.append(f"{no} := not {name};" if guard is None else f"{no} := {guard} and not {name};")
+        for statement in then:
+            lines += self.even(statement, name)
+        for statement in other:
+            lines += self.even(statement, no)
+        return lines
+
+    def _loop(self, statement: While, asked: Distribution, body: tuple[Statement, ...], guard: str | None) -> list[str]:
+        most = self.turns[statement.at]
+        if most > MOST_TURNS:
+            raise Uncovered(f"the loop takes up to {most} turns, and {MOST_TURNS} are tried")
+        if most == 0:
+            return []
+        on, turn = self.fresh("on", "bool", "false"), self.fresh("turn", f"0..{most}", "0")
+        lines = [f"{on} := {guard or 'true'};", f"{turn} := 0;", f"while {turn} < {most} {{"]
+        lines += [f"  {line}" for line in self._guard(asked, on, on)]
+        for inner in body:
+            lines += [f"  {line}" for line in self.even(inner, on)]
+        return [*lines, f"  {turn} := {turn} + 1;", "}"]
+
+    def _observe(self, statement: Observe, guard: str | None) -> list[str]:
+        if statement.at in self.change.dropped:
+            return []
+        if statement.at in self.keeps:
+            shown = self.keeps[statement.at]
+            if shown not in self.moved:
+                self.moved.append(shown)
+            met = "true" if guard is None else f"{shown.met} or {guard}"
+            return [self.assign(shown.value, statement.value, guard), f"{shown.met} := {met};"]
+        try:
+            kind = type_of(statement.value, self.types)
+        except NoType as cause:
+            raise Uncovered(f"the observation in line {self.source.line(statement.at)} can't be kept: {cause}") from cause
+        name = self.fresh("shown", type_text(kind), first_value(kind))
+        return [self.assign(name, statement.value, guard, None if self.change.carried else f"({first_value(kind)})"), f"observe {name};"]

@@ -1,0 +1,319 @@
+"""Floors and repairs: numbers worked out by hand, what is refused, and proposals that must not be let through."""
+
+from __future__ import annotations
+
+import warnings
+from fractions import Fraction
+from pathlib import Path
+
+import pytest
+
+from kuifje import Program, check
+from kuifje.errors import OutOfTime
+from kuifje.measures import posterior_vulnerability
+from kuifje.repair import BadPurpose, floor, repair
+from kuifje.repair.purposes import marked, quietly
+from kuifje.repair.search import _Search
+from kuifje.repair.structure import Change, Even, compounds
+
+TOP = Path(__file__).resolve().parents[2]
+pytestmark = pytest.mark.usefixtures("built")
+
+
+def program_of(path: str) -> Program:
+    return Program((TOP / path).read_bytes(), name=Path(path).name)
+
+
+# Each guess is right for one value of each class of what is kept, all values being equally likely: of 27 passwords 2 classes, and so on.
+FLOORS = [
+    ("examples/password/early.kf", 10, Fraction(2, 27)),
+    ("examples/password/loop.kf", 11, Fraction(2, 27)),
+    ("examples/exponent/bits.kf", None, Fraction(1, 8)),
+    ("examples/exponent/length.kf", None, Fraction(1, 8)),
+    ("examples/padding_oracle/oracle.kf", None, Fraction(1, 64)),
+    ("examples/binary_search/halving.kf", None, Fraction(1, 16)),
+    ("examples/countdown.kf", None, Fraction(1, 4)),
+    ("examples/guard.kf", None, Fraction(1, 4)),
+    ("course/password.kf", 6, Fraction(1, 2)),
+]
+
+
+@pytest.mark.parametrize("path, keep, value", FLOORS)
+def test_repairs_reach_the_floor_by_structure_alone(path: str, keep: int | None, value: Fraction) -> None:
+    program = program_of(path)
+    found = repair(program, keep)
+    assert posterior_vulnerability(found.floor.floor) == value < posterior_vulnerability(found.floor.hyper)
+    assert found.best is not None and found.best.at_floor and found.best.kinds == ("structure",)
+    assert posterior_vulnerability(found.best.hyper) == value
+    assert found.best.certificate is not None and check(found.best.certificate, program, found.best.program).accepted
+    assert found.best.diff.startswith("---") and all(value < left for left in found.best.needed.values())
+    assert found.best.program.hyper() == found.best.hyper
+
+
+def test_nothing_to_repair() -> None:
+    found = floor(program_of("examples/password/whole.kf"))
+    assert found.is_reached
+    assert repair(program_of("examples/password/whole.kf")).found == ()
+
+
+def test_what_is_dropped_is_listed_apart_and_is_never_the_best() -> None:
+    program = program_of("examples/survey.kf")
+    with pytest.raises(BadPurpose, match="in lines 5, 6"):
+        repair(program)
+    assert repair(program, 6).found == ()
+    found = repair(program, 6, changes=("structure", "drop"))
+    # Of two people one answer is kept: the other's bit is guessed with 1/2, this one's with 3/4.
+    assert found.best is None and [one.kinds for one in found.found] == [("drop",)]
+    assert found.found[0].at_floor and posterior_vulnerability(found.found[0].hyper) == Fraction(3, 8)
+
+
+def test_hidden_variables_are_a_kind_of_their_own() -> None:
+    # Nothing is observed, so nothing is kept: what is published by visible variables would all have to be hidden.
+    found = repair(program_of("examples/auction.kf"), changes=("structure", "drop", "hide"))
+    assert found.best is None and [one.kinds for one in found.found] == [("hide",)]
+    assert len(found.found[0].hyper.inners) == 1 and "\n-vis " in found.found[0].diff
+
+
+NESTED = """var x : 0..3 := uniform 0..3;
+var y : 0..3 := x;
+var n : 0..9 := 0;
+about old x;
+while y > 0 {
+  if flip 1/2 { y := y - 1; } else { if y = 3 { y := uniform 1..2; } else { y := 0; } }
+  while n < y { n := choose { n + 1 : 1, n + 2 : x }; }
+}
+observe n > 3;
+"""
+
+
+def test_nested_loops_and_random_guards() -> None:
+    # What is kept is a truth value, so that one guess of four is right with at most 1/2; each branch and each turn tells more today.
+    program = Program(NESTED)
+    found = repair(program, seconds=120)
+    assert found.best is not None and found.best.at_floor
+    text = found.best.program.text.decode()
+    assert text.count("while") == 2 and "if flip" not in text and "if y" not in text
+    with quietly():
+        about = marked(program)
+        assert about.joint(
+            text.replace("about", "var kept : bool := false;\nvar met : bool := false;\nabout").replace(
+                "observe n > 3;", "kept := n > 3; met := true; observe kept;"
+            )
+        ) == about.joint(about.with_marks())
+
+
+def test_a_loop_with_a_turn_too_few_does_something_else() -> None:
+    program = program_of("examples/countdown.kf")
+    with quietly():
+        about = marked(program)
+        loop = next(compounds(about.source.statements))
+        joint = about.joint(about.with_marks())
+        texts = [Even(about, Change(frozenset([loop.at])), {loop.at: turns}).text(True, False) for turns in (3, 2)]
+        assert [about.joint(text) == joint for text in texts] == [True, False]
+
+
+def test_a_pad_without_its_observations_does_not_show_what_is_kept() -> None:
+    program = program_of("examples/one_time_pad/twice.kf")
+    lines = [i for i, text in enumerate(program.text.decode().splitlines(), 1) if text.startswith("observe")]
+    with quietly():
+        about = marked(program, lines[-1])
+        silent = about.with_marks().replace(f"observe {about.keeps[0].value};", "skip;").replace("observe a + key mod 4;", "skip;")
+        assert about.is_told(about.with_marks()) and not about.is_told(silent)
+        assert about.joint(silent) == about.joint(about.with_marks())
+
+
+def test_a_branch_made_even_the_wrong_way_leaks_more() -> None:
+    # The second bit is shown on the other side, too: then all is known.
+    from kuifje.refinement import decide
+
+    text = (TOP / "course/password.kf").read_text()
+    even = text.replace("else { skip; }", "else { observe b = 0; }") if "observe b = 0" in text else text
+    if even == text:
+        even = text.replace("{ skip; }", text[text.index("{", text.index("if ")) : text.index("}", text.index("if ")) + 1])
+    assert even != text and decide(Program(text), Program(even)).refines is False
+
+
+@pytest.mark.parametrize(
+    "text, keep, words",
+    [
+        ("var x : 0..3 := uniform 0..3;\nobserve x;\n", None, "write about old"),
+        ("var x : 0..3 := uniform 0..3;\nabout x;\nobserve x;\n", None, "write about old"),
+        ("var x : 0..3 := uniform 0..3;\nabout old x;\nobserve x;\n", 2, "no observation begins in line 2"),
+        ("var x : 0..3 := uniform 0..3;\nabout old x;\nif x = 0 { observe x; } else { observe 1; }\n", 3, "in columns 12, 32"),
+        ("var x : 0..3 := uniform 0..3;\nabout old x;\nif x = 0 { observe x; } else { observe 1; }\n", None, "none of them at the top level"),
+    ],
+)
+def test_what_cannot_be_kept_is_refused(text: str, keep: int | None, words: str) -> None:
+    with pytest.raises(BadPurpose, match=words):
+        floor(Program(text), keep)
+
+
+def test_wrong_arguments() -> None:
+    program = program_of("examples/guard.kf")
+    with pytest.raises(TypeError, match="keep has lines"):
+        floor(program, "5")  # type: ignore[arg-type]
+    with pytest.raises(ValueError, match="'coarse' was given"):
+        repair(program, changes=("coarse",))
+    with pytest.raises(BadPurpose, match="no variable z"):
+        repair(program, finals=["z"])
+    with pytest.raises(TypeError, match="finals is a list of names"):
+        repair(program, finals="h")
+    for asked in (lambda: repair(Program(NESTED), seconds=0), lambda: floor(Program(NESTED), timeout=0)):
+        with pytest.raises(OutOfTime):
+            asked()
+
+
+def test_the_commands(tmp_path: Path) -> None:
+    testing = pytest.importorskip("click.testing")
+    from kuifje.lab import main
+
+    file = str(TOP / "examples/password/early.kf")
+    run = testing.CliRunner().invoke
+    said = run(main, ["floor", file, "--keep", "10"])
+    assert said.exit_code == 1
+    assert "one guess is right with 4/27, before a run with 1/27, and with 2/27 by what is kept alone\nabove the floor by 2/27\n" in said.output
+    written = tmp_path / "repaired.kf"
+    said = run(main, ["repair", file, "--keep", "10:1", "-o", str(written)])
+    assert (
+        said.exit_code == 0 and "repair 1 (structure): one guess is right with 2/27; at the floor" in said.output and "+yes := same;" in said.output
+    )
+    assert posterior_vulnerability(Program(written.read_bytes()).hyper()) == Fraction(2, 27)
+    assert run(main, ["floor", str(written), "--keep", str(len(written.read_text().splitlines()))]).exit_code == 0
+    assert run(main, ["floor", file, "--keep", "ten"]).exit_code == 2
+    assert run(main, ["repair", file, "--changes", "coarse"]).exit_code == 2
+    assert run(main, ["floor", str(tmp_path / "nothing.kf")]).exit_code == 2
+
+
+def test_an_observation_in_a_branch_by_its_column() -> None:
+    text = "var x : 0..3 := uniform 0..3;\nabout old x;\nif x = 0 { observe x; } else { observe 1; }\n"
+    with warnings.catch_warnings():
+        warnings.simplefilter("error")
+        found = floor(Program(text), (3, 12))
+    # It is shown where x is 0, and nothing else is: one class of one value, one of three.
+    assert [inner.outer for inner in found.floor.inners] == [Fraction(1, 4), Fraction(3, 4)] and found.is_reached
+
+
+def test_a_loop_that_stands_twice() -> None:
+    """Both loops count down what is 3 or less, and each is as the other one: without them one guess of four is right with the two values of y = 0."""
+    loop = "while y > 0 { y := y - 1; }"
+    text = f"var x : 0..3 := uniform 0..3;\nvar y : 0..3 := x;\nabout old x;\nif x = 1 {{ {loop} }} else {{ skip; }}\n{loop}\nobserve x = 3;\n"
+    found = repair(Program(text))
+    assert found.best is not None and found.best.at_floor and posterior_vulnerability(found.best.hyper) == Fraction(1, 2)
+
+
+TWO = """var x : 0..3 := uniform 0..3; # four values
+var y : 0..3 := 0;            # what is shown
+about old x;
+if x = 0 { y := 1; } else { skip; } if x = 1 { y := 1; } else { skip; }
+observe y;
+"""
+
+
+def test_an_observation_that_is_named_twice_is_kept_once() -> None:
+    program = Program(TWO)
+    assert floor(program, [5, (5, 1), 5]) == floor(program, 5)
+    assert repair(program, [5, 5]).best is not None
+
+
+def test_two_changes_in_one_line_are_told_apart() -> None:
+    """Shown is whether x is below 2: 2/4. With either branch seen, too, there are three classes: 3/4."""
+    found = repair(Program(TWO)).best
+    assert found is not None and found.needed == {(4, 1): Fraction(3, 4), (4, 37): Fraction(3, 4)}
+
+
+def test_comments_and_ends_of_lines_stay_as_they_are() -> None:
+    best = repair(Program(TWO)).best
+    assert best is not None
+    text = best.program.text.decode()
+    assert "uniform 0..3; # four values\nvar y : 0..3 := 0;            # what is shown\nvar yes" in text
+    ended = repair(Program(TWO.replace("\n", "\r\n"))).best
+    assert ended is not None and ended.program.text.decode() == text.replace("\n", "\r\n")
+
+
+def test_a_column_counts_bytes_as_lines_does() -> None:
+    text = "var äö : 0..3 := uniform 0..3;\nabout old äö;\nif äö = 0 { observe äö; } else { observe 1; }\n"
+    places = {silent.column for silent in Program(text).lines().without}
+    assert 15 in places and floor(Program(text), (3, 15)).is_reached
+    with pytest.raises(BadPurpose, match="line 3, column 13"):
+        floor(Program(text), (3, 13))
+
+
+def test_of_several_values_the_last_is_kept_and_that_is_said(tmp_path: Path) -> None:
+    """x turns show x, .., 1; the last one is always 1, so that all that is kept is whether there was one: 2/4."""
+    text = "var x : 0..3 := uniform 0..3;\nvar y : 0..3 := x;\nabout old x;\nwhile y > 0 { observe y; y := y - 1; }\n"
+    found = floor(Program(text))
+    assert found.repeated == {4: 3} and posterior_vulnerability(found.floor) == Fraction(1, 2)
+    assert floor(Program(TWO)).repeated == {}
+    file = tmp_path / "down.kf"
+    file.write_text(text)
+    said = pytest.importorskip("click.testing").CliRunner().invoke(lab(), ["floor", str(file)])
+    assert "line 4 shows up to 3 values in a run, of which the last one is kept\n" in said.output
+
+
+def lab() -> object:
+    from kuifje.lab import main
+
+    return main
+
+
+def test_an_observation_that_cannot_be_moved_stays_dropped() -> None:
+    """A pair of a million values has no type, so the branch is made even only where it isn't shown: undone alone that can't be.
+
+    With the guard alone undone it is seen which of the two values x has.
+    """
+    text = "var x : 0..999 := uniform 0..1;\nvar y : 0..999 := 0;\nvar z : bool := false;\nabout old x;\n"
+    text += "if x = 0 { observe (x, y); z := true; } else { skip; }\nobserve false;\n"
+    found = repair(Program(text), 6, changes=("structure", "drop"))
+    (one,) = found.found
+    assert one.kinds == ("structure", "drop") and one.at_floor and one.needed == {(5, 1): 1}
+
+
+def test_32_variables_are_named() -> None:
+    more = "".join(f"var v_{i} : bool := false;\n" for i in range(25))
+    ifs = "".join(f"if x = {i} {{ v_{i} := true; }} else {{ skip; }}\n" for i in range(8))
+    text = f"var x : 0..7 := uniform 0..7;\n{more}about old x;\n{ifs}observe x = 0;\n"
+    found = repair(Program(text))
+    # 26 variables and the secret once more, and two for what is kept: one branch alone takes another one, and not all eight do.
+    assert any("TooManyVariables" in why for _, why in found.uncovered)
+    with pytest.raises(BadPurpose, match="held in variables of its own: TooManyVariables"):
+        floor(Program(text.replace("about", "".join(f"var w_{i} : bool := false;\n" for i in range(4)) + "about")))
+
+
+EARLY = """var a : 0..2 := uniform 0..2;
+var b : 0..2 := uniform 0..2;
+var same : bool := a = 0;
+about old a, old b;
+if same { same := b = 1; } else { skip; }
+observe same;
+"""
+
+
+@pytest.mark.parametrize(
+    "right, wrong, is_accepted",
+    [
+        ("same := same and b = 1;", "", True),
+        ("same := same and b = 1;", "observe a;", False),  # leaks more
+        ("same := same and b = 2;", "", False),  # shows another value
+        ("same := same and b = 1; a := 0;", "", False),  # ends otherwise
+        ("same := same and b = 1;", "same := same;", True),
+    ],
+)
+def test_the_judgement_lets_no_wrong_proposal_through(right: str, wrong: str, is_accepted: bool) -> None:
+    with quietly():
+        search = _Search(marked(Program(EARLY)))
+        about = search.about
+        texts = [text.replace("if same { same := b = 1; } else { skip; }", right) + wrong for text in (about.with_marks(), EARLY)]
+        assert (search._judged(*texts) is not None) == is_accepted
+        silent = about.with_marks().replace("observe kept;", "skip;").replace("if same { same := b = 1; } else { skip; }", right)
+        assert search._judged(silent, silent) is None  # what is kept isn't shown
+
+
+@pytest.mark.parametrize(
+    "path, keep, repaired", [("password/early.kf", 10, "repair/flags.kf"), ("padding_oracle/oracle.kf", None, "repair/oracle.kf")]
+)
+def test_the_gallery_has_the_repairs_that_are_proposed(path: str, keep: int | None, repaired: str) -> None:
+    def without_comments(text: bytes) -> list[bytes]:
+        return [line for line in text.splitlines() if not line.startswith(b"#")]
+
+    best = repair(program_of(f"examples/{path}"), keep).best
+    assert best is not None and without_comments(best.program.text) == without_comments((TOP / "examples" / repaired).read_bytes())

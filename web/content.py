@@ -70,11 +70,16 @@ def anchor(head: str) -> str:
     return re.sub(r"[^\w -]", "", head.lower()).replace(" ", "-")
 
 
+def is_comment(token: Token) -> bool:
+    """Whether it is a comment of HTML alone, for scripts that write a part of a page: a reader doesn't see it."""
+    return token.type == "html_block" and re.fullmatch(r"\s*<!--(?:(?!-->).)*-->\s*", token.content, re.DOTALL) is not None
+
+
 class Reader:
     """Goes through a page's tokens, and makes blocks of them."""
 
     def __init__(self, text: str) -> None:
-        self.tokens, self.at, self.above = parser.parse(text), 0, ""
+        self.tokens, self.at, self.above = [token for token in parser.parse(text) if not is_comment(token)], 0, ""
 
     def take(self) -> Token:
         self.at += 1

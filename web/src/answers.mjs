@@ -1,5 +1,7 @@
 // Reads the texts that the program prints (docs/FORMATS.md). Of a large answer only the first groups are read: how many there are it says itself.
 
+import { NOTHING, fractionOf, printed, product, sum } from "./fractions.mjs";
+
 /** @typedef {{ value: string, share: string }} Share a value with its probability, as printed */
 /** @typedef {{ name: string, weight: string, shares: Share[] }} Group an inner with its outer, or a trace with its probability */
 /** @typedef {{ target: string, scale: string, count: number, groups: Group[], isWhole: boolean }} Groups */
@@ -33,7 +35,7 @@ function lines(text) {
             return line;
         },
         /**
-         * What the next line has behind this word.
+         * What the next line has after this word.
          * @param {string} word
          */
         behind(word) {
@@ -91,6 +93,26 @@ function groups(text, word, weight) {
 export const hyperOf = (text) => groups(text, "inner", "outer");
 /** @param {string} text */
 export const tracesOf = (text) => groups(text, "trace", "weight");
+
+/**
+ * The prior that a hyper averages to, its values in their order.
+ * @param {Groups} hyper
+ */
+export function priorOf(hyper) {
+    /** @type {Map<string, import("./fractions.mjs").Fraction>} */
+    const found = new Map();
+    for (const group of hyper.groups) {
+        const outer = fractionOf(group.weight) || NOTHING;
+        for (const { value, share } of group.shares) {
+            const joint = product(outer, fractionOf(share) || NOTHING);
+            found.set(value, sum(found.get(value) || NOTHING, joint));
+        }
+    }
+    const values = [...found.keys()];
+    const isNumbers = values.every((value) => /^-?\d+$/.test(value));
+    values.sort((a, b) => (isNumbers ? Number(a) - Number(b) : a.localeCompare(b, "en", { numeric: true })));
+    return values.map((value) => ({ value, share: printed(found.get(value) || NOTHING) }));
+}
 
 /**
  * @param {string} text

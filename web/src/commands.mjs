@@ -1,12 +1,13 @@
-// Commands as the pages show them: which files they name, and which view of the page shows their answer.
-import { TABLE } from "./gains.mjs";
+// Commands as the pages show them and as they are typed: which of their words are files, and which view of the page shows their answer.
+import { TABLE, USUAL } from "./gains.mjs";
+import { USUAL_TURNS, VIEWS } from "./questions.mjs";
 
-/**
- * Which view shows a command's answer. The others are shown as the terminal shows them.
- * @type {Record<string, string>}
- */
-const VIEW_OF = { hyper: "hyper", channel: "channel", leak: "leak", traces: "traces", lines: "lines", blame: "lines", trail: "lines", refine: "refine", covers: "refine" };
-const PLAIN = /^kuifje ([a-z]+(?: [^\s|<>;&$`'"\\]+)*)(?: \| head -n 1)?$/;
+/** How many files a command is about, where it isn't one. They are the first of its values. */
+const FILES = new Map([["make", 0], ["refine", 2], ["covers", 2], ["cascade", 2], ["parallel", 2], ["choice", 2], ["check", 3]]);
+/** The one command whose first file is no program, but a certificate. */
+const CHECK = "check";
+const TABLE_WORD = `${TABLE}:`;
+const PLAIN = /^kuifje ([a-z][a-z-]*(?: [^\s|<>;&$`'"\\]+)*)(?: \| head -n 1)?$/;
 
 /**
  * The words of a line that asks the program and does nothing else, or null.
@@ -18,29 +19,71 @@ export function wordsOf(line) {
 }
 
 /**
- * What is typed between one space and the next.
+ * What is typed between one space and the next, after the program's own name, if that is typed, too.
  * @param {string} line
  */
-export const typedWords = (line) => line.trim().replace(/^kuifje\s+/, "").split(/\s+/).filter((word) => word !== "");
-
-/**
- * The names among a command's words that are those of files.
- * @param {string[]} words
- */
-export function namesIn(words) {
-    const names = words.slice(1).filter((word) => /\.(kf|json)$/.test(word)).map((word) => word.replace(/^table:/, ""));
-    return { programs: names.filter((name) => name.endsWith(".kf")), tables: names.filter((name) => name.endsWith(".json")) };
+export function typedWords(line) {
+    const words = line.split(/\s+/).filter((word) => word !== "");
+    return words[0] === "kuifje" ? words.slice(1) : words;
 }
 
 /**
- * Whether the command is about no more than two programs and a table that the page shows, and in which view.
+ * A command's words apart, as the program takes them: the command and its values in order, and its options, whose value may be the next word or
+ * stand after `=`. After `--` no word is an option.
  * @param {string[]} words
  */
-export function viewOf(words) {
+export function partsOf(words) {
+    const end = words.includes("--") ? words.indexOf("--") : words.length;
+    const values = [];
+    /** @type {{ gain: string | null, turns: string | null, json: boolean }} */
+    const options = { gain: null, turns: null, json: false };
+    for (let at = 0; at < end; at += 1) {
+        const found = /^--(gain|turns)(?:=(.*))?$/s.exec(words[at]);
+        if (found !== null) {
+            const option = /** @type {"gain" | "turns"} */ (found[1]);
+            at += found[2] === undefined ? 1 : 0;
+            options[option] = found[2] === undefined ? words[at] || "" : found[2];
+        } else if (words[at] === "--json") {
+            options.json = true;
+        } else if (!words[at].startsWith("-") || words[at] === "-") {
+            values.push(words[at]);
+        }
+    }
+    const [command, ...others] = [...values, ...words.slice(end + 1)];
+    return { command: command || "", values: others, ...options };
+}
+
+/**
+ * The names among a command's words that are those of files: programs, and tables or a certificate.
+ * @param {string[]} words
+ */
+export function namesIn(words) {
+    const { command, values, gain } = partsOf(words);
+    const count = FILES.get(command);
+    const files = values.slice(0, count === undefined ? 1 : count);
+    const certificates = command === CHECK ? files.splice(0, 1) : [];
+    const tables = gain !== null && gain.startsWith(TABLE_WORD) ? [gain.slice(TABLE_WORD.length)] : [];
+    return { programs: files, tables: [...certificates, ...tables] };
+}
+
+/**
+ * Whether each file that a command names is there.
+ * @param {string[]} words
+ * @param {Record<string, string>} files
+ */
+export function hasFiles(words, files) {
     const { programs, tables } = namesIn(words);
-    const view = VIEW_OF[words[0]] || "command";
-    const isPlain = !words.includes("--json") && !words.includes("--turns") && (tables.length === 0 || words[0] === "leak" || words[0] === "lines");
-    return { view: isPlain ? view : "command", programs, tables };
+    return [...programs, ...tables].every((name) => Object.keys(files).includes(name));
+}
+
+/**
+ * Those of the files that a command names.
+ * @param {string[]} words
+ * @param {Record<string, string>} files
+ */
+export function filesOf(words, files) {
+    const { programs, tables } = namesIn(words);
+    return Object.fromEntries(Object.entries(files).filter(([name]) => programs.includes(name) || tables.includes(name)));
 }
 
 /**
@@ -48,7 +91,33 @@ export function viewOf(words) {
  * @param {string[]} words
  */
 export function measureOf(words) {
-    const at = words.indexOf("--gain");
-    const word = at < 0 ? "bayes" : words[at + 1];
-    return word.startsWith("table:") ? TABLE : word;
+    const { gain } = partsOf(words);
+    return gain === null ? "bayes" : gain.startsWith(TABLE_WORD) ? TABLE : gain;
+}
+
+/**
+ * In which view a command's answer is shown: as the terminal shows it, unless the page has a view for just that question.
+ * @param {string[]} words
+ */
+export function viewOf(words) {
+    const { command, values, gain, turns, json } = partsOf(words);
+    const { programs, tables } = namesIn(words);
+    const found = VIEWS.find(({ commands }) => /** @type {readonly string[]} */ (commands).includes(command));
+    const isKnown = [TABLE, ...USUAL.map(([word]) => word)].includes(measureOf(words));
+    const mayHaveGain = command === "leak" || command === "lines";
+    const isPlain = !json && turns === null && values.length === programs.length && isKnown && (gain === null || mayHaveGain);
+    return { view: found !== undefined && isPlain ? found.name : /** @type {"command"} */ ("command"), programs, tables };
+}
+
+/**
+ * The words that are sent to the program: where the settings allow a loop more or fewer turns than usual, they say so.
+ * @param {string[]} words
+ * @param {number} turns
+ */
+export function sentWords(words, turns) {
+    if (turns === USUAL_TURNS || partsOf(words).turns !== null) {
+        return words;
+    }
+    const end = words.includes("--") ? words.indexOf("--") : words.length;
+    return [...words.slice(0, end), "--turns", String(turns), ...words.slice(end)];
 }

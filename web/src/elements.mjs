@@ -35,11 +35,44 @@ export function byId(id) {
 }
 
 /**
+ * Puts children in the place of those that an element has. One that is among them already is left where it stands, with what is typed in it and
+ * the focus.
  * @param {Element} parent
  * @param {...Child} children
  */
 export function fill(parent, ...children) {
-    parent.replaceChildren(.../** @type {(Node | string)[]} */ (children.filter((child) => child !== null && child !== false)));
+    const wanted = /** @type {(Node | string)[]} */ (children.filter((child) => child !== null && child !== false))
+        .map((child) => (typeof child === "string" ? document.createTextNode(child) : child));
+    const kept = new Set(wanted);
+    [...parent.childNodes].filter((child) => !kept.has(child)).forEach((child) => child.remove());
+    wanted.forEach((child, index) => {
+        const there = parent.childNodes[index] || null;
+        if (there !== child) {
+            parent.insertBefore(child, there);
+        }
+    });
+}
+
+/** @param {Element} it */
+const keyOf = (it) => [it.tagName, it.id, it.getAttribute("aria-label"), it.id === "" ? it.textContent : ""].join("\n");
+
+/**
+ * The same, and the focus goes to the element that is in the place of the one that had it, by its name.
+ * @param {HTMLElement} parent
+ * @param {...Child} children
+ */
+export function fillAround(parent, ...children) {
+    const held = /** @type {any} */ (document.activeElement);
+    const isInside = held !== null && held !== parent && parent.contains(held);
+    fill(parent, ...children);
+    if (isInside && !held.isConnected) {
+        const same = /** @type {any[]} */ ([...parent.querySelectorAll(held.tagName)]).find((it) => keyOf(it) === keyOf(held));
+        if (same !== undefined && held instanceof HTMLInputElement && held.type === "text") {
+            same.value = held.value;
+            same.setSelectionRange(held.selectionStart, held.selectionEnd);
+        }
+        (same || parent).focus({ preventScroll: true });
+    }
 }
 
 /**

@@ -3,7 +3,7 @@
 import { button, element, fill } from "./elements.mjs";
 import { fractionOf, isSame } from "./fractions.mjs";
 import { blameOf, hyperOf, linesOf, reportOf, tracesOf, trailOf } from "./answers.mjs";
-import { wordsOf, namesIn } from "./commands.mjs";
+import { hasFiles, namesIn, wordsOf } from "./commands.mjs";
 import { blocksOf } from "./reader.mjs";
 
 /** @typedef {import("./reader.mjs").Place} Place */
@@ -161,12 +161,12 @@ function checkOf(place, words, files) {
         if (right.kind !== "answer" || tried.kind !== "answer") {
             fill(result, withoutAnswer(right.kind !== "answer" ? right : tried));
         } else if (tried.status > 1) {
-            fill(result, `✗ Your program is refused: ${tried.err.trim()}`);
+            fill(result, `✗ Your program is refused: ${tried.err.trim().split(own[0]).join("your program")}`);
         } else {
             // Names, and places in the text, may be others than those of the solution.
             const withoutNames = (/** @type {string} */ out) => out.replace(/^target .*\n/, "").replace(/^scale .*\n/m, "").replace(/^\d+:\d+ /gm, "");
             const isLike = withoutNames(right.out) === withoutNames(tried.out);
-            fill(result, isLike ? "✓ Of your program the answer is the same as of the solution." : "✗ Of your program the answer is another one than of the solution.");
+            fill(result, isLike ? "✓ Your program's answer is the solution's." : "✗ Your program's answer differs from the solution's.");
         }
     };
     return element("div", { class: "asked" }, element("code", {}, disguised(words)), " ", button("Check my numbers", begin),
@@ -193,8 +193,7 @@ export function exerciseOf(place, exercise, number) {
     } }, element("summary", {}, "Solution"), inside);
     const seen = new Set();
     const commands = commandsOf(exercise.solved).filter((words) => {
-        const isThere = words.every((word) => !/\.(kf|json)$/.test(word) || word.replace(/^table:/, "") in files);
-        const isNew = words[0] in FIELDS && isThere && !seen.has(words.join(" "));
+        const isNew = words[0] in FIELDS && hasFiles(words, files) && !seen.has(words.join(" "));
         seen.add(words.join(" "));
         return isNew;
     });

@@ -20,10 +20,10 @@ function divisor(a, b) {
 
 /**
  * @param {bigint} n
- * @param {bigint} d
+ * @param {bigint} d above 0
  * @returns {Fraction}
  */
-function lowest(n, d) {
+export function lowest(n, d) {
     const common = divisor(n, d);
     return common === ZERO ? { n, d } : { n: n / common, d: d / common };
 }
@@ -40,6 +40,31 @@ export function fractionOf(text) {
     const d = found[2] === undefined ? ONE : BigInt(found[2]);
     return d === ZERO ? null : lowest(BigInt(found[1]), d);
 }
+
+const DECIMAL = /^(-?)([0-9]+)\.([0-9]+)$/;
+/** The most characters of a number that is typed. */
+const LONGEST = 400;
+
+/**
+ * A number as it is typed: a whole number of any size, a fraction, or a decimal, which is taken exactly.
+ * @param {string} text
+ * @returns {Fraction | null} null where it is none
+ */
+export function typedFraction(text) {
+    const bare = text.trim();
+    const decimals = DECIMAL.exec(bare);
+    if (bare.length > LONGEST || decimals === null) {
+        return bare.length > LONGEST ? null : fractionOf(bare);
+    }
+    const [, sign, whole, part] = decimals;
+    return lowest(BigInt(`${sign}${whole}${part}`), TEN ** BigInt(part.length));
+}
+
+/**
+ * The least number that makes whole numbers of all these fractions.
+ * @param {Fraction[]} fractions
+ */
+export const commonDenominator = (fractions) => fractions.reduce((common, { d }) => (common / divisor(common, d)) * d, ONE);
 
 /**
  * @param {Fraction} a

@@ -1,7 +1,9 @@
-// A gain table that is edited in place: a row for each action, a column for each value of the target.
-import { button, element, fill } from "./elements.mjs";
+// A gain table that is edited in place: a row for each action, a column for each value of the target. Its numbers are never floats.
+import { button, element } from "./elements.mjs";
+import { commonDenominator, isSame, lowest, printed, typedFraction } from "./fractions.mjs";
 
-/** @typedef {{ over: number, rest: number, actions: { name: string, gains: Map<string, number> }[] }} Gains */
+/** @typedef {import("./fractions.mjs").Fraction} Fraction */
+/** @typedef {{ rest: Fraction, actions: { name: string, gains: Map<string, Fraction> }[] }} Gains the gains themselves; a file has them as whole numbers over one */
 
 /**
  * Gains that need no table: the word for each, and what it is.
@@ -12,7 +14,14 @@ export const USUAL = [["bayes", "one guess"], ["tries:2", "two tries"], ["tries:
 export const TABLE = "table";
 
 const MOST_VALUES = 24;
+const MOST_ACTIONS = 60;
 const FORMAT = "kuifje-gain-1";
+const NAME = /^[A-Za-z0-9_-]{1,64}$/;
+const JSON_TOKEN = /"(?:[^"\\]|\\.)*"|-?[0-9][0-9.eE+-]*/g;
+const ONE = BigInt(1);
+
+/** @param {number | bigint} n */
+const whole = (n) => ({ n: BigInt(n), d: ONE });
 
 /**
  * The table that gains 1 for a right guess.
@@ -20,13 +29,36 @@ const FORMAT = "kuifje-gain-1";
  * @returns {Gains}
  */
 export function guessOf(values) {
-    return { over: 1, rest: 0, actions: values.slice(0, MOST_VALUES).map((value, index) => ({ name: `guess_${index}`, gains: new Map([[value, 1]]) })) };
+    const actions = values.slice(0, MOST_VALUES).map((value, index) => ({ name: `guess_${index}`, gains: new Map([[value, whole(1)]]) }));
+    return { rest: whole(0), actions };
 }
 
-/** @param {Gains} gains */
-export function jsonOf({ over, rest, actions }) {
-    const listed = actions.map(({ name, gains }) => ({ gains: [...gains], name }));
-    return JSON.stringify({ actions: listed, format: FORMAT, over, rest });
+/**
+ * A table as its file has it: whole numbers over the least common denominator of all.
+ * @param {Gains} gains
+ */
+export function jsonOf({ rest, actions }) {
+    const over = commonDenominator([rest, ...actions.flatMap(({ gains }) => [...gains.values()])]);
+    const number = (/** @type {Fraction} */ f) => String((f.n * over) / f.d);
+    const listed = actions.map(({ name, gains }) => {
+        const pairs = [...gains].map(([value, gain]) => `[${JSON.stringify(value)},${number(gain)}]`);
+        return `{"gains":[${pairs.join()}],"name":${JSON.stringify(name)}}`;
+    });
+    return `{"actions":[${listed.join()}],"format":"${FORMAT}","over":${over},"rest":${number(rest)}}`;
+}
+
+/**
+ * JSON in which each whole number is a BigInt. Other numbers are null, which no table has. It throws where the text is no JSON.
+ * @param {string} json
+ * @returns {any}
+ */
+function exactJson(json) {
+    JSON.parse(json);
+    /** @type {(bigint | null)[]} */
+    const numbers = [];
+    // Each number is replaced by its place in a list, so that none goes through a float.
+    const places = json.replace(JSON_TOKEN, (token) => (token.startsWith("\"") ? token : String(numbers.push(/^-?[0-9]+$/.test(token) ? BigInt(token) : null) - 1)));
+    return JSON.parse(places, (_, value) => (typeof value === "number" ? numbers[value] : value));
 }
 
 /**
@@ -36,80 +68,172 @@ export function jsonOf({ over, rest, actions }) {
  */
 export function gainsOf(json) {
     try {
-        const { actions, over, rest, format } = JSON.parse(json);
-        if (format !== FORMAT || !Number.isInteger(over) || !Number.isInteger(rest) || !Array.isArray(actions)) {
+        const { actions, over, rest, format } = exactJson(json);
+        const isPair = (/** @type {any} */ it) => Array.isArray(it) && it.length === 2 && typeof it[0] === "string" && typeof it[1] === "bigint";
+        const isAction = (/** @type {any} */ it) => typeof it.name === "string" && it.gains.every(isPair);
+        if (format !== FORMAT || typeof over !== "bigint" || over < ONE || typeof rest !== "bigint" || !actions.every(isAction)) {
             return null;
         }
-        return { over, rest, actions: actions.map((/** @type {any} */ it) => ({ name: String(it.name), gains: new Map(it.gains) })) };
+        const read = (/** @type {any} */ { name, gains }) => ({ name, gains: new Map(gains.map((/** @type {[string, bigint]} */ [value, gain]) => [value, lowest(gain, over)])) });
+        return { rest: lowest(rest, over), actions: actions.map(read) };
     } catch (error) {
         return null;
     }
 }
 
 /**
- * The table as fields. Each change calls `onChange` with the new table as JSON.
+ * What is done with a table: its JSON after each change, and where something that is typed isn't taken.
+ * @typedef {object} Changes
+ * @property {(json: string) => void} changed
+ * @property {() => void} notTaken
+ */
+
+/**
+ * A field whose text is taken, or is marked with why it isn't.
+ * @param {Record<string, any>} attributes
+ * @param {(text: string) => string | null} take why the text isn't taken, or null
+ * @param {Changes} changes
+ * @param {() => void} after is called where it was taken
+ */
+function field(attributes, take, changes, after) {
+    const input = element("input", { type: "text", autocomplete: "off", spellcheck: "false", ...attributes, change: () => {
+        const why = take(input.value);
+        input.toggleAttribute("aria-invalid", false);
+        word.hidden = why === null;
+        word.textContent = why || "";
+        if (why !== null) {
+            input.setAttribute("aria-invalid", "true");
+            changes.notTaken();
+        } else {
+            after();
+        }
+    } });
+    const word = element("span", { class: "not-taken", role: "alert", hidden: true });
+    return { input, word };
+}
+
+/**
+ * The table as fields. It keeps what is typed as it is typed, so that the page leaves it where it stands when the answer changes.
  * @param {string} json
  * @param {string[]} values
- * @param {(json: string) => void} onChange
+ * @param {Changes} changes
+ * @returns {{ node: HTMLElement, json: () => string, values: string, isTaken: () => boolean }}
  */
-export function gainEditor(json, values, onChange) {
-    const whole = element("div", { class: "gain-editor" });
-    const area = element("textarea", { rows: "4", spellcheck: "false", "aria-label": "The gain table as JSON", change: () => onChange(area.value) });
+export function gainEditor(json, values, changes) {
+    let now = json;
+    const node = element("div", { class: "gain-editor" });
+    const isTaken = () => node.querySelector("[aria-invalid=\"true\"]") === null;
+    // Another table, which wants other fields.
+    const replace = (/** @type {string} */ text) => {
+        now = "";
+        changes.changed(text);
+    };
+    const area = element("textarea", { rows: "4", spellcheck: "false", "aria-label": "The gain table as JSON", change: () => replace(area.value) });
     area.value = json;
     const asText = element("details", {}, element("summary", {}, "The table as JSON"), area);
     const gains = gainsOf(json);
-    if (gains === null || values.length > MOST_VALUES || gains.actions.length > 60) {
+    if (gains === null || values.length > MOST_VALUES || gains.actions.length > MOST_ACTIONS) {
         asText.open = true;
-        fill(whole, element("p", {}, "This table is edited as JSON."), asText);
-        return whole;
-    }
-    const columns = [...new Set([...values, ...gains.actions.flatMap((action) => [...action.gains.keys()])])];
-    const changed = () => onChange(jsonOf(gains));
-    const number = (/** @type {number} */ value, /** @type {string} */ label, /** @type {(value: number) => void} */ set) => {
-        const input = element("input", { type: "number", step: "1", value: String(value), "aria-label": label, change: () => {
-            if (Number.isInteger(input.valueAsNumber)) {
-                set(input.valueAsNumber);
-                changed();
+        node.append(element("p", {}, "This table is edited as JSON."), asText);
+    } else {
+        const over = element("span", { class: "note" });
+        const say = () => {
+            const common = commonDenominator([gains.rest, ...gains.actions.flatMap((action) => [...action.gains.values()])]);
+            over.textContent = `In the table's file all gains are whole numbers, divided by ${common}.`;
+        };
+        const update = () => {
+            say();
+            if (isTaken()) {
+                now = jsonOf(gains);
+                area.value = now;
+                changes.changed(now);
+            } else {
+                changes.notTaken();
             }
-        } });
-        return input;
-    };
-    const row = (/** @type {Gains["actions"][0]} */ action, /** @type {number} */ index) => {
-        const name = element("input", { type: "text", value: action.name, "aria-label": `name of action ${index + 1}`, change: () => {
-            action.name = name.value;
-            changed();
-        } });
-        const cells = columns.map((value) => {
-            const held = action.gains.get(value);
-            return element("td", {}, number(held === undefined ? gains.rest : held, `gain of ${action.name} at ${value}`, (gain) => {
-                if (gain === gains.rest) {
-                    action.gains.delete(value);
-                } else {
-                    action.gains.set(value, gain);
-                }
-            }));
-        });
+        };
+        say();
+        node.append(...tableOf(gains, values, { ...changes, update, replace, over }), asText);
+    }
+    return { node, json: () => now, values: values.join("\n"), isTaken };
+}
+
+/**
+ * @param {{ name: string }} action
+ * @param {string} value
+ */
+const gainLabel = ({ name }, value) => `gain of ${name} at ${value}`;
+
+/**
+ * @param {Gains["actions"][0]} action
+ * @param {string} value
+ * @param {Fraction} rest
+ * @param {Changes & { update: () => void }} changes
+ */
+function cellOf(action, value, rest, changes) {
+    const held = action.gains.get(value) || rest;
+    const { input, word } = field({ value: printed(held), class: "gain", inputmode: "text", "aria-label": gainLabel(action, value) }, (text) => {
+        const gain = typedFraction(text);
+        if (gain === null) {
+            return "not taken: write a whole number, a fraction such as 1/2, or a decimal";
+        }
+        if (isSame(gain, rest)) {
+            action.gains.delete(value);
+        } else {
+            action.gains.set(value, gain);
+        }
+        return null;
+    }, changes, changes.update);
+    return element("td", {}, input, word);
+}
+
+/**
+ * The rows of a table, and its buttons.
+ * @param {Gains} gains
+ * @param {string[]} values
+ * @param {Changes & { update: () => void, replace: (json: string) => void, over: HTMLElement }} changes
+ */
+function tableOf(gains, values, changes) {
+    const columns = [...new Set([...values, ...gains.actions.flatMap((action) => [...action.gains.keys()])])];
+    const body = element("tbody", {});
+    const removers = () => /** @type {NodeListOf<HTMLButtonElement>} */ (body.querySelectorAll(".remove")).forEach((it) => {
+        it.disabled = gains.actions.length === 1;
+    });
+    const add = (/** @type {Gains["actions"][0]} */ action) => {
+        const { input, word } = field({ value: action.name, "aria-label": `name of action ${action.name}` }, (text) => {
+            const isOther = gains.actions.every((it) => it === action || it.name !== text.trim());
+            if (!NAME.test(text.trim()) || !isOther) {
+                return isOther ? "not taken: letters, digits, _ and - make a name" : "not taken: another action has this name";
+            }
+            action.name = text.trim();
+            remove.setAttribute("aria-label", `Remove ${action.name}`);
+            cells.forEach((cell, index) => cell.getElementsByTagName("input")[0].setAttribute("aria-label", gainLabel(action, columns[index])));
+            return null;
+        }, changes, changes.update);
+        const cells = columns.map((value) => cellOf(action, value, gains.rest, changes));
         const remove = button("Remove", () => {
-            gains.actions.splice(index, 1);
-            changed();
-        }, { "aria-label": `Remove ${action.name}`, disabled: gains.actions.length === 1 });
-        return element("tr", {}, element("th", { scope: "row" }, name), ...cells, element("td", {}, remove));
+            gains.actions.splice(gains.actions.indexOf(action), 1);
+            row.remove();
+            removers();
+            more.focus();
+            changes.update();
+        }, { "aria-label": `Remove ${action.name}`, class: "remove" });
+        const row = element("tr", {}, element("th", { scope: "row" }, input, word), ...cells, element("td", {}, remove));
+        body.append(row);
+        removers();
     };
-    const heads = ["action", ...columns, ""].map((it) => element("th", { scope: "col" }, it));
-    const shown = element("table", {}, element("caption", {}, "What each action gains at each value"), element("thead", {}, element("tr", {}, ...heads)),
-        element("tbody", {}, ...gains.actions.map(row)));
-    const add = button("Add an action", () => {
+    gains.actions.forEach(add);
+    const more = button("Add an action", () => {
         let count = gains.actions.length;
         while (gains.actions.some(({ name }) => name === `action_${count}`)) {
             count += 1;
         }
-        gains.actions.push({ name: `action_${count}`, gains: new Map() });
-        changed();
+        const action = { name: `action_${count}`, gains: new Map() };
+        gains.actions.push(action);
+        add(action);
+        changes.update();
     });
-    const again = button("Begin anew", () => onChange(jsonOf(guessOf(values))));
-    fill(whole, element("div", { class: "scroll", tabindex: "0", role: "region", "aria-label": "Gain table" }, shown),
-        element("p", {}, add, " ", again, " ", element("label", {}, "all gains divided by ", number(gains.over, "divisor", (over) => {
-            gains.over = over;
-        }))), asText);
-    return whole;
+    const again = button("Begin anew", () => changes.replace(jsonOf(guessOf(values))));
+    const heads = ["action", ...columns, ""].map((it) => element("th", { scope: "col" }, it));
+    const shown = element("table", {}, element("caption", {}, "What each action gains at each value"), element("thead", {}, element("tr", {}, ...heads)), body);
+    return [element("div", { class: "scroll", tabindex: "0", role: "region", "aria-label": "Gain table" }, shown), element("p", {}, more, " ", again, " ", changes.over)];
 }

@@ -4,7 +4,7 @@ import { element, table } from "./elements.mjs";
 import { linesOf, trailOf } from "./answers.mjs";
 import { NOTHING, decimal, difference, fractionOf, isNone, printed, product, shown } from "./fractions.mjs";
 import { TABLE, USUAL } from "./gains.mjs";
-import { characterAt, statementLines } from "./programs.mjs";
+import { isLong, statementLines, statementsOf } from "./programs.mjs";
 
 /** @typedef {import("./fractions.mjs").Fraction} Fraction */
 /**
@@ -27,8 +27,12 @@ import { characterAt, statementLines } from "./programs.mjs";
 const LEVELS = 4;
 /** The most characters of a fraction in the margin. */
 const LONGEST = 8;
+/** The most characters of an answer that are shown as they are. */
+const MOST_SHOWN = 4000;
 /** The most lines of a text that are shown. */
 const MOST_LINES = 1000;
+/** The most statements that are coloured, and listed with what is lost without them. */
+const MOST_ROWS = 2000;
 
 /**
  * The word for a gain on the command line.
@@ -99,13 +103,32 @@ function rowsOf(out, measure) {
 }
 
 /**
+ * Whether an answer has more lines than are coloured.
+ * @param {string} out
+ */
+function isMuch(out) {
+    let at = -1;
+    for (let count = 0; count <= MOST_ROWS + 1; count += 1) {
+        at = out.indexOf("\n", at + 1);
+        if (at < 0) {
+            return false;
+        }
+    }
+    return true;
+}
+
+/**
  * The rows of each line, by the line.
  * @param {Row[]} rows
  */
 function byLine(rows) {
     /** @type {Map<number, Row[]>} */
     const found = new Map();
-    rows.forEach((row) => found.set(row.line, [...(found.get(row.line) || []), row]));
+    rows.forEach((row) => {
+        const own = found.get(row.line) || [];
+        own.push(row);
+        found.set(row.line, own);
+    });
     return found;
 }
 
@@ -116,6 +139,9 @@ function byLine(rows) {
  * @returns {Mark[]}
  */
 export function marksOf(out, measure) {
+    if (isMuch(out)) {
+        return [];
+    }
     return [...byLine(rowsOf(out, measure).rows)].map(([line, own]) => {
         const most = own.reduce((best, row) => (row.level > best.level || (!best.isBlamed && row.isBlamed) ? row : best));
         return { line, text: most.mark, title: own.map(({ title }) => title).join("; "), isBlamed: most.isBlamed, level: most.level };
@@ -133,7 +159,7 @@ function legend(greatest, { lost }) {
     const steps = isNone(greatest) ? [] : Array.from({ length: LEVELS }, (_, index) => index + 1);
     const entry = (/** @type {number} */ level, /** @type {any[]} */ ...said) => element("li", { class: `leak-${level}` }, bar(level), " ", ...said);
     return element("ul", { class: "legend", "aria-label": "What the colours of lines mean" },
-        entry(0, "0: shows nothing that others don't show too, which isn't that it shows nothing"),
+        entry(0, "0: worth nothing beside the others"),
         ...steps.map((level) => {
             const most = product(greatest, { n: BigInt(level), d: BigInt(LEVELS) });
             return entry(level, "up to ", shown(printed(most)), ` ${lost}${level === LEVELS ? ", the most" : ""}`);
@@ -177,13 +203,14 @@ function chooser({ measure, gain, setMeasure }) {
  * @param {string[]} counts
  */
 function trailTable(text, counts) {
-    const starts = statementLines(text);
+    const starts = isLong(text) ? [] : statementLines(text);
     const source = text.split("\n");
-    const rows = counts.map((count, index) => {
+    const rows = counts.slice(0, MOST_ROWS).map((count, index) => {
         const line = index > 0 && starts.length === counts.length - 1 ? element("code", {}, source[starts[index - 1]].trim()) : "";
         return [index === 0 ? "the declarations" : `statement ${index - 1}`, line, count];
     });
-    return table("How many posteriors of all variables there are", ["after", "line", "posteriors"], rows);
+    const cut = counts.length > rows.length ? ` (the first ${rows.length} of ${counts.length})` : "";
+    return table(`How many posteriors of all variables there are${cut}`, ["after", "line", "posteriors"], rows);
 }
 
 /** @param {import("./views.mjs").Context} context */
@@ -198,19 +225,26 @@ export async function linesView(context) {
         const refused = element("div", { class: "refusal" }, element("h3", {}, "The gain is refused"), element("pre", { class: "terminal" }, outcome.err));
         return [chooser(context), refused];
     }
+    if (isMuch(outcome.out) || isLong(text)) {
+        return [chooser(context), element("p", { class: "note" }, "This text is too long for colours. The first lines of the answer are:"),
+            element("pre", { class: "terminal" }, outcome.out.slice(0, MOST_SHOWN))];
+    }
     const { all, rows, greatest } = rowsOf(outcome.out, measure);
     const names = namesOf(measure);
-    const source = text.split("\n");
+    const statement = statementsOf(text);
     const heads = ["place", "statement", "inners without it", `${names.name} without it`, `${names.so} ${names.lost}`];
     const cells = rows.map(({ line, column, inners, posterior, loss }) => [
-        `${line + 1}:${column}`, element("code", {}, source[line].slice(characterAt(source[line], column)).trim()), inners, shown(posterior),
+        `${line + 1}:${column}`, element("code", {}, statement(line, column)), inners, shown(posterior),
         shown(printed(loss)),
     ]);
     return [
         chooser(context),
         element("p", {}, `As it is, the hyper has ${all.inners} inners, and ${names.whole}`, shown(all.posterior),
             `. Beside a line stands ${names.beside} if the statement that begins there alone showed nothing, wherever it stands.`),
-        rows.length > 0 && legend(greatest, names), listing(text, rows, names),
+        rows.length > 0 && legend(greatest, names),
+        rows.some(({ loss }) => isNone(loss)) && element("p", { class: "note" }, "To this adversary a line with the number of ", element("code", {}, "all"),
+            " is worth nothing beside the others. It may show something all the same: alone, together with others, or to another adversary."),
+        listing(text, rows, names),
         rows.length > 1 && isNone(greatest) && element("p", { class: "note" },
             "No statement alone is to blame. Where two show the same, neither has other numbers than all."),
         table("Which statement leaks", heads, cells), trailTable(text, trail),

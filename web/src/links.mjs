@@ -1,21 +1,24 @@
-// What the part of an address after # says: a state of the page, or a lesson or study of its own. Nothing of it is sent to a server. A link that
-// can't be read is refused as a whole.
+// What the part of an address after # says: a state of the page, or a lesson, study or page of its own. Nothing of it is sent to a server. A link
+// that can't be read is refused as a whole.
 import { TABLE, USUAL } from "./gains.mjs";
+import { MOST_TURNS, OWN, USUAL_TURNS, VIEWS } from "./questions.mjs";
 
-/**
- * What the page asks: two texts (the second one may be missing), which view, about which of the two, a gain table, the gain under which lines are
- * compared, and words typed by hand.
- * @typedef {{ a: string, b: string | null, view: string, of: string, gain: string | null, measure: string, words: string | null, page: string | null }} State
- */
+/** @typedef {import("./questions.mjs").State} State */
 /** @typedef {{ kind: "nothing" } | { kind: "unreadable", why: string } | { kind: "state", state: State } | { kind: "page", page: string }} Link */
 
-export const VIEWS = ["hyper", "channel", "leak", "traces", "lines", "refine", "command"];
 const SHAPE = /^#kf1\.([A-Za-z0-9_-]*)$/;
 const PAGE = /^#((?:lesson|study|page)\/[A-Za-z0-9_-]+)$/;
-/** The parts of a link; one that was made before lines could be compared under a gain has no measure. */
-const SHAPES = ["a,b,gain,measure,of,page,view,words", "a,b,gain,of,page,view,words"];
+/** The page's own anchors, which are no links to anything else. */
+const ANCHORS = ["", "#", "#answer"];
+/** The name of a file that a link carries. */
+const NAME = /^[A-Za-z0-9][A-Za-z0-9_./-]*$/;
+/** What each link has, and what older ones may lack, with what they mean by that. */
+const PARTS = ["a", "b", "gain", "of", "page", "view", "words"];
+const LATER = { measure: "bayes", turns: USUAL_TURNS, kept: {} };
 /** The most bytes of a state: two programs and a table, each as long as a file may be. */
 const MOST = 4 << 20;
+/** The most characters of a link: browsers and fields take as much without delay. */
+export const LONGEST = 1 << 18;
 
 /**
  * @param {ReadableStream<Uint8Array>} stream
@@ -58,14 +61,23 @@ function base64(bytes) {
     return btoa(text).replace(/\+/g, "-").replace(/\//g, "_").replace(/=+$/, "");
 }
 
+/** @param {State} state */
+async function packed(state) {
+    const whole = new TextEncoder().encode(JSON.stringify(state));
+    const Stream = /** @type {any} */ (globalThis).CompressionStream;
+    return `#kf1.${base64(await sent(whole, new Stream("deflate-raw")))}`;
+}
+
 /**
+ * A link to a state, with its #, or null where it is too long for an address. Files that were kept and make it too long are left out, and named.
  * @param {State} state
- * @returns {Promise<string>} with its #
+ * @returns {Promise<{ link: string | null, without: string[] }>}
  */
 export async function linkOf(state) {
-    const whole = new TextEncoder().encode(JSON.stringify(state));
-    const Stream = /** @type {any} */ (window).CompressionStream;
-    return `#kf1.${base64(await sent(whole, new Stream("deflate-raw")))}`;
+    const whole = await packed(state);
+    const without = whole.length > LONGEST ? Object.keys(state.kept) : [];
+    const link = without.length > 0 ? await packed({ ...state, kept: {} }) : whole;
+    return link.length > LONGEST ? { link: null, without: [] } : { link, without };
 }
 
 /**
@@ -79,26 +91,43 @@ function wantText(it, name, mayMiss) {
     }
 }
 
+/** @param {any} kept */
+function areFiles(kept) {
+    return typeof kept === "object" && kept !== null && !Array.isArray(kept)
+        && Object.entries(kept).every(([name, text]) => NAME.test(name) && !OWN.includes(name) && typeof text === "string");
+}
+
+/** @param {State} state */
+const isKnownGain = ({ measure, gain }) => (measure === TABLE ? gain !== null : USUAL.some(([word]) => word === measure));
+
 /**
  * @param {any} it
  * @returns {State}
  */
 function checked(it) {
-    if (typeof it !== "object" || it === null || !SHAPES.includes(Object.keys(it).sort().join())) {
+    const names = typeof it !== "object" || it === null ? [] : Object.keys(it);
+    if (!PARTS.every((name) => names.includes(name)) || !names.every((name) => [...PARTS, ...Object.keys(LATER)].includes(name))) {
         throw new Error("it has other parts than a link has");
     }
-    ["a", "view", "of"].forEach((name) => wantText(it, name, false));
-    ["b", "gain", "words", "page"].forEach((name) => wantText(it, name, true));
-    if (!VIEWS.includes(it.view) || !["a", "b"].includes(it.of) || (it.of === "b" && it.b === null)) {
+    const state = { ...LATER, ...it };
+    ["a", "view", "of"].forEach((name) => wantText(state, name, false));
+    ["b", "gain", "words", "page"].forEach((name) => wantText(state, name, true));
+    if (!VIEWS.some(({ name }) => name === state.view) || !["a", "b"].includes(state.of) || (state.of === "b" && state.b === null)) {
         throw new Error("it asks what the page doesn't know");
     }
-    if ("measure" in it && !(it.measure === TABLE ? it.gain !== null : USUAL.some(([gain]) => gain === it.measure))) {
+    if (!isKnownGain(state)) {
         throw new Error("it names no gain that the page knows");
     }
-    if (it.page !== null && !PAGE.test(`#${it.page}`)) {
+    if (!Number.isInteger(state.turns) || state.turns < 1 || state.turns > MOST_TURNS) {
+        throw new Error("it has no number of turns");
+    }
+    if (!areFiles(state.kept)) {
+        throw new Error("it has other files than a link has");
+    }
+    if (state.page !== null && !PAGE.test(`#${state.page}`)) {
         throw new Error("it names no page");
     }
-    return { measure: "bayes", ...it };
+    return state;
 }
 
 /**
@@ -106,7 +135,7 @@ function checked(it) {
  * @returns {Promise<Link>}
  */
 export async function linkFrom(hash) {
-    if (hash === "" || hash === "#") {
+    if (ANCHORS.includes(hash)) {
         return { kind: "nothing" };
     }
     const page = PAGE.exec(hash);
@@ -118,9 +147,9 @@ export async function linkFrom(hash) {
         if (found === null) {
             throw new Error("it isn't one of this page");
         }
-        const packed = Uint8Array.from(atob(found[1].replace(/-/g, "+").replace(/_/g, "/")), (it) => it.charCodeAt(0));
-        const Stream = /** @type {any} */ (window).DecompressionStream;
-        const whole = await sent(packed, new Stream("deflate-raw"));
+        const bytes = Uint8Array.from(atob(found[1].replace(/-/g, "+").replace(/_/g, "/")), (it) => it.charCodeAt(0));
+        const Stream = /** @type {any} */ (globalThis).DecompressionStream;
+        const whole = await sent(bytes, new Stream("deflate-raw"));
         return { kind: "state", state: checked(JSON.parse(new TextDecoder("utf-8", { fatal: true }).decode(whole))) };
     } catch (error) {
         return { kind: "unreadable", why: error instanceof Error ? error.message : String(error) };

@@ -1,19 +1,22 @@
 // The page: what is asked, of which texts, and where answers, refusals and failures are shown.
 import { createAsker } from "./asker.mjs";
 import { createEditor } from "./editor.mjs";
-import { button, byId, element, fill } from "./elements.mjs";
+import { button, byId, element, fill, fillAround } from "./elements.mjs";
 import { refusalOf } from "./answers.mjs";
 import { explanationOf, library } from "./library.mjs";
-import { linkFrom, linkOf } from "./links.mjs";
-import { targetOf } from "./programs.mjs";
-import { measureOf, namesIn, viewOf } from "./commands.mjs";
+import { LONGEST, linkFrom, linkOf } from "./links.mjs";
+import { isLong, targetOf } from "./programs.mjs";
+import { filesOf, measureOf, namesIn, sentWords, typedWords, viewOf } from "./commands.mjs";
+import { gainEditor } from "./gains.mjs";
+import { MOST_TURNS, OWN, USUAL_TURNS, VIEWS, opened, tabOf, turnsIn } from "./questions.mjs";
 import { show } from "./reader.mjs";
 import { channelView, commandView, hyperView, leakView, tracesView } from "./views.mjs";
 import { gainWord, linesView, marksOf } from "./lines.mjs";
 import { refineView } from "./refinement.mjs";
 import { about, contents } from "./panels.mjs";
 
-/** @typedef {import("./links.mjs").State} State */
+/** @typedef {import("./questions.mjs").State} State */
+/** @typedef {import("./questions.mjs").ViewName} ViewName */
 /** @typedef {import("./asker.mjs").Outcome} Outcome */
 
 const FIRST = `# No line shows anything, but an observer sees which branch is taken.
@@ -22,9 +25,8 @@ var y : 0..1 := 0;
 about old h;
 if h = 2 { y := 1; } else { y := 0; }
 `;
-/** @type {[string, string][]} */
-const TABS = [["hyper", "Hyper"], ["channel", "Channel"], ["leak", "Vulnerability"], ["traces", "Traces"], ["lines", "Lines"], ["refine", "Two texts"], ["command", "Command"]];
-/** @type {Record<string, (context: any) => Promise<any[]>>} */
+const TABS = VIEWS.filter(({ title }) => title !== "");
+/** @type {Record<ViewName, (context: any) => Promise<any[]>>} */
 const SHOW = {
     hyper: hyperView, channel: channelView, leak: leakView, traces: tracesView, lines: linesView, command: commandView,
     refine: (context) => refineView(context, "refine"), covers: (context) => refineView(context, "covers"),
@@ -32,14 +34,17 @@ const SHOW = {
 const WAIT = 150;
 
 /** @type {State} */
-const state = { a: FIRST, b: null, view: "hyper", of: "a", gain: null, measure: "bayes", words: null, page: null };
+const state = { a: FIRST, b: null, view: "hyper", of: "a", gain: null, measure: "bayes", words: null, page: null, turns: USUAL_TURNS, kept: {} };
 /**
- * The files of the page that is read, and those that a view made.
+ * The files of the page that is read.
  * @type {Record<string, string>}
  */
 let readFiles = {};
-/** @type {Record<string, string>} */
-const made = {};
+/**
+ * The fields of the gain table, where they are seen.
+ * @type {ReturnType<typeof gainEditor> | null}
+ */
+let gainFields = null;
 let epoch = 0;
 let isSetting = false;
 /** @type {any} */
@@ -78,15 +83,18 @@ const say = (text) => {
 
 // Files and questions.
 
-/** The files that a command may name. */
-async function filesNow() {
-    const all = { ...(await library()).files, ...readFiles, ...made, "a.kf": state.a };
-    const withB = state.b === null ? all : { ...all, "b.kf": state.b };
-    return state.gain === null ? withB : { ...withB, "gain.json": state.gain };
+/**
+ * What stands in the editors and in the gain table, by the names that commands have for it.
+ * @returns {Record<string, string>}
+ */
+function ownFiles() {
+    /** @type {[string, string | null][]} */
+    const own = [["a.kf", state.a], ["b.kf", state.b], ["gain.json", state.gain]];
+    return Object.fromEntries(/** @type {[string, string][]} */ (own.filter(([, text]) => text !== null)));
 }
 
-/** @param {string[]} words */
-const withTurns = (words) => (byId("turns").value === "1024" || words.includes("--turns") ? words : [...words, "--turns", byId("turns").value]);
+/** The files that a command may name. What was kept, or came with a link, takes the place of no other. */
+const filesNow = async () => ({ ...state.kept, ...(await library()).files, ...readFiles, ...ownFiles() });
 
 /**
  * The newest answer about lines, by its question: the margin has the same as the view.
@@ -100,16 +108,15 @@ const known = { question: "", outcome: null };
  * @param {Record<string, string> | null} files
  */
 async function ask(words, files) {
-    const own = { "a.kf": state.a, "b.kf": state.b === null ? "" : state.b };
     const { programs, tables } = namesIn(words);
-    const names = [...programs, ...tables];
-    const all = files !== null ? files : names.every((name) => name in own) ? own : await filesNow();
-    const named = Object.fromEntries(names.filter((name) => name in all).map((name) => [name, /** @type {Record<string, string>} */ (all)[name]]));
+    const isOwn = [...programs, ...tables].every((name) => OWN.includes(name));
+    const named = filesOf(words, files !== null ? files : isOwn ? ownFiles() : await filesNow());
+    const sent = sentWords(words, state.turns);
     if (words[0] !== "lines") {
-        return asker.ask(withTurns(words), named);
+        return asker.ask(sent, named);
     }
-    const question = JSON.stringify([withTurns(words), named]);
-    const outcome = known.question === question && known.outcome !== null ? known.outcome : await asker.ask(withTurns(words), named);
+    const question = JSON.stringify([sent, named]);
+    const outcome = known.question === question && known.outcome !== null ? known.outcome : await asker.ask(sent, named);
     Object.assign(known, outcome.kind === "answer" ? { question, outcome } : { question: "", outcome: null });
     return outcome;
 }
@@ -146,23 +153,19 @@ function contextOf(mine) {
             return outcome.out;
         },
         file: `${state.of}.kf`, text: state.of === "a" ? state.a : state.b, hasSecond: state.b !== null, gain: state.gain, measure: state.measure, words: state.words,
-        keep, failure,
-        setGain(/** @type {string} */ json) {
-            state.gain = json;
-            refresh();
-        },
+        keep, failure, kept: Object.keys(state.kept), sent: (/** @type {string[]} */ words) => sentWords(words, state.turns), gainEditor: fieldsOf, addSecond,
         setMeasure(/** @type {string} */ measure) {
             state.measure = measure;
             refresh();
         },
         setSeparation(/** @type {string} */ json) {
-            made["separation.json"] = json;
+            state.kept = { ...state.kept, "separation.json": json };
         },
         setWords(/** @type {string} */ words) {
             state.words = words;
             refresh();
         },
-        setView(/** @type {string} */ view) {
+        setView(/** @type {ViewName} */ view) {
             state.view = view;
             refresh();
         },
@@ -170,12 +173,30 @@ function contextOf(mine) {
 }
 
 /**
+ * The fields of a gain table: those that are seen, where they are of this table, with what is typed in them.
+ * @param {string} json
+ * @param {string[]} values
+ */
+function fieldsOf(json, values) {
+    if (gainFields === null || gainFields.json() !== json || gainFields.values !== values.join("\n")) {
+        const changes = { changed: (/** @type {string} */ text) => {
+            state.gain = text;
+            refresh();
+        }, notTaken: refresh };
+        gainFields = gainEditor(json, values, changes);
+    }
+    return gainFields;
+}
+
+const addSecond = () => take({ b: state.a, view: "refine" });
+
+/**
  * Hands a file to whoever reads the page.
  * @param {string} name
  * @param {string} text
  */
 function keep(name, text) {
-    made[name] = text;
+    state.kept = { ...state.kept, [name]: text };
     const address = URL.createObjectURL(new Blob([text], { type: "text/plain" }));
     const link = element("a", { href: address, download: name });
     link.click();
@@ -251,7 +272,7 @@ function showTarget() {
  */
 async function blame(mine, name, isAnswered) {
     const text = state[name];
-    if (text === null || !isAnswered || !byId("margin").checked || mine !== epoch) {
+    if (text === null || !isAnswered || !byId("margin").checked || mine !== epoch || isLong(text)) {
         editors[name].blame([]);
         return;
     }
@@ -281,6 +302,8 @@ async function refresh() {
     const from = performance.now();
     const answer = byId("answer");
     answer.setAttribute("aria-busy", "true");
+    byId("target").classList.add("old");
+    gainFields = state.view === "leak" ? gainFields : null;
     delete document.body.dataset.settled;
     Object.values(editors).forEach((editor) => editor.clear());
     let isAnswered = false;
@@ -291,7 +314,7 @@ async function refresh() {
             if (state.view !== "command") {
                 showTarget();
             }
-            fill(answer, ...nodes);
+            fillAround(answer, ...nodes);
             say(`Answered in ${Math.round(performance.now() - from)} ms.`);
             isAnswered = true;
         }
@@ -302,6 +325,7 @@ async function refresh() {
     }
     if (mine === epoch) {
         answer.setAttribute("aria-busy", "false");
+        byId("target").classList.remove("old");
         settle(String(mine));
         await blame(mine, "a", isAnswered);
         await blame(mine, "b", isAnswered);
@@ -313,13 +337,13 @@ async function showFailure(error) {
     const answer = byId("answer");
     fill(byId("target"));
     if (!(error instanceof NoAnswer)) {
-        fill(answer, element("div", { class: "failure" }, element("h3", {}, "The page failed"), element("p", {}, String(error))));
+        fillAround(answer, element("div", { class: "failure" }, element("h3", {}, "The page failed"), element("p", {}, String(error))));
         say("");
     } else if (error.outcome.kind === "answer") {
-        fill(answer, await refusal(error.outcome));
+        fillAround(answer, await refusal(error.outcome));
         say(`Refused, status ${error.outcome.status}.`);
     } else {
-        fill(answer, failure(error.outcome));
+        fillAround(answer, failure(error.outcome));
         say({ memory: "Want of memory.", trap: "A trap.", stopped: "Stopped." }[error.outcome.kind]);
     }
 }
@@ -327,12 +351,13 @@ async function showFailure(error) {
 // The parts of the page that follow the state.
 
 function shape() {
-    const tab = state.view === "covers" ? "refine" : state.view;
-    TABS.forEach(([view]) => {
-        const it = byId(`tab-${view}`);
-        it.setAttribute("aria-selected", String(view === tab));
-        it.tabIndex = view === tab ? 0 : -1;
+    const tab = tabOf(state.view);
+    TABS.forEach(({ name }) => {
+        const it = byId(`tab-${name}`);
+        it.setAttribute("aria-selected", String(name === tab));
+        it.tabIndex = name === tab ? 0 : -1;
     });
+    byId("turns").value = String(state.turns);
     byId("answer").setAttribute("aria-labelledby", `tab-${tab}`);
     byId("second").hidden = state.b === null;
     document.body.classList.toggle("comparing", state.b !== null);
@@ -377,7 +402,7 @@ function open(name, text) {
     if (name.endsWith(".json")) {
         take({ gain: text, view: "leak" });
     } else {
-        take({ a: text, of: "a", view: state.view === "command" ? "hyper" : state.view });
+        take({ ...opened(state, text), view: state.view === "command" ? "hyper" : state.view });
     }
     editors.a.focus();
 }
@@ -390,15 +415,31 @@ function run(words) {
     const { view, programs, tables } = viewOf(words);
     library().then(({ files }) => {
         const all = { ...files, ...readFiles };
+        const first = programs.length > 0 ? opened(state, all[programs[0]]) : {};
         if (view === "command") {
-            take({ view, words: words.join(" "), ...(programs.length > 0 ? { a: all[programs[0]], of: "a" } : {}) });
+            take({ ...first, view, words: words.join(" ") });
         } else {
-            const second = programs.length > 1 ? all[programs[1]] : state.b;
-            const gain = tables.length > 0 ? all[tables[0]] : state.gain;
-            take({ view: words[0] === "covers" ? "covers" : view, a: all[programs[0]], b: second, of: "a", gain, measure: view === "lines" ? measureOf(words) : state.measure });
+            const second = programs.length > 1 ? { b: all[programs[1]] } : {};
+            const gain = tables.length > 0 ? { gain: all[tables[0]] } : {};
+            take({ ...first, ...second, ...gain, view, ...(view === "lines" ? { measure: measureOf(words) } : {}) });
         }
     });
 }
+
+// Addresses. Each entry of the browser's history says which page was open, and which link began the texts. Texts are as they were left, so that
+// to go back loses nothing that was typed.
+
+/** Entries of an earlier load say nothing: its texts are gone. */
+const LOAD = performance.timeOrigin;
+let origin = 0;
+/** @type {Map<number, State>} */
+const leftStates = new Map();
+
+/** @param {string | null} page */
+const entryOf = (page) => ({ load: LOAD, origin, page });
+
+/** The address without what stands after #. */
+const bareAddress = () => location.pathname + location.search;
 
 /**
  * Shows a lesson, a study or a page, and gives it an address, to which the browser goes back.
@@ -407,7 +448,7 @@ function run(words) {
  */
 function read(page, heading) {
     if (location.hash !== `#${page}`) {
-        history.pushState(null, "", `#${page}`);
+        history.pushState(entryOf(page), "", `#${page}`);
     }
     return showPage(page, heading);
 }
@@ -415,13 +456,14 @@ function read(page, heading) {
 /**
  * @param {string} page
  * @param {string} heading
+ * @returns {Promise<boolean>} whether there is such a page
  */
 async function showPage(page, heading) {
     const reader = byId("reader");
     const files = show(byId("reader-text"), await library(), { show: read, open, run, ask, program: () => state.a }, page, heading);
     if (files === null) {
         refuseLink("it names no lesson, study or page of this version");
-        return;
+        return false;
     }
     readFiles = files;
     state.page = page;
@@ -430,45 +472,94 @@ async function showPage(page, heading) {
     closePanels();
     byId("reader-text").focus({ preventScroll: true });
     editors.a.refresh();
+    return true;
 }
 
+function closePage() {
+    byId("reader").hidden = true;
+    document.body.classList.remove("reading");
+    state.page = null;
+    editors.a.refresh();
+}
+
+const SHOWN = "main, header nav";
+
 /**
- * Says that a link can't be read, and shows nothing else.
+ * Says that a link can't be read, and shows nothing else. Texts that were there stay where they are, unseen.
  * @param {string} why
  */
 function refuseLink(why) {
     epoch += 1;
     asker.stop();
-    document.querySelectorAll("main, header nav, #contents, #settings, #about, #link-box").forEach((it) => {
+    document.querySelectorAll(`${SHOWN}, #contents, #settings, #about, #link-box`).forEach((it) => {
         /** @type {HTMLElement} */ (it).hidden = true;
     });
     const message = byId("message");
     message.hidden = false;
-    fill(message, element("p", {}, `This link can't be read: ${why}. Nothing of it is shown.`), element("p", {}, element("a", { href: "." , click: anew }, "Begin anew")));
+    fill(message, element("p", {}, `This link can't be read: ${why}. Nothing of it is shown.`), element("p", {}, element("a", { href: "." , click: goOn }, "Go on without it")));
     settle("refused");
 }
 
+/** Shows again what a refused link hid. */
+function showAgain() {
+    byId("message").hidden = true;
+    document.querySelectorAll(SHOWN).forEach((it) => {
+        /** @type {HTMLElement} */ (it).hidden = false;
+    });
+}
+
 /** @param {Event} event */
-function anew(event) {
+function goOn(event) {
     event.preventDefault();
-    history.replaceState(null, "", location.pathname + location.search);
-    location.reload();
+    history.replaceState(entryOf(state.page), "", bareAddress());
+    showAgain();
+    take({});
+}
+
+/**
+ * Goes to an entry of the history that this page made.
+ * @param {ReturnType<typeof entryOf>} entry
+ */
+async function comeBack(entry) {
+    showAgain();
+    const isOther = entry.origin !== origin;
+    if (isOther) {
+        leftStates.set(origin, { ...state });
+        origin = entry.origin;
+    }
+    const { page } = entry;
+    if (page === null) {
+        closePage();
+    } else if (!(await showPage(page, ""))) {
+        return;
+    }
+    await take(isOther ? { ...leftStates.get(origin), page } : {});
 }
 
 async function follow() {
-    const link = await linkFrom(location.hash);
-    if (link.kind === "unreadable") {
-        refuseLink(link.why);
+    if (history.state !== null && history.state.load === LOAD) {
+        await comeBack(history.state);
         return;
     }
-    if (link.kind === "page") {
-        await Promise.all([showPage(link.page, ""), document.body.dataset.settled === undefined ? take({}) : null]);
+    const found = await linkFrom(location.hash);
+    if (found.kind === "unreadable") {
+        refuseLink(found.why);
         return;
     }
-    await take(link.kind === "state" ? link.state : {});
-    if (link.kind === "state" && link.state.page !== null) {
-        await showPage(link.state.page, "");
+    showAgain();
+    if (found.kind === "state") {
+        leftStates.set(origin, { ...state });
+        origin = leftStates.size;
     }
+    const page = found.kind === "page" ? found.page : found.kind === "state" ? found.state.page : null;
+    history.replaceState(entryOf(page), "");
+    // What the page shows is there before a command asks for it.
+    if (page === null) {
+        closePage();
+    } else if (!(await showPage(page, ""))) {
+        return;
+    }
+    await take(found.kind === "state" ? found.state : {});
 }
 
 // Buttons.
@@ -503,17 +594,18 @@ function onPanel(name, panel, children) {
 }
 
 function tabs() {
-    fill(byId("tabs"), ...TABS.map(([view, name], index) => element("button", {
-        type: "button", role: "tab", id: `tab-${view}`, "aria-controls": "answer", click: () => take({ view }),
+    fill(byId("tabs"), ...TABS.map(({ name, title }, index) => element("button", {
+        type: "button", role: "tab", id: `tab-${name}`, "aria-controls": "answer", click: () => take({ view: name }),
         keydown: (/** @type {KeyboardEvent} */ event) => {
-            const step = { ArrowRight: 1, ArrowLeft: -1 }[event.key];
-            if (step !== undefined) {
-                const [to] = TABS[(index + step + TABS.length) % TABS.length];
-                take({ view: to });
-                byId(`tab-${to}`).focus();
+            const place = { ArrowRight: index + 1, ArrowLeft: index - 1 + TABS.length, Home: 0, End: TABS.length - 1 }[event.key];
+            if (place !== undefined) {
+                event.preventDefault();
+                const to = TABS[place % TABS.length];
+                take({ view: to.name });
+                byId(`tab-${to.name}`).focus();
             }
         },
-    }, name)));
+    }, title)));
 }
 
 async function showLink() {
@@ -521,8 +613,19 @@ async function showLink() {
         say("This browser is too old to make a link.");
         return;
     }
-    const link = await linkOf({ ...state });
-    history.replaceState(null, "", link);
+    const { files } = await library();
+    const kept = filesOf(typedWords(state.words || ""), { ...state.kept, ...readFiles });
+    const own = Object.fromEntries(Object.entries(kept).filter(([name]) => !Object.keys(files).includes(name)));
+    const made = await linkOf({ ...state, kept: own });
+    if (made.link === null) {
+        byId("link-box").hidden = true;
+        say(`No link is made: it would have more than ${LONGEST} characters, too many for an address.`);
+        return;
+    }
+    history.replaceState(entryOf(state.page), "", made.link);
+    const missing = made.without.length > 0 && `${listed(made.without)} ${made.without.length > 1 ? "are" : "is"} too long for an address: `
+        + "the command that this link carries names what it hasn't. Hand the file out, too.";
+    fill(byId("link-note"), missing);
     byId("link-field").value = location.href;
     byId("link-box").hidden = false;
     byId("link-field").select();
@@ -531,17 +634,22 @@ async function showLink() {
 function buttons() {
     byId("stop").addEventListener("click", () => asker.stop());
     byId("compare").addEventListener("click", () => {
-        const isAboutTwo = state.view === "covers" || state.view === "refine";
-        return state.b === null ? take({ b: state.a, view: "refine" }) : take({ b: null, of: "a", view: isAboutTwo ? "hyper" : state.view });
+        const isAboutTwo = tabOf(state.view) === "refine";
+        return state.b === null ? addSecond() : take({ b: null, of: "a", view: isAboutTwo ? "hyper" : state.view });
     });
     byId("swap").addEventListener("click", () => take({ a: state.b === null ? "" : state.b, b: state.a }));
     byId("of-a").addEventListener("click", () => take({ of: "a" }));
     byId("of-b").addEventListener("click", () => take({ of: "b" }));
     byId("reader-close").addEventListener("click", () => {
-        byId("reader").hidden = true;
-        document.body.classList.remove("reading");
-        state.page = null;
+        closePage();
+        if (!location.hash.startsWith("#kf1.")) {
+            history.pushState(entryOf(null), "", bareAddress());
+        }
         editors.a.focus();
+    });
+    byId("skip").addEventListener("click", (/** @type {Event} */ event) => {
+        event.preventDefault();
+        byId("answer").focus();
     });
     byId("link-button").addEventListener("click", showLink);
     byId("link-close").addEventListener("click", () => {
@@ -559,7 +667,15 @@ function buttons() {
         event.target.value = "";
     });
     byId("margin").addEventListener("change", refresh);
-    byId("turns").addEventListener("change", refresh);
+    byId("turns").addEventListener("change", () => {
+        const turns = turnsIn(byId("turns").value);
+        if (turns !== null) {
+            take({ turns });
+        } else {
+            byId("turns").value = String(state.turns);
+            say(`A loop may have 1 to ${MOST_TURNS} turns: it stays at ${state.turns}.`);
+        }
+    });
     byId("theme").addEventListener("change", () => {
         document.documentElement.dataset.theme = byId("theme").value;
     });

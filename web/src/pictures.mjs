@@ -4,7 +4,8 @@ import { select } from "d3-selection";
 import { scaleLinear } from "d3-scale";
 import { interpolateBlues, interpolateCividis } from "d3-scale-chromatic";
 import { linkHorizontal } from "d3-shape";
-import { NOTHING, fractionOf, near, printed, product, sum } from "./fractions.mjs";
+import { priorOf } from "./answers.mjs";
+import { NOTHING, fractionOf, near } from "./fractions.mjs";
 
 /** @typedef {import("./answers.mjs").Groups} Groups */
 
@@ -70,26 +71,6 @@ function addLabels(drawing, labels) {
     drawing.append("g").selectAll("text").data(labels).enter().append("text").attr("x", (/** @type {any} */ it) => it.x)
         .attr("y", (/** @type {any} */ it) => it.y).attr("class", (/** @type {any} */ it) => (it.isStrong ? "label strong" : "label"))
         .attr("text-anchor", (/** @type {any} */ it) => it.anchor || "middle").text((/** @type {any} */ it) => it.text);
-}
-
-/**
- * The prior that a hyper averages to, its values in their order.
- * @param {Groups} hyper
- */
-export function priorOf(hyper) {
-    /** @type {Map<string, import("./fractions.mjs").Fraction>} */
-    const found = new Map();
-    for (const group of hyper.groups) {
-        const outer = fractionOf(group.weight) || NOTHING;
-        for (const { value, share } of group.shares) {
-            const joint = product(outer, fractionOf(share) || NOTHING);
-            found.set(value, sum(found.get(value) || NOTHING, joint));
-        }
-    }
-    const values = [...found.keys()];
-    const isNumbers = values.every((value) => /^-?\d+$/.test(value));
-    values.sort((a, b) => (isNumbers ? Number(a) - Number(b) : a.localeCompare(b, "en", { numeric: true })));
-    return values.map((value) => ({ value, share: printed(found.get(value) || NOTHING) }));
 }
 
 /**

@@ -9,24 +9,67 @@ export const WORDS = {
     operator: ["or", "and", "not", "in", "union", "less", "div", "mod", "inter", "xor", "implies", "subset"],
     function: ["size", "cond", "min", "max", "abs"],
 };
+/** Texts of more characters, or with a longer line, are shown without colours and marks, and so at once. */
+const MOST_MARKED = 1 << 16;
+const LONGEST_MARKED = 5000;
 const TOKEN = /#[^\n]*|[A-Za-z_][A-Za-z0-9_]*|[0-9]+|:=|\.\.|!=|<=|>=|\S/g;
+const DECLARES = new Set(["var", "vis", "about"]);
 const BEGINS = new Set(["skip", "observe", "if", "while"]);
 const NO_NAMES = new Set(Object.values(WORDS).reduce((all, some) => all.concat(some), []));
 
-/** @typedef {{ text: string, line: number }} Token */
+/**
+ * Whether a text is too long for colours and marks.
+ * @param {string} text
+ */
+export const isLong = (text) => text.length > MOST_MARKED || (text.length > LONGEST_MARKED && text.split("\n").some((line) => line.length > LONGEST_MARKED));
+
+/** @typedef {{ text: string, line: number, from: number, to: number }} Token where it stands: its line, and in that the characters, from 0 */
 
 /**
- * The tokens of a text, without comments.
+ * The tokens of a text one after the other, without comments.
  * @param {string} text
- * @returns {Token[]}
+ * @returns {Generator<Token, void>}
  */
-function tokensOf(text) {
-    return text.split("\n").flatMap((line, number) => (line.match(TOKEN) || []).filter((it) => !it.startsWith("#")).map((it) => ({ text: it, line: number })));
+function* tokensIn(text) {
+    const lines = text.split("\n");
+    for (let line = 0; line < lines.length; line += 1) {
+        for (const found of lines[line].matchAll(TOKEN)) {
+            const from = Number(found.index);
+            if (!found[0].startsWith("#")) {
+                yield { text: found[0], line, from, to: from + found[0].length };
+            }
+        }
+    }
 }
 
-/** @param {Token | undefined} token */
+/**
+ * Those of the declarations, which stand before all statements.
+ * @param {string} text
+ */
+function declarationsOf(text) {
+    /** @type {string[][]} */
+    const found = [];
+    let isOpen = false;
+    for (const token of tokensIn(text)) {
+        if (!isOpen && !DECLARES.has(token.text)) {
+            return found;
+        }
+        if (isOpen) {
+            found[found.length - 1].push(token.text);
+        } else {
+            found.push([token.text]);
+        }
+        isOpen = token.text !== ";";
+    }
+    return found;
+}
+
+/**
+ * Whether a statement begins here, or the block or the text ends.
+ * @param {Token | undefined} token
+ */
 function beginsStatement(token) {
-    return token === undefined || BEGINS.has(token.text) || (/^[A-Za-z_]/.test(token.text) && !NO_NAMES.has(token.text));
+    return token === undefined || token.text === "}" || BEGINS.has(token.text) || (/^[A-Za-z_]/.test(token.text) && !NO_NAMES.has(token.text));
 }
 
 /**
@@ -78,9 +121,9 @@ function afterStatement(tokens, from) {
  * @param {string} text
  */
 export function statementLines(text) {
-    const tokens = tokensOf(text);
+    const tokens = [...tokensIn(text)];
     let at = 0;
-    while (at < tokens.length && ["var", "vis", "about"].includes(tokens[at].text)) {
+    while (at < tokens.length && DECLARES.has(tokens[at].text)) {
         at = afterStatement(tokens, at);
     }
     const found = [];
@@ -102,15 +145,74 @@ export function characterAt(line, column) {
 }
 
 /**
+ * What each statement has on the line on which it begins: all of it, or its front where it goes on below.
+ * @param {string} text
+ * @returns {(line: number, column: number) => string} its line from 0, and its column, which counts bytes from 1
+ */
+export function statementsOf(text) {
+    const lines = text.split("\n");
+    const tokens = [...tokensIn(text)];
+    const indices = new Map(tokens.map((token, index) => [`${token.line}:${token.from}`, index]));
+    return (line, column) => {
+        const from = characterAt(lines[line], column);
+        const index = indices.get(`${line}:${from}`);
+        const last = index === undefined ? undefined : tokens[afterStatement(tokens, index) - 1];
+        return lines[line].slice(from, last === undefined || last.line > line ? undefined : last.to).trim();
+    };
+}
+
+/**
  * The items that a program is about: those of its line `about`, or all its variables as they are after the last line.
  * @param {string} text
  */
 export function targetOf(text) {
-    const tokens = tokensOf(text).map((token) => token.text);
-    const at = tokens.indexOf("about");
-    if (at < 0) {
-        return tokens.filter((_, index) => tokens[index - 1] === "var" || tokens[index - 1] === "vis").map((name) => ({ name, isOld: false }));
+    const declared = declarationsOf(text);
+    const about = declared.find(([word]) => word === "about");
+    if (about === undefined) {
+        return declared.map(([, name]) => ({ name, isOld: false }));
     }
-    const items = tokens.slice(at + 1, tokens.indexOf(";", at)).join(" ").split(" , ");
+    const items = about.slice(1).filter((word) => word !== ";").join(" ").split(" , ");
     return items.map((item) => ({ name: item.replace(/^old /, ""), isOld: item.startsWith("old ") }));
+}
+
+/**
+ * How many values a type has, by its words from a place on, and the place after it. Past a bound the number is that bound.
+ * @param {string[]} words
+ * @param {number} from
+ * @returns {{ count: number, after: number }}
+ */
+function countOf(words, from) {
+    const most = 1 << 20;
+    if (words[from] === "bool") {
+        return { count: 2, after: from + 1 };
+    }
+    if (words[from] === "set") {
+        const { count, after } = countOf(words, from + 2);
+        return { count: count < 20 ? 2 ** count : most, after };
+    }
+    if (words[from] === "(") {
+        let count = 1;
+        let after = from;
+        while (words[after] === "(" || words[after] === ",") {
+            const part = countOf(words, after + 1);
+            count = Math.min(count * part.count, most);
+            after = part.after;
+        }
+        return { count, after: after + 1 };
+    }
+    const found = /^(- )?(\d+) \.\. (- )?(\d+)/.exec(words.slice(from, from + 6).join(" "));
+    if (found === null) {
+        throw new Error(`${words[from]} begins no type`);
+    }
+    const [low, high] = [Number(found[2]) * (found[1] ? -1 : 1), Number(found[4]) * (found[3] ? -1 : 1)];
+    return { count: Math.min(high - low + 1, most), after: from + found[0].split(" ").length };
+}
+
+/**
+ * How many values the target has by its types, possible or not. The text has to be a program.
+ * @param {string} text
+ */
+export function targetSize(text) {
+    const types = new Map(declarationsOf(text).filter(([word]) => word !== "about").map((words) => [words[1], words]));
+    return targetOf(text).reduce((size, { name }) => Math.min(size * countOf(types.get(name) || [], 3).count, 1 << 20), 1);
 }

@@ -1,7 +1,7 @@
 // Shows lessons, studies and pages beside the editors. Each program and each command on them is a click away from being asked.
 import { button, element, fill, table } from "./elements.mjs";
 import { leadsTo } from "./library.mjs";
-import { wordsOf } from "./commands.mjs";
+import { hasFiles, wordsOf } from "./commands.mjs";
 import { exerciseOf } from "./exercises.mjs";
 
 /** @typedef {import("./library.mjs").Library} Library */
@@ -80,7 +80,7 @@ function consoleOf(place, text) {
     const pieces = text.split(/^(?=\$ )/m).map((piece) => {
         const [command, ...answer] = piece.replace(/^\$ /, "").replace(/\n$/, "").split("\n");
         const words = wordsOf(command);
-        const known = words !== null && words.every((word) => !/\.(kf|json)$/.test(word) || word.replace(/^table:/, "") in place.files);
+        const known = words !== null && hasFiles(words, place.files);
         const head = element("div", { class: "command" }, element("code", {}, `$ ${command}`),
             words !== null && known && button("Ask", () => place.host.run(words), { "aria-label": `Ask ${command}` }));
         return element("div", {}, head, answer.length > 0 && element("pre", { class: "code", tabindex: "0" }, answer.join("\n")));

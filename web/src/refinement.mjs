@@ -1,8 +1,10 @@
 // Two texts: whether one leaks no more than the other, both ways, with the matrix or the gain table that proves it.
 import { button, element, fill, table } from "./elements.mjs";
-import { MOST, hyperOf, reportOf, verdictOf } from "./answers.mjs";
+import { MOST, hyperOf, priorOf, reportOf, verdictOf } from "./answers.mjs";
 import { shown } from "./fractions.mjs";
-import { flowPicture, heatMap, priorOf } from "./pictures.mjs";
+import { flowPicture, heatMap } from "./pictures.mjs";
+import { targetSize } from "./programs.mjs";
+import { gainTable, meaningOf, priorsOf } from "./verdicts.mjs";
 import { tooMany } from "./views.mjs";
 
 /** @typedef {import("./views.mjs").Context} Context */
@@ -12,32 +14,6 @@ import { tooMany } from "./views.mjs";
  * One direction: whether the second text leaks no more than the first, or why there is no verdict. Without hypers it is about every prior.
  * @typedef {{ verdict: Verdict | null, refusal: string, names: string[], letters: string[], hypers: Groups[] | null }} Direction
  */
-
-/**
- * @param {Verdict | null} there
- * @param {Verdict | null} back
- * @param {boolean} isForEvery
- */
-function meaningOf(there, back, isForEvery) {
-    const prior = isForEvery ? ", whatever the prior" : "";
-    if (there === null || back === null) {
-        const known = there || back;
-        const [first, second] = known === there ? ["A", "B"] : ["B", "A"];
-        const yes = `${second} leaks no more than ${first} to any adversary, whatever it gains${prior}.`;
-        const no = `To some adversary ${second} leaks more than ${first}.`;
-        return `${known !== null && known.isYes ? yes : no} The other way round there is no verdict.`;
-    }
-    if (there.isYes && back.isYes) {
-        return `A and B leak the same: no adversary, whatever it gains, does better against one of them${prior}.`;
-    }
-    if (there.isYes) {
-        return `B refines A: B leaks no more than A to any adversary, whatever it gains${prior}. To some adversary A leaks more.`;
-    }
-    if (back.isYes) {
-        return `A refines B: A leaks no more than B to any adversary, whatever it gains${prior}. To some adversary B leaks more.`;
-    }
-    return "Neither is safer for everybody: to some adversary B leaks more than A, and to another one A leaks more than B.";
-}
 
 /**
  * The first value whose probability differs between the priors of two texts, in a sentence. It is null where there is none, where the texts are about
@@ -53,12 +29,6 @@ function priorsApart(hypers) {
     const apart = values.find((value) => first.get(value) !== second.get(value));
     return apart === undefined ? null : element("p", { class: "note" }, `⚠ The priors of ${hypers[0].target} differ, so there is no yes: ${apart} has the `,
         "probability ", shown(first.get(apart) || "0"), " in A, and ", shown(second.get(apart) || "0"), " in B.");
-}
-
-/** @param {Extract<Verdict, { isYes: false }>} verdict */
-function gainTable({ actions, over, rest }) {
-    const listed = actions.map(({ name, gains }) => ({ gains: gains.map(({ value, gain }) => [value, Number(gain)]), name }));
-    return JSON.stringify({ actions: listed, format: "kuifje-gain-1", over: Number(over), rest: Number(rest) });
 }
 
 /**
@@ -147,17 +117,20 @@ async function directionOf(context, command, names, letters, hypers) {
     return { verdict: verdictOf(outcome.out), refusal: "", names, letters, hypers };
 }
 
+const ABOUT_ALL = "Here every variable is a secret, keys, coins and counters too, and so is what each becomes: a no may be about those. "
+    + "Whether B leaks no more than A about the secret alone, for every prior on it, is the other question, for a target that is old.";
+
 /**
  * @param {Context} context
  * @param {"refine" | "covers"} command
  */
 export async function refineView(context, command) {
     const isForEvery = command === "covers";
-    const choice = element("p", { role: "group", "aria-label": "For which priors" },
-        button("For the declared prior", () => context.setView("refine"), { "aria-pressed": String(!isForEvery) }), " ",
-        button("For every prior", () => context.setView("covers"), { "aria-pressed": String(isForEvery) }));
+    const choice = element("p", { role: "group", "aria-label": "What the question is about" },
+        button("About the secret", () => context.setView("refine"), { "aria-pressed": String(!isForEvery) }), " ",
+        button("About all variables, first and last (covers)", () => context.setView("covers"), { "aria-pressed": String(isForEvery) }));
     if (!context.hasSecond) {
-        return [choice, element("p", {}, "A second text is wanted: press “Compare with a second text” below the first editor.")];
+        return [choice, element("p", {}, "A second text is wanted. ", button("Compare with a second text", context.addSecond))];
     }
     const hypers = isForEvery ? null : [hyperOf(await context.ask(["hyper", "a.kf"])), hyperOf(await context.ask(["hyper", "b.kf"]))];
     const there = await directionOf(context, command, ["a.kf", "b.kf"], ["A", "B"], hypers);
@@ -167,7 +140,8 @@ export async function refineView(context, command) {
         await context.ask([command, "a.kf", "b.kf"]);
     }
     return [
-        choice, element("p", { class: "meaning" }, meaningOf(there.verdict, back.verdict, isForEvery)), priorsApart(hypers),
+        choice, element("p", { class: "meaning" }, meaningOf(there.verdict, back.verdict, isForEvery)),
+        element("p", { class: "note priors" }, hypers === null ? ABOUT_ALL : priorsOf(hypers, targetSize(context.text || ""))), priorsApart(hypers),
         await sectionOf(context, there), await sectionOf(context, back),
     ];
 }

@@ -1,9 +1,9 @@
 // The views of an answer. Each asks the program what it needs, and gives the elements that show it.
 import { button, element, table } from "./elements.mjs";
-import { MOST, channelOf, hyperOf, reportOf, tracesOf } from "./answers.mjs";
+import { MOST, channelOf, hyperOf, priorOf, reportOf, tracesOf } from "./answers.mjs";
 import { shown } from "./fractions.mjs";
-import { heatMap, hyperPicture, priorOf } from "./pictures.mjs";
-import { USUAL, gainEditor, guessOf, jsonOf } from "./gains.mjs";
+import { heatMap, hyperPicture } from "./pictures.mjs";
+import { USUAL, guessOf, jsonOf } from "./gains.mjs";
 import { typedWords } from "./commands.mjs";
 
 /**
@@ -14,14 +14,18 @@ import { typedWords } from "./commands.mjs";
  * @property {string} file the program that is asked about
  * @property {string} text its text
  * @property {boolean} hasSecond
+ * @property {() => void} addSecond
  * @property {string | null} gain the gain table that is set
- * @property {(json: string) => void} setGain
+ * @property {(json: string, values: string[]) => ReturnType<typeof import("./gains.mjs").gainEditor>} gainEditor the fields of the gain table: those
+ * that stand there already, where they are of this table
  * @property {string} measure the gain under which lines are compared: one of USUAL, or TABLE
  * @property {(measure: string) => void} setMeasure
  * @property {(json: string) => void} setSeparation makes a table that commands may name separation.json
  * @property {string | null} words
  * @property {(words: string) => void} setWords
- * @property {(view: string) => void} setView
+ * @property {(view: import("./questions.mjs").ViewName) => void} setView
+ * @property {(words: string[]) => string[]} sent the words that the program gets
+ * @property {string[]} kept the names of files that were kept, or came with a link
  * @property {(name: string, text: string) => void} keep hands a file to the reader of the page
  * @property {(error: unknown) => HTMLElement} failure why a question has no answer
  */
@@ -50,8 +54,8 @@ export async function hyperView({ ask, file }) {
     const read = hyperOf(await ask(["hyper", file]));
     const picture = hyperPicture(read);
     const said = read.count === 1
-        ? "There is one posterior: an observer learns nothing of this target."
-        : `A run leaves an observer with one of ${read.count} posteriors. In the picture each is as wide as it is likely; at the left is what was believed before.`;
+        ? "There is one posterior: an observer learns nothing about this target."
+        : `A run leaves an observer with one of ${read.count} posteriors. In the picture each is as wide as it is likely; at the left is the prior.`;
     return [
         element("p", {}, said), picture || tooMany(read.count, "inners"), groupsTable(read, "inner", "outer", "The hyper-distribution"),
         element("p", { class: "note" }, `All joint probabilities are whole numbers over ${read.scale} (the scale).`),
@@ -82,7 +86,7 @@ export async function channelView({ ask, tryTo, file }) {
         element("p", {}, "A row says how likely each trace is where the secret has that value, with the declarations as they are written."),
         picture || tooMany(Math.max(read.count, read.rowCount), read.count >= read.rowCount ? "columns" : "rows"),
         bound !== null && element("p", {}, "Bayes capacity ", shown(bound),
-            ": whatever the prior on these values, and whatever the gains, if none is below 0, to observe a run multiplies the vulnerability by this at most."),
+            ": whatever the prior on these values, and whatever the gains, if none is below 0, observing a run multiplies the vulnerability by at most this."),
         table("The channel matrix", ["value", ...read.columns], rows.map((row) => [row.value, ...row.cells.map(shown)])),
     ];
 }
@@ -95,7 +99,8 @@ export async function channelView({ ask, tryTo, file }) {
 async function reportRow({ tryTo, file }, gain, name) {
     const outcome = await tryTo(["leak", file, "--gain", gain]);
     if (outcome.kind !== "answer" || outcome.status !== 0) {
-        return [name, outcome.kind === "answer" ? outcome.err.trim() : outcome.kind === "memory" ? "want of memory" : "a trap", "", "", ""];
+        const why = outcome.kind === "answer" ? outcome.err.trim() : outcome.kind === "memory" ? "want of memory" : "a trap";
+        return [name, element("span", { class: "warning" }, `No answer: ${why}`), "", "", ""];
     }
     const { prior, posterior, quotient, difference: more } = reportOf(outcome.out);
     return [name, shown(prior), shown(posterior), shown(quotient), shown(more)];
@@ -105,17 +110,22 @@ async function reportRow({ tryTo, file }, gain, name) {
 export async function leakView(context) {
     const values = priorOf(hyperOf(await context.ask(["hyper", context.file]))).map(({ value }) => value);
     const json = context.gain === null ? jsonOf(guessOf(values)) : context.gain;
+    const editor = context.gainEditor(json, values);
     const rows = [];
-    for (const [gain, name] of USUAL) {
-        rows.push(await reportRow(context, gain, `${name} (${gain})`));
+    for (const [gain, usual] of USUAL) {
+        rows.push(await reportRow(context, gain, `${usual} (${gain})`));
     }
-    const own = context.gain === null ? null : await reportRow(context, "table:gain.json", "the table below");
+    const name = "the table below";
+    const notTaken = [name, element("span", { class: "warning" }, "No answer: what is typed in it isn't taken"), "", "", ""];
+    const own = !editor.isTaken() ? notTaken : context.gain === null ? null : await reportRow(context, "table:gain.json", name);
     return [
         table("Vulnerabilities", ["gain", "prior", "posterior", "quotient", "difference"], own === null ? rows : [...rows, own]),
-        element("p", { class: "note" }, "Of the number of guesses less is better for an adversary: there the quotient is at most 1."),
+        element("p", { class: "note" }, "The quotient is the multiplicative leakage, and the difference the additive leakage. "
+            + "Of the number of guesses less is better for an adversary: there the quotient is at most 1."),
         element("h3", {}, "An adversary of one's own"),
-        element("p", {}, "It takes the action whose expected gain is greatest. Change a number, and the program is asked what the table comes to."),
-        gainEditor(json, values, context.setGain),
+        element("p", {}, "It takes the action whose expected gain is greatest. Change a gain, and the program is asked what the table is worth. ",
+            "A gain is a whole number, a fraction such as 1/2, or a decimal, which is taken exactly: 0.5 is 1/2."),
+        editor.node,
     ];
 }
 
@@ -131,13 +141,15 @@ export async function commandView(context) {
     };
     const form = element("form", { class: "words", submit }, element("label", { for: "words" }, "kuifje "), input, element("button", { type: "submit" }, "Ask"));
     const note = element("p", { class: "note" },
-        "a.kf and b.kf are the texts in the editors, gain.json is the gain table, and the files of the gallery and the course have their names.");
-    const outcome = await context.tryTo(typedWords(input.value));
+        "a.kf and b.kf are the texts in the editors, gain.json is the gain table, and the files of the gallery and the course have their names.",
+        context.kept.length > 0 && ` Files that were kept here, or came with a link: ${context.kept.join(", ")}.`);
+    const words = typedWords(input.value);
+    const outcome = await context.tryTo(words);
     if (outcome.kind !== "answer") {
         return [form, note, context.failure(outcome)];
     }
     const cut = outcome.out.length > MOST_SHOWN ? `${outcome.out.slice(0, MOST_SHOWN)}\n…` : outcome.out;
-    const text = `$ kuifje ${input.value}\n${cut}${outcome.err}`;
+    const text = `$ ${["kuifje", ...context.sent(words)].join(" ")}\n${cut}${outcome.err}`;
     return [
         form, element("pre", { class: "terminal", tabindex: "0", "aria-label": "What the program prints" }, text),
         element("p", {}, `Status ${outcome.status}. `, button("Keep the answer", () => context.keep("answer.txt", outcome.out))), note,

@@ -22,7 +22,7 @@ async function wait(until, what) {
 
 async function open(hash) {
     frame.src = "about:blank";
-    await later(100);
+    await wait(() => inside().location.href === "about:blank", "an empty frame");
     frame.src = `/${hash}`;
     await wait(() => inside().location.pathname === "/" && inside().document.body.dataset.settled, "an answer");
 }

@@ -38,9 +38,7 @@ def hold(page: Page) -> list[str]:
     page.click("#compare")
     replace(page, "if h = 2 { y := 1; } else { y := 0; }", "y := cond(h = 2, 1, 0);", "b")
     sees(page, "B refines A: B leaks no more than A to any adversary", "A 0\t1", "A 1\t1", "A leaks no more than B? No")
-    page.press("For every prior")
-    sees(page, "B refines A: B leaks no more than A to any adversary, whatever it gains, whatever the prior")
-    page.press("For the declared prior")
+    sees(page, "A yes holds for every prior on the secret; a no for every prior under which every value is possible.")
 
     replace(page, "y := cond(h = 2, 1, 0);", "observe h mod 2;", "b")
     sees(page, "Neither is safer for everybody", "An adversary with the gains of this table does better against B")

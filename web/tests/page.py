@@ -26,19 +26,15 @@ from selenium.webdriver.common.action_chains import ActionChains
 from selenium.webdriver.common.keys import Keys
 
 import commands
+import keeping
 import lecture
 from browser import Page, Server, chromium
 from commands import Command
+from trials import EVERY, LONG, OLD, TOP, changed, example, expect, has, put, state_link
 
-TOP = Path(__file__).resolve().parent.parent.parent
 LARGEST = 1_500_000
 # How long the quick trials may take before no further one is begun.
 SECONDS = 100
-LONG = """var i : 0..1000 := 0;
-var j : 0..1000 := 0;
-var k : 0..1000 := 0;
-while i < 1000 { j := 0; while j < 1000 { k := 0; while k < 1000 { k := k + 1; } j := j + 1; } i := i + 1; }
-"""
 WIDE = """var x : 0..1 := uniform 0..1;
 var n : 0..40 := 22;
 about old x;
@@ -50,20 +46,6 @@ TRAP = """(module (memory (export "memory") 1)
   (func (export "host_take") (param i64) (result i64) (i64.const 1024))
   (func (export "kuifje_run") (param i64 i64 i64 i64 i64 i64 i64 i64 i64 i64 i64) (result i32) (unreachable)))
 """
-
-
-def example(name: str) -> str:
-    return (TOP / name).read_text()
-
-
-def expect(condition: object, what: str) -> None:
-    if not condition:
-        raise AssertionError(what)
-
-
-def has(text: str, *words: str) -> None:
-    for word in words:
-        expect(word in text, f"{word!r} isn't in {text[:600]!r}")
 
 
 # What is on the page.
@@ -115,7 +97,7 @@ def colours_lines(page: Page) -> None:
     page.open()
     page.write(example("examples/password/loop.kf"))
     page.view("lines")
-    has(page.answer(), "right with probability 4/27", "0: shows nothing that others don't show too", "up to 1/54", "up to 2/27", "8:1", "9:3", "11:1")
+    has(page.answer(), "right with probability 4/27", "0: worth nothing beside the others", "It may show something all the same: alone, together with others", "up to 1/54", "up to 2/27", "8:1", "9:3", "11:1")
     rows = """return [...document.querySelectorAll('.listing tbody tr')].map((row) => [row.className,
         [...row.querySelectorAll('.lost .number')].map((it) => it.firstChild.textContent).join()])"""
     plain = [["", ""]]
@@ -126,6 +108,9 @@ def colours_lines(page: Page) -> None:
     expect(len(page.driver.find_elements("css selector", ".leak-line-4")) == 1, "the editor colours another line")
     page.write(example("examples/pin.kf"))
     page.wait(lambda: page.script(rows)[4] == ["leak-4", "2/9,1/9"], "two statements in one line")
+    statements = page.script("""const table = [...document.querySelectorAll("#answer table")].find((it) => it.caption.textContent === "Which statement leaks");
+        return [...table.querySelectorAll("code")].map((it) => it.textContent)""")
+    expect(statements == ["if first = 1 { observe second = 1; } else { skip; }", "observe second = 1;"], f"statements are cut as {statements}")
     page.write(example("examples/password/loop.kf"))
     # Classes of 18, 6, 2 and 1 passwords take 196/27 guesses, classes of 26 and 1 take 352/27.
     page.choose("#measure", "guessing")
@@ -161,10 +146,13 @@ def shows_a_refusal_at_its_place(page: Page) -> None:
     has(page.answer(), "Program A is refused: Syntax", "kuifje: a.kf:3:12: Syntax", "the first token with which no program can go on")
     has(page.find(".refusal-note").text, "Syntax", "The slip is often before it")
     expect(page.find(".refused").text == "=", "another place is marked")
+    expect(page.find(".refusal-note").text.count("Syntax") == 1, "a note repeats its word")
     page.press("What causes it, and how it is mended")
     page.wait(lambda: "reported at" in page.find("#reader-text").text, "the page on refusals")
     page.write("var x : 0..3 := uniform 0..3;\nobserve x = 1;\n")
     expect(not page.driver.find_elements("css selector", ".refused, .refusal-note"), "a refusal stays after it was mended")
+    page.write("var x : 0..3 := uniform 0..3;\nobserve z;\n")
+    expect(page.find(".refusal-note").text.count("Unknown") == 1, f"a note repeats its word: {page.find('.refusal-note').text}")
     page.write("var x : 0..3 := uniform 0..3;\nx := x + 1;\n")
     has(page.answer(), "OutOfRange", "a value isn't of the variable's type")
 
@@ -176,11 +164,13 @@ def compares_two_texts(page: Page) -> None:
     page.write(example("examples/pin_whole.kf"), "b")
     has(page.answer(), "B refines A: B leaks no more than A to any adversary", "A 0\t1\t0", "A 1\t1\t0", "A 2\t0\t1", "A leaks no more than B? No", "after B it expects", "after A")
     expect(page.driver.find_elements("css selector", "#answer svg .band"), "there is no picture of the matrix")
-    page.press("For every prior")
-    page.settle()
-    page.wait(lambda: "whatever the prior" in page.answer(), "the verdict for every prior")
-    page.press("For the declared prior")
-    page.wait(lambda: "to any adversary, whatever it gains. To some" in page.answer(), "the verdict for the declared prior")
+    has(page.answer(), EVERY)
+    page.press("About all variables, first and last (covers)")
+    page.wait(lambda: "whatever the prior" in page.answer(), "the verdict for all variables")
+    has(page.answer(), "Here every variable is a secret")
+    expect(EVERY not in page.answer(), "what is said of secrets is said of all variables")
+    page.press("About the secret")
+    page.wait(lambda: "to any adversary, whatever it gains. To some" in page.answer(), "the verdict for the secret")
     page.press("Keep the certificate")
     page.wait(lambda: "Kept certificate-A-B.json" in page.find("#status").text, "a certificate")
     page.view("command")
@@ -191,8 +181,8 @@ def compares_two_texts(page: Page) -> None:
     page.write("var x : 0..2 := uniform 0..2;\nobserve x = 0;\n")
     page.write("var x : 0..2 := uniform 0..2;\nobserve x = 1;\n", "b")
     page.view("refine")
-    has(page.answer(), "Neither is safer for everybody", "b0\t3\t0\t3", "b1\t3\t3\t0", "after A it expects 2, after B 3")
-    expect("priors" not in page.answer(), "the page says of equal priors that they differ")
+    has(page.answer(), "Neither is safer for everybody", "b0\t3\t0\t3", "b1\t3\t3\t0", "after A it expects 2, after B 3", "for the priors that the texts declare, and for no others")
+    expect("The priors of" not in page.answer(), "the page says of equal priors that they differ")
     page.write("var x : 0..2 := choose { 0 : 1, 1 : 2 };\nobserve x = 1;\n", "b")
     has(page.answer(), "The priors of x differ, so there is no yes: 1 has the probability 1/3", "in A, and 2/3", "in B.")
     page.write("var x : 0..2 := uniform 0..1;\nobserve x = 1;\n", "b")
@@ -207,9 +197,7 @@ def edits_gains(page: Page) -> None:
     page.choose(".gain-editor textarea", example("course/bet.json"))
     page.settle()
     page.wait(lambda: "the table below\t0\t1/3" in page.answer(), "what the bet is worth")
-    cell = page.find("input[aria-label='gain of pass at 0']")
-    cell.clear()
-    cell.send_keys("1", Keys.TAB)
+    put(page, "gain of pass at 0", "1")
     page.wait(lambda: "the table below\t2/3" in page.answer(), "what the changed bet is worth")
 
 
@@ -305,22 +293,6 @@ def keeps_a_link(page: Page) -> None:
     has(page.find("#reader-text").text, "2. Hyper-distributions", "witness")
 
 
-# A link as it was made before it had a gain for lines.
-OLD: dict[str, object] = {"a": "var x : 0..1 := 0;", "b": None, "view": "hyper", "of": "a", "gain": None, "words": None, "page": None}
-
-
-def changed(state: dict[str, object], **parts: object) -> dict[str, object]:
-    return {**state, **parts}
-
-
-def state_link(page: Page, state: object) -> str:
-    """A link with any state, made as the page makes it."""
-    return str(page.driver.execute_async_script(
-        """const [state, done] = arguments;
-        new Response(new Blob([JSON.stringify(state)]).stream().pipeThrough(new CompressionStream("deflate-raw"))).arrayBuffer().then((it) =>
-            done("#kf1." + btoa(String.fromCharCode(...new Uint8Array(it))).replace(/\\+/g, "-").replace(/\\//g, "_").replace(/=+$/, "")));""", state))
-
-
 def refuses_links(page: Page) -> None:
     """A link that can't be read says so, and shows nothing else."""
     page.open()
@@ -385,7 +357,8 @@ def opens_the_gallery(page: Page) -> None:
     page.find("#gallery-button").click()
     page.wait(lambda: "The gallery" in page.find("#contents").text, "the gallery")
     links = page.driver.find_elements("css selector", "#contents a")
-    expect(len(links) == 36, f"the gallery has {len(links)} studies")
+    studies = list((TOP / "examples").glob("*/README.md"))
+    expect(len(studies) > 30 and len(links) == len(studies), f"the gallery has {len(links)} of {len(studies)} studies")
     next(it for it in links if "compared digit by digit" in it.text).click()
     page.wait(lambda: "A PIN that is compared digit by digit" in page.find("#reader-text").text, "a study")
     page.press("Open examples/pin_whole.kf", "#reader-text")
@@ -436,10 +409,13 @@ def teaches(page: Page) -> None:
     page.open("#lesson/1")
     page.write("var coin : bool := flip 3/4;\n")
     page.press("Check my program", ".exercise")
-    page.wait(lambda: "Of your program the answer is the same" in page.find(".exercise").text, "a program that is right")
+    page.wait(lambda: "Your program's answer is the solution's" in page.find(".exercise").text, "a program that is right")
     page.write("var coin : bool := flip 1/4;\n")
     page.press("Check my program", ".exercise")
-    page.wait(lambda: "the answer is another one" in page.find(".exercise").text, "a program that is wrong")
+    page.wait(lambda: "Your program's answer differs from the solution's" in page.find(".exercise").text, "a program that is wrong")
+    page.write("var coin : bool := flip 1 / 4 /;\n")
+    page.press("Check my program", ".exercise")
+    page.wait(lambda: "Your program is refused: kuifje: your program:1:" in page.find(".exercise").text, "a program that is refused, under no name of the solution's")
     # Exercise 6 of lesson 7 is about lines: 3/4, without the loop 1/2, without the answer 1/2. A program may have its statements at other places.
     page.open("#lesson/7")
     loop = page.driver.find_elements("css selector", ".exercise")[5]
@@ -450,7 +426,7 @@ def teaches(page: Page) -> None:
     page.wait(lambda: "Right: the program has the same" in first.text, "the lines' numbers")
     page.write(example("course/solutions/both_bits.kf").replace("while", "\n  while"))
     second.find_elements("css selector", "button")[1].click()
-    page.wait(lambda: "Of your program the answer is the same" in second.text, "the same lines at other places")
+    page.wait(lambda: "Your program's answer is the solution's" in second.text, "the same lines at other places")
 
 
 def goes_by_keyboard(page: Page) -> None:
@@ -466,6 +442,10 @@ def goes_by_keyboard(page: Page) -> None:
     ActionChains(page.driver).send_keys(Keys.ARROW_RIGHT).perform()
     page.settle()
     expect(page.script(focus) == "tab-channel" and page.find("#tab-channel").get_attribute("aria-selected") == "true", "an arrow doesn't lead to the next question")
+    for key, tab in ((Keys.END, "tab-command"), (Keys.HOME, "tab-hyper")):
+        ActionChains(page.driver).send_keys(key).perform()
+        page.settle()
+        expect(page.script(focus) == tab, f"{tab} isn't at its end")
     page.find("#settings-button").send_keys(Keys.ENTER)
     expect(page.find("#settings").is_displayed(), "a key doesn't open the settings")
     ActionChains(page.driver).send_keys(Keys.ESCAPE).perform()
@@ -576,7 +556,7 @@ def every_program(page: Page) -> None:
 
 TESTS: list[Callable[[Page], None]] = [
     is_small, answers_at_once, page_commands, shows_views, colours_lines, says_what_is_asked, shows_a_refusal_at_its_place, compares_two_texts, edits_gains,
-    cuts_what_is_large, is_stopped, wants_memory, tells_a_trap, takes_both_modules, keeps_a_link, refuses_links, takes_no_markup,
+    cuts_what_is_large, is_stopped, wants_memory, tells_a_trap, takes_both_modules, keeps_a_link, *keeping.TRIALS, refuses_links, takes_no_markup,
     fetches_nothing_else, opens_the_gallery, teaches, holds_the_lecture, goes_by_keyboard, fits_a_telephone, can_be_read, knows_the_words,
     gallery_hypers,
 ]
@@ -589,6 +569,7 @@ parser.add_argument("--page", type=Path, default=TOP / "dist" / "page")
 parser.add_argument("--only", default="")
 given = parser.parse_args()
 QUICK, PROGRAM, FOLDER = given.quick, given.program, given.page
+keeping.quick = QUICK
 
 
 def main() -> None:

@@ -1,9 +1,10 @@
 # `make` shows the first example's answer, proves and builds the program, and leaves it as bin/kuifje. README.md says what each
 # command does and how long it takes.
-.PHONY: first try lib page install dist test audit hostile bench confirm
+.PHONY: first try lib page install uninstall dist test audit hostile bench confirm
 
 PREFIX ?= /usr/local
 LIBDIR ?= $(PREFIX)/lib
+ZSHDIR ?= share/zsh/site-functions
 FILE ?= examples/first.kf
 COMMAND ?= hyper
 
@@ -15,7 +16,7 @@ try:
 	@cd crates/kuifje && rt try --data "$(notdir $(FILE))=$(abspath $(FILE))" -- $(COMMAND) "$(notdir $(FILE))"
 
 # What the program and the library are built from.
-SOURCES := crates.txt VERSION $(shell find crates -name out -prune -o -type f \( -name '*.rt' -o -name '*.antt' \) -print)
+SOURCES := crates.txt VERSION HANDLES .ci/compile $(shell find crates -name out -prune -o -type f \( -name '*.rt' -o -name '*.antt' \) -print)
 
 # The library for C, in lib/: docs/LIBRARY.md.
 lib: lib/libkuifje.so.0
@@ -28,37 +29,20 @@ web/out/kuifje64.wasm: lib/libkuifje.so.0 $(wildcard web/module/*)
 	@web/module/build
 
 # The program and the library, the manual page, and what shells and editors know of the program: share/README.md says where each file goes.
-# Built is what isn't there or is older than its sources.
-SHARE = $(DESTDIR)$(PREFIX)/share
-INCLUDE = $(DESTDIR)$(PREFIX)/include
-LIBRARIES = $(DESTDIR)$(LIBDIR)
-
+# Built is what isn't there or is older than its sources. `make uninstall`, with the same words, removes just these files again.
 install: bin/kuifje lib/libkuifje.so.0
-	install -d "$(INCLUDE)" "$(LIBRARIES)/pkgconfig"
-	install -m 644 include/kuifje.h "$(INCLUDE)/kuifje.h"
-	install -m 644 lib/libkuifje.a lib/libkuifje.so.0 "$(LIBRARIES)"
-	ln -sf libkuifje.so.0 "$(LIBRARIES)/libkuifje.so"
-	sed -e 's|@PREFIX@|$(PREFIX)|' -e 's|@LIBDIR@|$(LIBDIR)|' -e "s|@VERSION@|$$(cat VERSION)|" share/c/kuifje.pc.in \
-		> "$(LIBRARIES)/pkgconfig/kuifje.pc"
-	install -d "$(DESTDIR)$(PREFIX)/bin" "$(SHARE)/man/man1" "$(SHARE)/bash-completion/completions" "$(SHARE)/zsh/site-functions" \
-		"$(SHARE)/fish/vendor_completions.d" "$(SHARE)/kuifje/textmate"
-	install -m 755 bin/kuifje "$(DESTDIR)$(PREFIX)/bin/kuifje"
-	install -m 644 share/man/kuifje.1 "$(SHARE)/man/man1/kuifje.1"
-	install -m 644 share/completions/kuifje.bash "$(SHARE)/bash-completion/completions/kuifje"
-	install -m 644 share/completions/_kuifje "$(SHARE)/zsh/site-functions/_kuifje"
-	install -m 644 share/completions/kuifje.fish "$(SHARE)/fish/vendor_completions.d/kuifje.fish"
-	install -m 644 share/textmate/*.json "$(SHARE)/kuifje/textmate"
-	for part in syntax ftdetect ftplugin; do for home in vim/vimfiles nvim/site; do \
-		install -d "$(SHARE)/$$home/$$part" && \
-		install -m 644 "share/vim/$$part/kuifje.vim" "$(SHARE)/$$home/$$part/kuifje.vim" || exit 1; done; done
+	@DESTDIR="$(DESTDIR)" PREFIX="$(PREFIX)" LIBDIR="$(LIBDIR)" ZSHDIR="$(ZSHDIR)" share/install
+
+uninstall:
+	@DESTDIR="$(DESTDIR)" PREFIX="$(PREFIX)" LIBDIR="$(LIBDIR)" ZSHDIR="$(ZSHDIR)" share/install --remove
 
 bin/kuifje: $(SOURCES)
 	@.ci/build
 
-lib/libkuifje.so.0: $(SOURCES) share/c/kuifje.map
+lib/libkuifje.so.0: $(SOURCES) .ci/link share/c/kuifje.map
 	@.ci/build-library
 
-# A tar archive and Debian packages of what is built, in dist/, with their SHA-256 sums.
+# A tar archive and Debian packages of what is built, in dist/, with their SHA-256 sums: of the build that docs/PROVED.md records.
 dist: bin/kuifje lib/libkuifje.so.0
 	@.ci/dist
 
@@ -87,4 +71,4 @@ confirm: bin/kuifje
 # The same with nothing kept: all is proved anew, and each wrong body tried anew. A kit whose `rt ci` keeps what passed has --anew for that;
 # one without it keeps nothing.
 audit:
-	rt ci $$(rt help 2>&1 | grep -o -m 1 -e --anew)
+	.ci/proofs $$(rt help 2>&1 | grep -o -m 1 -e --anew)

@@ -15,7 +15,7 @@ set -l commands \
     'parallel:the capacity of A and B side by side' \
     'choice:the capacity of A with a probability, and else B' \
     'refine:whether B leaks no more than A, as declared' \
-    'covers:whether B leaks no more than A, for every prior' \
+    'covers:whether B leaks no more than A, whatever all variables are at first' \
     'check:whether a certificate proves what it says' \
     'make:a summary of a large program that kuifje makes itself'
 set -l with_gain leak lines attack

@@ -21,7 +21,7 @@ CODES = "var a : 0..999 := uniform 0..999;\nvar b : 0..999 := uniform 0..999;\na
 
 
 def loops():
-    """Six loops to 1,000, one in the other."""
+    """Six nested loops to 1,000."""
     declared = "".join(f"var {name}:0..1000:=0;" for name in "abcdef")
     body = ""
     for name, inner in zip("fedcba", ["", *"fedcb"]):
@@ -37,7 +37,7 @@ def table(actions):
 
 # What it is; its texts; the words; the megabytes of address space and the processor seconds that it may have.
 QUESTIONS = [
-    ("six loops to 1,000, one in the other: 10^18 turns", {"p.kf": loops()}, "hyper p.kf", 2000, 20),
+    ("six nested loops to 1,000: 10^18 turns", {"p.kf": loops()}, "hyper p.kf", 2000, 20),
     ("two variables, uniform on 0..65535: 2^32 stores", {"p.kf": "var x:0..65535:=uniform 0..65535;\nvar y:0..65535:=uniform 0..65535;"}, "hyper p.kf", 2000, 20),
     ("two variables, uniform on 0..65535 and 0..255", {"p.kf": "var x:0..65535:=uniform 0..65535;\nvar y:0..255:=uniform 0..255;"}, "hyper p.kf", 4000, 20),
     ("a variable on 0..65535, drawn again from 65,536 stores", {"p.kf": "var x:0..65535:=uniform 0..65535;x:=uniform 0..65535;"}, "hyper p.kf", 2000, 20),
@@ -46,7 +46,7 @@ QUESTIONS = [
     ("20 coins, shown", {"p.kf": "var x:0..1:=0;" + "observe flip 1/2;" * 20}, "traces p.kf", 3000, 20),
     ("`x mod 20` and `x mod 40`, `x` on 0..63", {"a.kf": "var x:0..63:=uniform 0..63;observe x mod 20;", "b.kf": "var x:0..63:=uniform 0..63;observe x mod 40;"},
      "refine a.kf b.kf", 2000, 60),
-    ("the same turned round", {"a.kf": "var x:0..63:=uniform 0..63;observe x mod 40;", "b.kf": "var x:0..63:=uniform 0..63;observe x mod 20;"},
+    ("the same two programs in the other order", {"a.kf": "var x:0..63:=uniform 0..63;observe x mod 40;", "b.kf": "var x:0..63:=uniform 0..63;observe x mod 20;"},
      "refine a.kf b.kf", 2000, 60),
     ("59,000 observations", {"p.kf": "var x:0..1:=uniform 0..1;" + "observe x = 1;\n" * 59_000}, "blame p.kf", 2000, 20),
     ("a gain table of 29,000 actions", {"p.kf": "var x:0..1:=uniform 0..1;observe x;", "t.json": table(29_000)}, "leak p.kf --gain table:t.json", 2000, 20),

@@ -3,9 +3,9 @@
 
     python3 check_certificate.py CERT HYPER_A HYPER_B
 
-The hypers are what `kuifje hyper A` and `kuifje hyper B` print. Prints `accepted` (status 0) or `rejected` and the first broken rule (status
-1). Where a file can't be read, or is no certificate or no whole hyper, where the targets differ, and where it is used wrongly, it says so on
-standard error (status 2).
+The hypers are what `kuifje hyper A` and `kuifje hyper B` print, to the last byte. Prints `accepted` (status 0) or `rejected` and the first broken
+rule (status 1). Where a file can't be read, or is no certificate or no whole hyper, where the targets differ, where it is used wrongly, and where
+its answer can't be written, it says so on standard error (status 2).
 
 `kuifje check CERT A B` gives the same answer, and refuses where this script ends with 2, but for these:
 
@@ -18,12 +18,13 @@ standard error (status 2).
 - **Order.** Here the certificate is read first and the hypers afterwards; there the programs first. Where both are refused another one is
   named."""
 import json
+import os
 import re
 import sys
 from collections import defaultdict
 from fractions import Fraction
 from math import isinf
-from typing import Any, NoReturn
+from typing import Any, NoReturn, TextIO
 
 Inner = dict[str, int]
 Entry = tuple[int, int, Fraction]
@@ -41,15 +42,33 @@ DEEPEST, DIGITS = 127, 4000
 FORMATS = ("kuifje-cert-1", "kuifje-cert-2")
 
 
+def written(stream: TextIO | None, line: str) -> bool:
+    """Writes a line, and returns whether all of it was taken. A stream that was closed before the script began is None."""
+    if stream is None:
+        return False
+    try:
+        print(line, file=stream, flush=True)
+    except OSError:
+        # What wasn't taken would be tried once more at the end, and fail again with another status.
+        os.dup2(os.open(os.devnull, os.O_WRONLY), stream.fileno())
+        return False
+    return True
+
+
 def stop(reason: str) -> NoReturn:
-    print(f"check_certificate.py: {reason}", file=sys.stderr)
+    written(sys.stderr, f"check_certificate.py: {reason}")
     sys.exit(2)
+
+
+def answer(line: str, status: int) -> NoReturn:
+    if not written(sys.stdout, line):
+        stop("write failed")
+    sys.exit(status)
 
 
 def reject_unless(holds: bool, rule: str) -> None:
     if not holds:
-        print(f"rejected {rule}")
-        sys.exit(1)
+        answer(f"rejected {rule}", 1)
 
 
 def require(holds: bool) -> None:
@@ -73,7 +92,7 @@ def natural(digits: str) -> int:
     if len(digits) <= DIGITS:
         return int(digits)
     low = len(digits) // 2
-    return natural(digits[:-low]) * 10 ** low + natural(digits[-low:])
+    return natural(digits[:-low]) * int(10 ** low) + natural(digits[-low:])
 
 
 def number(pattern: re.Pattern[str], text: Any) -> Fraction:
@@ -81,6 +100,13 @@ def number(pattern: re.Pattern[str], text: Any) -> Fraction:
     over, _, under = text.removeprefix("-").partition("/")
     value = Fraction(natural(over), natural(under or "1"))
     return -value if text.startswith("-") else value
+
+
+def above_0(text: str) -> Fraction:
+    """A probability as it is printed: in lowest terms, and without a denominator of 1."""
+    value = number(ABOVE_0, text)
+    require("/" not in text or 1 < value.denominator == natural(text.partition("/")[2]))
+    return value
 
 
 def whole(pattern: re.Pattern[str], text: Any) -> int:
@@ -169,11 +195,11 @@ def weights_of(lines: list[str], scale: int) -> Inner:
     """An inner's lines: the joint probability of each value and the inner, as a whole number over the scale."""
     head = INNER.fullmatch(lines[0])
     assert head is not None
-    outer, chances = number(ABOVE_0, head[2]), {}
+    outer, chances = above_0(head[2]), {}
     for line in lines[1:]:
         value, _, probability = line.removeprefix("  ").rpartition(" ")
-        require(line.startswith("  ") and value != "" and value not in chances)
-        chances[value] = number(ABOVE_0, probability)
+        require(line.startswith("  ") and value == value.strip(" ") != "" and value not in chances)
+        chances[value] = above_0(probability)
     require(sum(chances.values()) == 1)
     joint = {value: scale * outer * chance for value, chance in chances.items()}
     require(all(weight.denominator == 1 for weight in joint.values()))
@@ -182,6 +208,7 @@ def weights_of(lines: list[str], scale: int) -> Inner:
 
 def hyper_of(text: str) -> tuple[str, int, list[Inner]]:
     """The target's line, the scale, and the inners. All of them have to be there, and their probabilities have to sum to 1."""
+    require(text.endswith("\n"))
     target, scale_line, count_line, body = text.removesuffix("\n").split("\n", 3)
     scale, count = whole(SIZE, scale_line.removeprefix("scale ")), whole(SIZE, count_line.removeprefix("inners "))
     require(target.startswith("target ") and scale_line.startswith("scale ") and count_line.startswith("inners ") and scale > 0)
@@ -251,15 +278,16 @@ def main() -> None:
     if len(sys.argv) != 4:
         stop("usage: python3 check_certificate.py CERT HYPER_A HYPER_B")
     verdict, proof = read(sys.argv[1], "certificate", certificate_of)
-    (target_a, *a), (target_b, *b) = (read(path, "hyper", hyper_of) for path in sys.argv[2:])
+    (target_a, scale_a, a), (target_b, scale_b, b) = (read(path, "hyper", hyper_of) for path in sys.argv[2:])
     if target_a != target_b:
         stop("targets differ")
     if verdict == "yes":
         rows, columns, entries = proof
-        check_matrix((rows, columns), entries, tuple(a), tuple(b))
+        check_matrix((rows, columns), entries, (scale_a, a), (scale_b, b))
     else:
-        check_table(*proof, tuple(a), tuple(b))
-    print("accepted")
+        rest, actions = proof
+        check_table(rest, actions, (scale_a, a), (scale_b, b))
+    answer("accepted", 0)
 
 
 try:

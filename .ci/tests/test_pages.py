@@ -17,6 +17,7 @@ BOOK = "python/notebooks/first_steps.ipynb"
         ("docs/TRUST.md", "$ echo $?\n1\n", "$ echo $?\n0\n", "$ echo $?"),
         ("README.md", "](docs/LIBRARY.md)", "](docs/LIBRARIES.md)", "there is no docs/LIBRARIES.md"),
         ("docs/TRUST.md", "(#trusted)", "(#believed-in)", "TRUST.md has no heading #believed-in"),
+        ("crates/kf_run/README.md", "(../kf_push/README.md)", "(../kf_pushes/README.md)", "there is no ../kf_pushes/README.md"),
         ("docs/TRUST.md", "```console\n", "```shell\n", "a block of the kind 'shell'"),
         ("docs/TRUST.md", "```sh\nsha256sum", "```sh\n$ sha256sum", "a command that isn't run"),
         ("docs/TRUST.md", "```sh\nsha256sum", "sha256sum", "a block without an end"),

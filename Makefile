@@ -1,4 +1,4 @@
-# `make` shows the first example's answer, proves and builds the program, and leaves it as bin/kuifje. README.md says what each
+# `make` shows the first example's answer, proves and builds the program, and leaves it as bin/kuifje. docs/BUILDING.md says what each
 # command does and how long it takes.
 .PHONY: first try lib page install uninstall dist test audit hostile bench confirm
 

@@ -64,7 +64,7 @@ def bounds(program: Program, turns: int, gain: Gain = "bayes", *, line: int | No
     turns = whole("turns", turns, 1, MOST_TURNS)
     source = read(program.text.decode())
     loop = _loop(source, line)
-    old = all(item.old for item in source.target.items)
+    old = source.target.is_initial
     word, _ = gain_of(gain)
     if isinstance(gain, str):
         check_word(gain)

@@ -108,7 +108,7 @@ def test_a_loop_with_a_turn_too_few_does_something_else() -> None:
         about = marked(program)
         loop = next(compounds(about.source.statements))
         joint = about.joint(about.with_marks())
-        texts = [Even(about, Change(frozenset([loop.at])), {loop.at: turns}).text(True, False) for turns in (3, 2)]
+        texts = [Even(about, Change(frozenset([loop.at])), {loop.at: turns}).text(True) for turns in (3, 2)]
         assert [about.joint(text) == joint for text in texts] == [True, False]
 
 
@@ -238,16 +238,50 @@ def test_a_column_counts_bytes_as_lines_does() -> None:
         floor(Program(text), (3, 13))
 
 
-def test_of_several_values_the_last_is_kept_and_that_is_said(tmp_path: Path) -> None:
-    """x turns show x, .., 1; the last one is always 1, so that all that is kept is whether there was one: 2/4."""
-    text = "var x : 0..3 := uniform 0..3;\nvar y : 0..3 := x;\nabout old x;\nwhile y > 0 { observe y; y := y - 1; }\n"
-    found = floor(Program(text))
-    assert found.repeated == {4: 3} and posterior_vulnerability(found.floor) == Fraction(1, 2)
+DOWN = "var x : 0..3 := uniform 0..3;\nvar y : 0..3 := x;\nabout old x;\nwhile y > 0 { observe y; y := y - 1; }\n"
+
+
+def test_all_values_that_are_shown_are_kept(tmp_path: Path) -> None:
+    """x turns show x, .., 1: what is kept is x, so that nothing more can leak."""
+    found = floor(Program(DOWN))
+    assert found.repeated == {4: 3} and found.is_reached and posterior_vulnerability(found.floor) == 1
     assert floor(Program(TWO)).repeated == {}
     file = tmp_path / "down.kf"
-    file.write_text(text)
+    file.write_text(DOWN)
     said = pytest.importorskip("click.testing").CliRunner().invoke(lab(), ["floor", str(file)])
-    assert "line 4 shows up to 3 values in a run, of which the last one is kept\n" in said.output
+    assert "line 4 shows up to 3 values in a run, and all of them are kept, in their order\n" in said.output
+
+
+def test_a_loop_of_noisy_answers_keeps_all_of_them() -> None:
+    """Three answers on a bit, each right with 3/4, and a branch that shows the bit. Of the answers alone the majority is right with 27/32."""
+    text = "var x : bool := flip 1/2;\nvar n : 0..3 := 0;\nvar z : 0..3 := 0;\nabout old x;\n"
+    text += "while n < 3 {\n  if x { z := n; } else { skip; }\n  observe choose { x : 3, not x : 1 };\n  n := n + 1;\n}\n"
+    found = repair(Program(text))
+    assert found.floor.repeated == {7: 3} and posterior_vulnerability(found.floor.floor) == Fraction(27, 32)
+    assert found.best is not None and found.best.at_floor and found.best.lines == (6,)
+
+
+def test_a_sequence_comes_out_of_its_loop() -> None:
+    """Two noisy answers on whether x is even, each right with 3/4, in a loop that takes x + 2 turns and shows x thereby.
+
+    Of both answers alone, one guess of three is right with (9 + 3 + 3 + 9)/16 / 3 = 1/2: both say even (guess 0), they differ, or both say odd (1).
+    """
+    text = "var x : 0..2 := uniform 0..2;\nvar n : 0..4 := 0;\nabout old x;\nwhile n < x + 2 {\n"
+    text += "  if n < 2 { observe choose { x mod 2 = 0 : 3, x mod 2 = 1 : 1 }; } else { skip; }\n  n := n + 1;\n}\n"
+    found = repair(Program(text))
+    assert found.floor.repeated == {5: 2} and posterior_vulnerability(found.floor.hyper) == 1
+    assert found.best is not None and found.best.at_floor and posterior_vulnerability(found.best.hyper) == Fraction(1, 2)
+    assert "\n}\nobserve seen;\n" in found.best.program.text.decode()
+
+
+def test_the_order_of_what_is_shown_is_kept() -> None:
+    """The last value and the number of values are the same in both programs, and the first value isn't."""
+    head = "var x : bool := flip 1/2;\nvar n : 0..2 := 0;\nabout old x;\n"
+    texts = [head + f"while n < 2 {{ observe cond(n = 0, {first}, true); n := n + 1; }}\n" for first in ("x", "not x")]
+    with quietly():
+        joints = [marked(Program(text)).distributed for text in texts]
+    assert joints[0] != joints[1]
+    assert {values[-2][0] for values in joints[0] if values[0] is True} == {True}  # type: ignore[index]
 
 
 def lab() -> object:

@@ -16,11 +16,12 @@ from ..refinement import decide
 from ..source import Observe, While, every
 from ..texts import Hyper
 from .purposes import Floor, Keep, Marked, floor_of, marked, quietly, same
-from .structure import Change, Even, Uncovered, compounds, parents
+from .structure import Change, Even, Moved, Uncovered, compounds, parents
 
 __all__ = ["Repair", "Repairs", "repair"]
 
 CHANGES = ("structure", "drop", "hide")
+HOW = (Moved(), Moved(met=True), Moved(each=True, met=True))  # the ways to show what is kept, in the order in which they are tried
 
 
 @dataclass(frozen=True)
@@ -87,9 +88,9 @@ class _Search:
         return self.judged[change]
 
     def _judge(self, change: Change) -> tuple[str, Hyper, Certificate | None] | None:
-        for with_met in (False, True):
+        for how in HOW:
             try:
-                watched, text = (Even(self.about, change, self.turns).text(marks, with_met) for marks in (True, False))
+                watched, text = (Even(self.about, change, self.turns).text(marks, how) for marks in (True, False))
                 found = self._judged(watched, text)
             except OutOfTime:
                 raise
@@ -125,7 +126,7 @@ class _Search:
             if not self.inner[statement.at] - {statement.at} <= found:
                 continue
             try:
-                Even(self.about, replace(wished, even=self.inner[statement.at]), self.turns).text(True, False)
+                Even(self.about, replace(wished, even=self.inner[statement.at]), self.turns).text(True)
             except Uncovered as cause:
                 self.uncovered.setdefault(statement.at, str(cause))
                 continue
@@ -229,7 +230,7 @@ def _structures(search: _Search) -> list[Change]:
 def _others(search: _Search, changes: Sequence[str]) -> list[Change]:
     """All structure, and all other observations dropped, and visible variables hidden, as far as it is wished."""
     source = search.about.source
-    kept = {shown.statement.at for shown in search.about.keeps}
+    kept = {one.at for shown in search.about.keeps for one in shown.statements}
     dropped = frozenset(one.at for one in every(source.statements) if isinstance(one, Observe) and one.at not in kept)
     hidden = frozenset(one.name for one in source.declarations if one.visible)
     wished = Change(dropped=dropped if "drop" in changes else frozenset(), hidden=hidden if "hide" in changes else frozenset())
@@ -244,9 +245,9 @@ def repair(
     """Programs that do what this one does, still show what it is for, and leak less.
 
     ``keep`` are the observations that the program is for, by their lines, from 1, or lines and columns; without it, its one observation at the top
-    level. What counts is the value shown there last, and whether one was. ``finals`` are the variables that have to end as they do, all where none
-    are named. ``changes`` are the kinds that are tried: ``"structure"`` makes branches and loops even and keeps every observation, ``"drop"`` leaves
-    other observations out, ``"hide"`` makes visible variables hidden.
+    level. What counts are all values that a run shows at each of these places, in their order. ``finals`` are the variables that have to end as they
+    do, all where none are named. ``changes`` are the kinds that are tried: ``"structure"`` makes branches and loops even and keeps every observation,
+    ``"drop"`` leaves other observations out, ``"hide"`` makes visible variables hidden.
 
     Each repair is judged by the proved program: the joint distribution of secret, final values and what is kept is the same; whoever observes a run
     knows what is kept; and the repair refines the program, with a certificate. That none leaks less is said where ``at_floor`` is true, by the law of

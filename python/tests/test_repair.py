@@ -35,11 +35,13 @@ FLOORS = [
     ("examples/countdown.kf", None, Fraction(1, 4)),
     ("examples/guard.kf", None, Fraction(1, 4)),
     ("course/password.kf", 6, Fraction(1, 2)),
+    # Shown is whether x is 2, with 1/4, and then a number of its own; of the others x is 1 with 2/4.
+    ("examples/channel_matrix/guards.kf", (5, 63), Fraction(3, 4)),
 ]
 
 
 @pytest.mark.parametrize("path, keep, value", FLOORS)
-def test_repairs_reach_the_floor_by_structure_alone(path: str, keep: int | None, value: Fraction) -> None:
+def test_repairs_reach_the_floor_by_structure_alone(path: str, keep: int | tuple[int, int] | None, value: Fraction) -> None:
     program = program_of(path)
     found = repair(program, keep)
     assert posterior_vulnerability(found.floor.floor) == value < posterior_vulnerability(found.floor.hyper)
@@ -65,6 +67,16 @@ def test_what_is_dropped_is_listed_apart_and_is_never_the_best() -> None:
     # Of two people one answer is kept: the other's bit is guessed with 1/2, this one's with 3/4.
     assert found.best is None and [one.kinds for one in found.found] == [("drop",)]
     assert found.found[0].at_floor and posterior_vulnerability(found.found[0].hyper) == Fraction(3, 8)
+
+
+def test_a_visible_variable_in_a_branch_is_shown_on_both_sides() -> None:
+    """v takes 0 where x is 1, and had 0 before, so only the guard shows something: two classes of four values, and then one."""
+    text = "var x : 0..3 := uniform 0..3;\nvis v : 0..3 := 0;\nvar n : 0..3 := 0;\nabout old x;\nif x = 1 { v := n; } else { skip; }\n"
+    found = repair(Program(text))
+    assert posterior_vulnerability(found.floor.hyper) == Fraction(1, 2)
+    assert found.best is not None and found.best.at_floor and posterior_vulnerability(found.best.hyper) == Fraction(1, 4)
+    other = repair(Program(text.replace("n : 0..3 := 0", "n : 0..3 := 3")))  # now v shows whether it was taken, and is only hidden as a kind of its own
+    assert other.found == () and not other.floor.is_reached
 
 
 def test_hidden_variables_are_a_kind_of_their_own() -> None:

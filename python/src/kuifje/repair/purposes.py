@@ -13,7 +13,8 @@ from ..arguments import seconds
 from ..channels import hyper_of_columns
 from ..deadlines import NEVER, Deadline
 from ..errors import OutOfTime, Refusal
-from ..program import Program
+from ..model.write import Translation
+from ..program import Program, Writable, program_of
 from ..questions import AsItIsLeft
 from ..source import Observe, Source, Statement, Type, While, edited, every, read
 from ..texts import Hyper, Item, Target
@@ -41,8 +42,8 @@ class BadPurpose(ValueError):
 class Shown:
     """What is kept of a place: its observations, of which a loop over constants has one for each turn, and the type of their values.
 
-    A run shows there ``most`` values at most. The variable ``value`` holds the one shown last, and ``met`` whether one was. Where there may be several,
-    ``met`` counts them, and ``seen`` are the variables that hold all of them in their order: the first variable so many, and so on.
+    A run shows there ``most`` values at most. The variable ``value`` holds the one shown last, and ``met`` whether one was. Where there may be
+    several, ``met`` counts them, and ``seen`` are the variables that hold all of them in their order: the first variable so many, and so on.
     """
 
     statements: tuple[Observe, ...]
@@ -111,6 +112,11 @@ class Marked:
     def marks(self) -> tuple[str, ...]:
         """The variables that hold what the program is for, as far as it was shown."""
         return tuple(name for shown in self.keeps for name in shown.marks)
+
+    @property
+    def kept_places(self) -> tuple[int, ...]:
+        """Where the observations that are kept begin."""
+        return tuple(one.at for shown in self.keeps for one in shown.statements)
 
     @property
     def names(self) -> tuple[str, ...]:
@@ -328,7 +334,7 @@ def _lines(places: Iterable[tuple[int, int]]) -> str:
 def marked(program: Program, keep: Keep = None, finals: Sequence[str] | None = None, until: Deadline = NEVER) -> Marked:
     """A program with what it is for: the observations at ``keep``, or its one observation at the top level.
 
-    ``finals`` are the variables that have to end as they do; all of them where none are named. Raises ``BadPurpose`` where the target isn't what the
+    ``finals`` are the variables that have to end as they do; where none are named all, and of a model none. Raises ``BadPurpose`` where the target isn't what the
     secrets were (``about old``), no single observation stands at a place, or what is shown can't be kept in a variable; ``OutOfTime`` where it isn't
     known by ``until``.
     """
@@ -338,7 +344,9 @@ def marked(program: Program, keep: Keep = None, finals: Sequence[str] | None = N
         raise BadPurpose("the target isn't what the secrets were: write about old")
     if isinstance(finals, str):
         raise TypeError(f"finals is a list of names, and {finals!r} was given")
-    chosen = tuple(source.names if finals is None else dict.fromkeys(finals))
+    if finals is None:
+        finals = () if isinstance(program.expansion, Translation) else source.names
+    chosen = tuple(dict.fromkeys(finals))
     if unknown := [name for name in chosen if name not in source.names]:
         raise BadPurpose(f"there is no variable {unknown[0]}")
     bare = Marked(program, source, (), chosen, until)
@@ -387,14 +395,14 @@ def _packed(kind: Type, most: int) -> Iterator[int]:
         yield min(each, most - at)
 
 
-def floor(program: Program, keep: Keep = None, timeout: float | None = None) -> Floor:
+def floor(program: Program | Writable, keep: Keep = None, timeout: float | None = None) -> Floor:
     """How far a program leaks beyond what it is for: its hyper, and the least that a program leaks which still shows that.
 
     What it is for are the values that are shown at each place of ``keep``, in their order. Raises ``BadPurpose`` where an observer doesn't know them,
     a ``Refusal`` where the program has no answer, and ``OutOfTime`` where it isn't known after ``timeout`` seconds.
     """
     with quietly():
-        return floor_of(marked(program, keep, (), Deadline(seconds("timeout", timeout))))
+        return floor_of(marked(program_of("program", program), keep, (), Deadline(seconds("timeout", timeout))))
 
 
 def floor_of(about_it: Marked) -> Floor:

@@ -9,12 +9,13 @@ from __future__ import annotations
 from collections.abc import Iterable, Iterator, Mapping
 from dataclasses import dataclass, field
 from textwrap import indent
+from typing import Literal
 
 from ..source import Assign, Choose, Distribution, Flip, If, Observe, Skip, Statement, Sure, Type, Uniform, While, every
 from .kinds import NoType, first_value, type_of, type_text
 from .purposes import Marked, Shown, declared_text, fresh
 
-__all__ = ["Change", "Even", "Moved", "Uncovered", "compounds", "parents"]
+__all__ = ["Change", "Even", "Instead", "Moved", "Uncovered", "compounds", "parents"]
 
 MOST_TURNS = 64  # that a loop is given
 
@@ -23,18 +24,21 @@ class Uncovered(Exception):
     """Why a statement isn't changed."""
 
 
+Instead = Literal["first", "carried", "own"]
+
+
 @dataclass(frozen=True)
 class Change:
     """What of a program is changed: conditionals and loops that are made even, and observations that are dropped, by the places where they begin.
 
-    ``carried`` says what is shown where a branch would have shown nothing: what was shown there last, or else the first value of the type.
-    ``hidden`` are the visible variables that no longer are.
+    ``instead`` says what is shown where a branch would have shown nothing: the first value of the type, what was shown there last (``"carried"``), or
+    what the observation shows of the values that there are (``"own"``). ``hidden`` are the visible variables that no longer are.
     """
 
     even: frozenset[int] = frozenset()
     dropped: frozenset[int] = frozenset()
     hidden: frozenset[str] = frozenset()
-    carried: bool = False
+    instead: Instead = "first"
 
     @property
     def kinds(self) -> tuple[str, ...]:
@@ -66,8 +70,8 @@ def parents(statements: Iterable[Statement]) -> dict[int, frozenset[int]]:
 
 @dataclass(frozen=True)
 class Moved:
-    """How what is kept is shown where its observations stand in what is made even: after the last of these, or after ``each``; and whether it is shown,
-    too, how many values there are (``met``).
+    """How what is kept is shown where its observations stand in what is made even: after the last of these, or after ``each``; and whether it is
+    shown, too, how many values there are (``met``).
     """
 
     each: bool = False
@@ -243,9 +247,12 @@ class Even:
             if shown not in self.moved:
                 self.moved.append(shown)
             return [self.assign(shown.value, statement.value, guard), *shown.counted(guard)]
+        if guard is None or self.change.instead == "own":
+            return [f"observe {self.text_of(statement.value)};"]
         try:
             kind = type_of(statement.value, self.types)
         except NoType as cause:
             raise Uncovered(f"the observation in line {self.about.place(statement.at)[0]} can't be kept: {cause}") from cause
         name = self.fresh("shown", type_text(kind), first_value(kind))
-        return [self.assign(name, statement.value, guard, None if self.change.carried else f"({first_value(kind)})"), f"observe {name};"]
+        instead = None if self.change.instead == "carried" else f"({first_value(kind)})"
+        return [self.assign(name, statement.value, guard, instead), f"observe {name};"]

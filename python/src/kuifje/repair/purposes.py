@@ -334,9 +334,9 @@ def _lines(places: Iterable[tuple[int, int]]) -> str:
 def marked(program: Program, keep: Keep = None, finals: Sequence[str] | None = None, until: Deadline = NEVER) -> Marked:
     """A program with what it is for: the observations at ``keep``, or its one observation at the top level.
 
-    ``finals`` are the variables that have to end as they do; where none are named all, and of a model none. Raises ``BadPurpose`` where the target isn't what the
-    secrets were (``about old``), no single observation stands at a place, or what is shown can't be kept in a variable; ``OutOfTime`` where it isn't
-    known by ``until``.
+    ``finals`` are the variables that have to end as they do; where none are named all, and of a model none. Raises ``BadPurpose`` where the target
+    isn't what the secrets were (``about old``), no single observation stands at a place, or what is shown can't be kept in a variable; ``OutOfTime``
+    where it isn't known by ``until``.
     """
     program.hyper(until.left)
     source = read(program.text.decode())

@@ -43,7 +43,7 @@ def test_blocks_run(tmp_path, monkeypatch, capsys):
     at = printed.index("least 7/8 at the price 1")
     assert printed[at + 1 : at + 3] == ["proved program 7/8", "no channel leaks less True"]
     assert "above the floor: True" in printed
-    assert {"5/6", "3/2 1/2", "52231/131072 True", "1/1000"} <= set(printed)
+    assert {"5/6", "3/2 1/2", "52231/131072 True", "1/1000", "107/100 7/800"} <= set(printed)
     for begins in ("refines", "gain bayes, ", "rounds 2, ", "value 7/16", "@@ "):
         shown = next(text for text in blocks("text") if text.startswith(begins)).splitlines()
         at = printed.index(shown[0])

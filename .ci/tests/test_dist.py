@@ -206,7 +206,7 @@ def test_an_unrecorded_build_says_so_and_has_only_gits_files(repository: Reposit
     status, printed = repository.run(".ci/dist", "unrecorded")
     assert status == 0, printed
     packages = sorted((repository.top / "dist").glob("*.deb"))
-    assert len(packages) == 4
+    assert len(packages) == 4 and "the page isn't packed" in printed
     for package in packages:
         described = repository.run("dpkg-deb", "--field", str(package))[1]
         assert "Version: 0.1.0~unrecorded" in described and "This build isn't the recorded one" in described and "It is proved" not in described
@@ -214,6 +214,39 @@ def test_an_unrecorded_build_says_so_and_has_only_gits_files(repository: Reposit
         assert "notes.txt" not in contents
         for header in ("kuifje.h", "kuifje_ask.h"):
             assert (f"./usr/include/{header}\n" in contents) == package.name.startswith("libkuifje-dev_")
+
+
+def with_page(repository: Repository) -> None:
+    """Modules of the page, and in the place of its build one that leaves a file."""
+    for name in ("kuifje64", "kuifje32"):
+        path = repository.top / "web" / "out" / f"{name}.wasm"
+        path.parent.mkdir(parents=True, exist_ok=True)
+        path.write_bytes(b"a module")
+    build = repository.top / "web" / "build"
+    build.write_text("#!/bin/sh\nmkdir -p dist/page && echo page >dist/page/index.html\n")
+    build.chmod(0o755)
+
+
+@pytest.mark.skipif(not all(map(shutil.which, ("dpkg-deb", "xz", "objdump"))), reason="dpkg-deb, xz or objdump isn't there")
+def test_the_page_is_packed_and_stays(repository: Repository) -> None:
+    for name in BUILT:
+        shutil.copy("/bin/true", repository.top / name)
+    with_page(repository)
+    (repository.top / ".ci" / "dist").write_text((repository.top / ".ci" / "dist").read_text().replace("command -v lintian", "false"))
+    status, printed = repository.run(".ci/dist", "unrecorded")
+    assert status == 0, printed
+    (package,) = (repository.top / "dist").glob("kuifje-page_*_all.deb")
+    assert "./usr/share/kuifje/page/index.html\n" in repository.run("dpkg-deb", "--contents", str(package))[1]
+    assert "Depends" not in repository.run("dpkg-deb", "--field", str(package))[1]
+    (archive,) = (repository.top / "dist").glob("*.tar.xz")
+    assert "/share/kuifje/page/index.html\n" in repository.run("tar", "--list", "--file", str(archive))[1]
+    assert (repository.top / "dist" / "page" / "index.html").read_text() == "page\n"
+
+
+def test_a_page_of_other_modules_is_refused(repository: Repository) -> None:
+    with_page(repository)
+    repository.commit()
+    repository.refuses(".ci/dist", "web/out/kuifje64.wasm isn't the page's module of 64 bits that docs/PROVED.md records")
 
 
 def test_other_words_are_refused(repository: Repository) -> None:

@@ -8,8 +8,8 @@ from fractions import Fraction
 from kuifje import source as s
 
 Store = tuple[object, ...]
-Run = tuple[Store, Store, tuple[str, ...], object]
-"""The values at the beginning and at the end, what was seen, and what the chosen observations showed last (None where they showed nothing)."""
+Run = tuple[Store, Store, tuple[str, ...], tuple[object, ...]]
+"""The values at the beginning and at the end, what was seen, and what the chosen observations showed, in their order."""
 
 OPERATORS: dict[str, Callable[..., object]] = {
     "=": lambda a, b: a == b,
@@ -87,7 +87,7 @@ class Runs:
         for one in self.source.declarations:
             stores = [({**store, one.name: v}, p * q) for store, p in stores for v, q in cases(one.value, store)]
         first = [(tuple(store.values()), p) for store, p in stores]
-        self.runs = self.block(self.source.statements, summed(((store, store, (), None), p) for store, p in first))
+        self.runs = self.block(self.source.statements, summed(((store, store, (), ()), p) for store, p in first))
 
     def block(self, statements: Iterable[s.Statement], runs: dict[Run, Fraction]) -> dict[Run, Fraction]:
         for statement in statements:
@@ -105,7 +105,7 @@ class Runs:
                 return summed(after)
             case s.Observe(part):
                 kept = self.kept(self.source.text[statement.at : statement.end])
-                return summed(((f, l, (*t, repr(v)), (v,) if kept else k), p) for (f, l, t, k), v, p in self.drawn(part, runs))
+                return summed(((f, l, (*t, repr(v)), (*k, v) if kept else k), p) for (f, l, t, k), v, p in self.drawn(part, runs))
             case s.If(asked, then, otherwise):
                 yes, no = self.guard(asked, runs)
                 return summed([*self.block(then, yes).items(), *self.block(otherwise, no).items()])

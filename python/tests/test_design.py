@@ -31,7 +31,10 @@ from kuifje.design import (
     tradeoff,
     truncated_geometric,
 )
+from kuifje.design import optimum, privacy
+from kuifje.design.near import Ends, Near, near_least
 from kuifje.design.optimum import _corners
+from kuifje.design.tableau import Tableau
 from kuifje.measures import posterior_vulnerability
 from kuifje.channels import hyper
 from kuifje.values import Value
@@ -124,6 +127,60 @@ def test_ill_scaled_designs_are_proved(seed: int) -> None:
 
 @pytest.mark.whole
 def test_many_ill_scaled_designs_are_proved() -> None:
+    rng = random.Random(150)
+    for _ in range(150):
+        found, prior, outputs, loss = design_of(rng)
+        assert check_optimum(found, prior, outputs, loss)
+
+
+@pytest.mark.parametrize("n", [20, pytest.param(48, marks=pytest.mark.whole)])
+@pytest.mark.parametrize("aim", ["bayes", "capacity"])
+def test_many_secrets(n: int, aim: str) -> None:
+    """Two outputs for n values in a row, each in the middle of a half: a loss of n/8 on average, and two of n guesses are right.
+
+    That no channel leaks less is what the check says, which knows nothing of the way to it.
+    """
+    found = optimal(uniform(n), range(n), distance, Fraction(n, 8), aim)  # type: ignore[arg-type]
+    assert found.value == (2 if aim == "capacity" else Fraction(2, n)) and check_optimum(found, uniform(n), range(n), distance)
+
+
+def test_with_scipy_and_without_it_the_values_are_the_same(monkeypatch: pytest.MonkeyPatch) -> None:
+    """HiGHS first, HiGHS as a first step alone, a corner of HiGHS that is spoilt, and the exact simplex alone."""
+    pytest.importorskip("scipy")
+    rng, ways = random.Random(4), []
+    prior, outputs, loss = ill_scaled(rng)
+    least, most = bounds_of(prior, outputs, loss)
+    steps = (lambda near: near, lambda near: Near(near.above, None), lambda near: Near(near.above, _spoilt(near.ends)), lambda near: None)
+    for module in (optimum, privacy):
+        monkeypatch.setattr(module, "ALONE" if module is optimum else "CONDITIONS", 0)
+    for step in steps:
+        asked: list[Near | None] = []
+
+        def near(tableau: Tableau, until: float) -> Near | None:
+            found = near_least(tableau, until)
+            assert found is not None
+            asked.append(step(found))  # noqa: B023
+            return asked[-1]  # noqa: B023
+
+        for module in (optimum, privacy):
+            monkeypatch.setattr(module, "near_least", near)
+        found = optimal(prior, outputs, loss, (least + most) / 2)
+        useful = least_loss(uniform(4), range(4), distance, 2, in_a_row(4))
+        assert check_optimum(found, prior, outputs, loss) and check_most_useful(useful, uniform(4), range(4), distance)
+        assert len(asked) == 2
+        ways.append((found.value, useful.loss))
+    assert len(set(ways)) == 1
+
+
+def _spoilt(ends: Ends | None) -> Ends | None:
+    """A corner that has other prices."""
+    return None if ends is None else Ends(ends.solution, [price + 1 for price in ends.prices])
+
+
+@pytest.mark.whole
+def test_many_ill_scaled_designs_are_proved_with_highs_first(monkeypatch: pytest.MonkeyPatch) -> None:
+    pytest.importorskip("scipy")
+    monkeypatch.setattr(optimum, "ALONE", 0)
     rng = random.Random(150)
     for _ in range(150):
         found, prior, outputs, loss = design_of(rng)

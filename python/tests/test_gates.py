@@ -511,3 +511,48 @@ def test_where_no_repair_helps_that_is_said(tmp_path):
 def test_what_is_kept_is_a_list_of_places(tmp_path, keep):
     found = gate(tmp_path, f'[[program]]\nfile = "pin.kf"\nkeep = {keep}\nposterior_vulnerability = 0\n', pin=WHOLE)
     assert found.exit_code == 2 and "has to be a list of lines" in found.output
+
+
+NOTHING = "var x : 0..7 := uniform 0..7;\nabout old x;\n"
+RARE = NOTHING + "if flip 1/100 {\n  observe x;\n} else { skip; }\n"
+WITHIN = '[[refinement]]\nfile = "rare.kf"\nof = "nothing.kf"\n'
+
+
+def test_at_most_so_much_more(tmp_path):
+    """Of eight values one run in a hundred shows all: one guess is right with 107/800 in place of 1/8, 107/100 times as often, and 7/800 more."""
+    for limits, held in (
+        ('times = "107/100"\n', True),
+        ('times = "106/100"\n', False),
+        ('plus = "7/800"\n', True),
+        ('plus = "7/801"\n', False),
+        ('times = "106/100"\nplus = "1/100"\n', True),
+        ('times = "107/100"\npriors = "all"\n', True),
+    ):
+        found = gate(tmp_path, WITHIN + limits, rare=RARE, nothing=NOTHING)
+        assert found.exit_code == (0 if held else 1), found.output
+
+
+def test_who_gains_more_and_by_which_line(tmp_path):
+    found = gate(tmp_path, WITHIN + 'times = "21/20"\n', rare=RARE, nothing=NOTHING)
+    text = (
+        "rare.kf:4: refinement of nothing.kf, times 21/20: does not hold: it leaks more than 21/20 times as much as nothing.kf, to an adversary who "
+    )
+    bets = "gains 1 by a bet that the secret is 0 or that the secret is 1 or that the secret is 2, or by one of 5 more: "
+    assert (found.exit_code, found.output) == (1, f"{text}{bets}107/800 after a run, and 1/8 in nothing.kf\n")
+    found = gate(tmp_path, WITHIN + 'times = "11/10"\n', rare=RARE, nothing=NOTHING)
+    assert found.output == "rare.kf: refinement of nothing.kf, times 11/10: holds: it leaks at most 11/10 times as much as nothing.kf\n"
+
+
+@pytest.mark.parametrize(
+    "limits, text",
+    [
+        ("times = 0\n", "times is above 0"),
+        ('times = "1/0"\n', "denominator 0"),
+        ("times = 1.05\n", "times is 1.05"),
+        ('plus = "3/2"\n', "plus is from 0 to 1"),
+        ('plus = "1/100"\npriors = "all"\n', "plus depends on the prior"),
+    ],
+)
+def test_limits_that_are_none(tmp_path, limits, text):
+    found = gate(tmp_path, WITHIN + limits, rare=RARE, nothing=NOTHING)
+    assert found.exit_code == 2 and text in found.output

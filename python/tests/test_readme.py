@@ -26,7 +26,8 @@ def test_blocks_run(tmp_path, monkeypatch, capsys):
 
     A guess at the level that is shown is right with probability 1 - 1/8 at least, since a wrong level costs at least 1; the channel that moves 1/8 of
     the levels by 1 leaks no more. Of 10,000 tokens a bet on one that shares its last digit with another, and loses as much there, is worth nothing to
-    an observer of that digit. An observer of two digits takes it where it may win: with probability 1/10,000.
+    an observer of that digit. An observer of two digits takes it where it may win: with probability 1/10,000. The last digit of a PIN of four leaves
+    1,000 values. The numbers of losses and of a loop that chance ends are worked out in their own tests.
     """
     monkeypatch.chdir(tmp_path)
     Path("lock.kf.j2").write_text(next(text for text in blocks("text") if "{% for" in text))
@@ -42,6 +43,7 @@ def test_blocks_run(tmp_path, monkeypatch, capsys):
     at = printed.index("least 7/8 at the price 1")
     assert printed[at + 1 : at + 3] == ["proved program 7/8", "no channel leaks less True"]
     assert "above the floor: True" in printed
+    assert {"5/6", "3/2 1/2", "52231/131072 True", "1/1000", "107/100 7/800"} <= set(printed)
     for begins in ("refines", "gain bayes, ", "rounds 2, ", "value 7/16", "@@ "):
         shown = next(text for text in blocks("text") if text.startswith(begins)).splitlines()
         at = printed.index(shown[0])

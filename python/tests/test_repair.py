@@ -35,11 +35,13 @@ FLOORS = [
     ("examples/countdown.kf", None, Fraction(1, 4)),
     ("examples/guard.kf", None, Fraction(1, 4)),
     ("course/password.kf", 6, Fraction(1, 2)),
+    # Shown is whether x is 2, with 1/4, and then a number of its own; of the others x is 1 with 2/4.
+    ("examples/channel_matrix/guards.kf", (5, 63), Fraction(3, 4)),
 ]
 
 
 @pytest.mark.parametrize("path, keep, value", FLOORS)
-def test_repairs_reach_the_floor_by_structure_alone(path: str, keep: int | None, value: Fraction) -> None:
+def test_repairs_reach_the_floor_by_structure_alone(path: str, keep: int | tuple[int, int] | None, value: Fraction) -> None:
     program = program_of(path)
     found = repair(program, keep)
     assert posterior_vulnerability(found.floor.floor) == value < posterior_vulnerability(found.floor.hyper)
@@ -65,6 +67,16 @@ def test_what_is_dropped_is_listed_apart_and_is_never_the_best() -> None:
     # Of two people one answer is kept: the other's bit is guessed with 1/2, this one's with 3/4.
     assert found.best is None and [one.kinds for one in found.found] == [("drop",)]
     assert found.found[0].at_floor and posterior_vulnerability(found.found[0].hyper) == Fraction(3, 8)
+
+
+def test_a_visible_variable_in_a_branch_is_shown_on_both_sides() -> None:
+    """v takes 0 where x is 1, and had 0 before, so only the guard shows something: two classes of four values, and then one."""
+    text = "var x : 0..3 := uniform 0..3;\nvis v : 0..3 := 0;\nvar n : 0..3 := 0;\nabout old x;\nif x = 1 { v := n; } else { skip; }\n"
+    found = repair(Program(text))
+    assert posterior_vulnerability(found.floor.hyper) == Fraction(1, 2)
+    assert found.best is not None and found.best.at_floor and posterior_vulnerability(found.best.hyper) == Fraction(1, 4)
+    other = repair(Program(text.replace("n : 0..3 := 0", "n : 0..3 := 3")))  # now v shows whether it was taken, and is only hidden as a kind of its own
+    assert other.found == () and not other.floor.is_reached
 
 
 def test_hidden_variables_are_a_kind_of_their_own() -> None:
@@ -108,7 +120,7 @@ def test_a_loop_with_a_turn_too_few_does_something_else() -> None:
         about = marked(program)
         loop = next(compounds(about.source.statements))
         joint = about.joint(about.with_marks())
-        texts = [Even(about, Change(frozenset([loop.at])), {loop.at: turns}).text(True, False) for turns in (3, 2)]
+        texts = [Even(about, Change(frozenset([loop.at])), {loop.at: turns}).text(True) for turns in (3, 2)]
         assert [about.joint(text) == joint for text in texts] == [True, False]
 
 
@@ -238,16 +250,50 @@ def test_a_column_counts_bytes_as_lines_does() -> None:
         floor(Program(text), (3, 13))
 
 
-def test_of_several_values_the_last_is_kept_and_that_is_said(tmp_path: Path) -> None:
-    """x turns show x, .., 1; the last one is always 1, so that all that is kept is whether there was one: 2/4."""
-    text = "var x : 0..3 := uniform 0..3;\nvar y : 0..3 := x;\nabout old x;\nwhile y > 0 { observe y; y := y - 1; }\n"
-    found = floor(Program(text))
-    assert found.repeated == {4: 3} and posterior_vulnerability(found.floor) == Fraction(1, 2)
+DOWN = "var x : 0..3 := uniform 0..3;\nvar y : 0..3 := x;\nabout old x;\nwhile y > 0 { observe y; y := y - 1; }\n"
+
+
+def test_all_values_that_are_shown_are_kept(tmp_path: Path) -> None:
+    """x turns show x, .., 1: what is kept is x, so that nothing more can leak."""
+    found = floor(Program(DOWN))
+    assert found.repeated == {4: 3} and found.is_reached and posterior_vulnerability(found.floor) == 1
     assert floor(Program(TWO)).repeated == {}
     file = tmp_path / "down.kf"
-    file.write_text(text)
+    file.write_text(DOWN)
     said = pytest.importorskip("click.testing").CliRunner().invoke(lab(), ["floor", str(file)])
-    assert "line 4 shows up to 3 values in a run, of which the last one is kept\n" in said.output
+    assert "line 4 shows up to 3 values in a run, and all of them are kept, in their order\n" in said.output
+
+
+def test_a_loop_of_noisy_answers_keeps_all_of_them() -> None:
+    """Three answers on a bit, each right with 3/4, and a branch that shows the bit. Of the answers alone the majority is right with 27/32."""
+    text = "var x : bool := flip 1/2;\nvar n : 0..3 := 0;\nvar z : 0..3 := 0;\nabout old x;\n"
+    text += "while n < 3 {\n  if x { z := n; } else { skip; }\n  observe choose { x : 3, not x : 1 };\n  n := n + 1;\n}\n"
+    found = repair(Program(text))
+    assert found.floor.repeated == {7: 3} and posterior_vulnerability(found.floor.floor) == Fraction(27, 32)
+    assert found.best is not None and found.best.at_floor and found.best.lines == (6,)
+
+
+def test_a_sequence_comes_out_of_its_loop() -> None:
+    """Two noisy answers on whether x is even, each right with 3/4, in a loop that takes x + 2 turns and shows x thereby.
+
+    Of both answers alone, one guess of three is right with (9 + 3 + 3 + 9)/16 / 3 = 1/2: both say even (guess 0), they differ, or both say odd (1).
+    """
+    text = "var x : 0..2 := uniform 0..2;\nvar n : 0..4 := 0;\nabout old x;\nwhile n < x + 2 {\n"
+    text += "  if n < 2 { observe choose { x mod 2 = 0 : 3, x mod 2 = 1 : 1 }; } else { skip; }\n  n := n + 1;\n}\n"
+    found = repair(Program(text))
+    assert found.floor.repeated == {5: 2} and posterior_vulnerability(found.floor.hyper) == 1
+    assert found.best is not None and found.best.at_floor and posterior_vulnerability(found.best.hyper) == Fraction(1, 2)
+    assert "\n}\nobserve seen;\n" in found.best.program.text.decode()
+
+
+def test_the_order_of_what_is_shown_is_kept() -> None:
+    """The last value and the number of values are the same in both programs, and the first value isn't."""
+    head = "var x : bool := flip 1/2;\nvar n : 0..2 := 0;\nabout old x;\n"
+    texts = [head + f"while n < 2 {{ observe cond(n = 0, {first}, true); n := n + 1; }}\n" for first in ("x", "not x")]
+    with quietly():
+        joints = [marked(Program(text)).distributed for text in texts]
+    assert joints[0] != joints[1]
+    assert {values[-2][0] for values in joints[0] if values[0] is True} == {True}  # type: ignore[index]
 
 
 def lab() -> object:

@@ -13,7 +13,7 @@ from random_programs import KEPT, Writer
 from kuifje import Program
 from kuifje.errors import Refusal
 from kuifje.repair import BadPurpose, Repairs, repair
-from kuifje.source import Observe, every, read
+from kuifje.source import Observe, Tuple, every, read
 from kuifje.texts import Hyper as Printed
 
 pytestmark = pytest.mark.usefixtures("built")
@@ -35,13 +35,15 @@ def ends(found: Runs, before: Runs) -> list[tuple[tuple[object, object, object],
     secrets = [found.names.index(item.name) for item in before.source.target.items]
     places = [found.names.index(name) for name in before.names]
     new = [name for name in found.names if name not in before.names]
-    moved = [
-        found.names.index(next(name for name in new if name.startswith(word))) for word in ("kept", "met") if any(n.startswith(word) for n in new)
-    ]
+    held = {word: [found.names.index(name) for name in new if name.startswith(word)] for word in ("kept", "met", "seen")}
+    tuples = [isinstance(one.type, Tuple) for name in found.names for one in found.source.declarations if one.name == name]
     rows = []
     for (first, last, seen, kept), p in found.runs.items():
-        if moved:
-            kept = (last[moved[0]],) if last[moved[1]] else None
+        if held["seen"]:
+            values = [v for i in held["seen"] for v in (last[i] if tuples[i] else (last[i],))]  # type: ignore[attr-defined]
+            kept = tuple(values[: int(str(last[held["met"][0]]))])
+        elif held["kept"]:
+            kept = (last[held["kept"][0]],) if last[held["met"][0]] else ()
         secret = first[secrets[0]] if len(secrets) == 1 else tuple(first[i] for i in secrets)
         rows.append(((secret, tuple(last[i] for i in places), repr(kept)), seen, secret, p))
     return rows

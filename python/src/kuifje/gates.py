@@ -23,10 +23,13 @@ A policy is a TOML file. Files in it are named from its folder; bounds are whole
     of = "login.kf"                    # .. this one,
     # revision = "main"                # or than itself at a revision of git
     priors = "all"                     # for every prior on the secret; where it isn't said, for the declared one
+    times = "21/20"                    # leaks no more than 21/20 times as much, to any adversary with gains from 0 to 1 ..
+    plus = "1/100"                     # .. and 1/100 more; where one isn't said it is 1, or 0
 
-A program whose target has no ``old`` item, or has one value alone, gets no answer unless its rule has ``as_it_is_left = true``, or
-``constant_secret = true``. What is compared is the proved program's; the comparison is made here. Rules for compiled code
-are ``[[measured]]`` (``kuifje.measured.policy``).
+A program whose target has no ``old`` item, or has one value alone, gets no answer unless its rule has ``as_it_is_left = true``, or ``constant_secret
+= true``. What is compared is the proved program's; the comparison is made here. With ``times`` or ``plus`` (``refinement.at_most``) the proof that a
+program stays within them is found and multiplied out here, exactly but not proved; where it doesn't, the proved program gives both vulnerabilities
+that show it. Rules for compiled code are ``[[measured]]`` (``kuifje.measured.policy``).
 """
 
 from __future__ import annotations
@@ -47,8 +50,8 @@ from .priors import Prior, difference, obstacle, prior_of
 from .program import COMPARING, Program, refine
 from .questions import warning_of
 from .source import Source, every, read
-from .texts import Leakage, Lines
-from .values import format_value
+from .texts import GainTable, Leakage, Lines
+from .values import Value, ascending, format_value
 
 __all__ = ["Finding", "Policy", "judge", "status"]
 
@@ -56,8 +59,10 @@ AT_MOST = ("prior_vulnerability", "posterior_vulnerability", "multiplicative_lea
 AT_LEAST = {"least_prior_guesses": "prior_vulnerability", "least_guesses": "posterior_vulnerability"}  # each with the number that it bounds
 BOUNDS = {"capacity", *AT_MOST, *AT_LEAST}
 MEANT = ("as_it_is_left", "constant_secret")
-KEYS = {"program": {"file", "gain", "keep", *BOUNDS, *MEANT}, "refinement": {"file", "of", "revision", "priors", *MEANT}}
+LIMITS = ("times", "plus")
+KEYS = {"program": {"file", "gain", "keep", *BOUNDS, *MEANT}, "refinement": {"file", "of", "revision", "priors", *LIMITS, *MEANT}}
 TEXTS = ("file", "gain", "of", "revision", "priors")
+SHOWN = 3  # bets and values that a finding names
 BOUND = re.compile(r"-?[0-9]{1,1000}(?:/[0-9]{1,1000}|\.[0-9]{1,1000})?")
 
 
@@ -180,6 +185,16 @@ def _check_refinement(entry: Entry) -> None:
         raise ValueError("a revision doesn't begin with -")
     if entry.get("priors", "all") != "all":
         raise ValueError(f"priors is {entry['priors']!r}, and may be \"all\", or be left out for the declared prior")
+    times, plus = _limits(entry)
+    if times <= 0 or not 0 <= plus <= 1:
+        raise ValueError("times is above 0, and plus is from 0 to 1")
+    if plus and "priors" in entry:
+        raise ValueError("plus depends on the prior, and times doesn't: leave out one of plus and priors")
+
+
+def _limits(entry: Entry) -> tuple[Fraction, Fraction]:
+    """By how much a program may leak more than another one: by a factor, and by an amount."""
+    return _bound("times", entry.get("times", 1)), _bound("plus", entry.get("plus", 0))
 
 
 CHECKS = {"program": _check_bounds, "refinement": _check_refinement}
@@ -196,7 +211,8 @@ def _check_names(policy: Policy) -> None:
 def _by(rule: str, entry: Entry) -> str:
     """The gain of a rule, or what it compares with, in words."""
     if rule == "refinement":
-        return f"of {_other(entry)}{' for every prior' if 'priors' in entry else ''}"
+        limits = "".join(f", {key} {_bound(key, entry[key])}" for key in LIMITS if key in entry)
+        return f"of {_other(entry)}{limits}{' for every prior' if 'priors' in entry else ''}"
     return f"under {entry.get('gain', 'bayes')}" if rule in AT_MOST else ""
 
 
@@ -370,7 +386,8 @@ class _Judge:
         file, by, than = str(entry["file"]), _by("refinement", entry), _other(entry)
         program = self.program(file)
         other = self._compared_with(entry, program)
-        verdict = refine(other, program, self.comparing)
+        limited = any(key in entry for key in LIMITS)
+        found = None if limited else refine(other, program, self.comparing)
         for one in (program, other):
             if (unmeant := self.unmeant(one, entry)) is not None:
                 where = "" if one is program else f"of {than}: "
@@ -378,16 +395,33 @@ class _Judge:
         first, second = self.prior(other), self.prior(program)
         if "priors" in entry and (cause := obstacle(other, program, first, second)) is not None:
             return Finding("refinement", file, None, f"refine says nothing of every prior here: {cause}", by=by)
-        if verdict.refines:
-            every_prior = ", for every prior on the secret, since it is old and each of its values is possible" if "priors" in entry else ""
+        every_prior = ", for every prior on the secret, since it is old and each of its values is possible" if "priors" in entry else ""
+        if found is None:
+            return self._limited(entry, program, other, every_prior)
+        if found.refines:
             return Finding("refinement", file, True, f"it leaks no more than {than}{every_prior}", by=by)
         if (apart := difference(first, second, (f"in {than}", "here"))) is not None:
             text = f"another prior than {than}, so nothing is said of which leaks more: {apart}"
             return Finding("refinement", file, False, text, _secret_line(program), by)
-        assert verdict.table is not None
+        assert found.table is not None
         text = f"it leaks more than {than} under some gain function"
         text += ", for every prior under which each value of the secret is possible" if "priors" in entry else ""
-        return Finding("refinement", file, False, text, _worst_line(program, verdict.table, self.timeout), by)
+        return Finding("refinement", file, False, text, _worst_line(program, found.table, self.timeout), by)
+
+    def _limited(self, entry: Entry, program: Program, other: Program, every_prior: str) -> Finding:
+        """What is found of a refinement with a factor or an amount: who gains more, by what the proved program says under that gain function."""
+        from .refinement import at_most
+
+        file, by, (times, plus) = str(entry["file"]), _by("refinement", entry), _limits(entry)
+        limit = at_most(other, program, times, plus, float(self.comparing))
+        more = f"{times} times as much as {_other(entry)}" + (f" and {plus} more" if plus else "")
+        if limit.holds:
+            return Finding("refinement", file, True, f"it leaks at most {more}{every_prior}", by=by, found=limit.least, bound=f"at most {plus}")
+        before, after = (one.leak(limit.table, self.timeout).posterior_vulnerability for one in (other, program))
+        if not after > times * before + plus:
+            return Finding("refinement", file, None, "the proved program doesn't confirm the gain function that was found", by=by)
+        text = f"it leaks more than {more}, to an adversary {bets(limit.table)}: {after} after a run, and {before} in {_other(entry)}"
+        return Finding("refinement", file, False, text, _worst_line(program, limit.table, self.timeout), by, limit.least, f"at most {plus}")
 
     def _compared_with(self, entry: Entry, program: Program) -> Program:
         """The program that a refinement is of, under another name than the program's own."""
@@ -395,6 +429,24 @@ class _Judge:
             other = self.program(str(entry["of"]))
             return other if other.name != program.name else Program(other.text, name=f"of-{other.name}")
         return Program(_at_revision(self.folder, str(entry["file"]), str(entry["revision"])), name=f"before-{program.name}")
+
+
+def bets(table: GainTable) -> str:
+    """What an adversary with this gain function does, in words: which bets there are where each gains 1 or nothing, and else how many actions."""
+    if table.rest or any(gain not in (0, table.over) for action in table.actions for gain in action.gains.values()):
+        most = max(gain for action in table.actions for gain in (table.rest, *action.gains.values()))
+        return f"with {len(table.actions)} actions that gain at most {Fraction(most, table.over)}"
+    named = {tuple(ascending(x for x, gain in action.gains.items() if gain)) for action in table.actions} - {()}
+    actions = sorted((list(values) for values in ascending(named) if isinstance(values, tuple)), key=len)
+    listed = [f"that the secret is {_some(values)}" for values in actions[:SHOWN]]
+    return f"who gains 1 by a bet {' or '.join(listed)}" + (f", or by one of {len(actions) - SHOWN} more" if len(actions) > SHOWN else "")
+
+
+def _some(values: list[Value]) -> str:
+    texts = [format_value(value) for value in values[:SHOWN]]
+    if len(values) > SHOWN:
+        texts.append(f"{len(values) - SHOWN} more")
+    return texts[0] if len(texts) == 1 else f"one of {', '.join(texts[:-1])} and {texts[-1]}"
 
 
 def _at_revision(folder: Path, file: str, revision: str) -> bytes:

@@ -59,7 +59,7 @@ class _Task:
         try:
             with warnings.catch_warnings():
                 warnings.simplefilter("ignore", AsItIsLeft)
-                program = self.template.program(point, turns=self.turns, engine=_engine(self.memory, self.timeout, self.cache))
+                program = self.template.program(point, turns=self.turns, engine=own_engine(self.memory, self.timeout, self.cache))
                 found = self.measure(program) if callable(self.measure) else answer(self.measure, program)
         except KuifjeError as cause:
             refused = {"status": cause.status, "refusal": cause.text} if isinstance(cause, Refusal) else {"refusal": str(cause)}
@@ -73,7 +73,7 @@ class _Task:
 _OWN = threading.local()
 
 
-def _engine(memory: int, timeout: float | None, cache: Path | None) -> Engine:
+def own_engine(memory: int, timeout: float | None, cache: Path | None) -> Engine:
     """The engine of this thread, so that threads don't wait for one another."""
     before: Engine | None = getattr(_OWN, "engine", None)
     kept = Cache(cache) if cache else None

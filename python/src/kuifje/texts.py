@@ -34,6 +34,7 @@ __all__ = [
     "Leakage",
     "Left",
     "Lines",
+    "LossTable",
     "Made",
     "Mark",
     "Matrix",
@@ -659,6 +660,30 @@ class GainTable:
     def vulnerability(self, distribution: Mapping[Value, Fraction]) -> Fraction:
         """What the best action is expected to gain where the target has this distribution."""
         return max(sum((p * self.gain(action, value) for value, p in distribution.items()), Fraction(0)) for action in self.actions)
+
+    @staticmethod
+    def loss(over: int, rest: int, actions: Iterable[Action]) -> LossTable:
+        """A loss function by its table: an action loses ``gains[x] / over`` at a value that it names, and ``rest / over`` at any other.
+
+        A ``rest`` of 0 makes an action that names little the best one: it is the loss where nothing is named, often the greatest.
+        """
+        return LossTable(over, -rest, tuple(Action(action.name, {x: -number for x, number in action.gains.items()}) for action in actions))
+
+
+@dataclass(frozen=True)
+class LossTable(GainTable):
+    """A loss function, held as the gain function whose gains are the negated losses: each question about gains takes it as that.
+
+    ``GainTable.loss``, ``kuifje.losses.read`` and ``kuifje.losses.loss_table`` make one, ``kuifje.losses.leak_loss`` asks what is lost under it.
+    """
+
+    def lost(self, action: Action, value: Value) -> Fraction:
+        """What an action loses where the target has this value."""
+        return -self.gain(action, value)
+
+    def uncertainty(self, distribution: Mapping[Value, Fraction]) -> Fraction:
+        """What the best action is expected to lose where the target has this distribution (the book, chapter 3)."""
+        return -self.vulnerability(distribution)
 
 
 @dataclass(frozen=True, repr=False)

@@ -10,6 +10,7 @@ from time import monotonic
 from ..channels import Channel, Rational
 from ..texts import GainTable
 from ..values import Value
+from .near import ALONE, Ends, near_least
 from .tableau import Tableau, TookTooLong
 from .tasks import Aim, Infeasible, Loss, Task, exact, task
 
@@ -60,7 +61,7 @@ class _Program:
     """The linear program of least leakage: cells of a channel, and for each output what the best action is worth there."""
 
     def __init__(self, about: Task, aim: Aim, bound: Fraction | None, price: Fraction) -> None:
-        self.about = about
+        self.about, self.aim, self.given_price = about, aim, price
         self.names, gains = _gains(about, aim)
         self.lowest = min(Fraction(0), *(g / p for of in gains for g, p in zip(of, about.prior)))
         self.gains = [[g - self.lowest * p for g, p in zip(of, about.prior)] for of in gains] if isinstance(aim, GainTable) else gains
@@ -71,37 +72,76 @@ class _Program:
         self.bound = bound
         costs = {self.cell(x, y): price * p * q for x, (p, row) in enumerate(zip(about.prior, about.losses)) for y, q in enumerate(row)}
         self.tableau = Tableau({**costs, **{j: Fraction(1) for j in self.worth}})
-        self._build(costs if bound is None else {j: about.prior[j // m] * about.losses[j // m][j % m] for j in costs})
+        self._add(costs if bound is None else {j: about.prior[j // m] * about.losses[j // m][j % m] for j in costs})
+        self._ends: Ends | None = None
 
     def cell(self, x: int, y: int) -> int:
         return x * len(self.about.outputs) + y
 
-    def _build(self, costs: Mapping[int, Fraction]) -> None:
-        """Adds the equations, and begins at the channel in which each secret shows the output that costs it least."""
-        about, tableau, columns = self.about, self.tableau, range(len(self.about.outputs))
-        rows = [tableau.add({self.cell(x, y): 1 for y in columns}, 1) for x in range(len(about.secrets))]
-        of_worth = {
+    def _add(self, costs: Mapping[int, Fraction]) -> None:
+        """Adds the equations."""
+        tableau, columns = self.tableau, range(len(self.about.outputs))
+        self.rows = [tableau.add({self.cell(x, y): 1 for y in columns}, 1) for x in range(len(self.about.secrets))]
+        self.of_worth = {
             (a, y): tableau.add({**{self.cell(x, y): g for x, g in enumerate(of)}, self.worth[y]: -1, self.slack[a][y]: 1}, 0, self.slack[a][y])
             for a, of in enumerate(self.gains)
             for y in columns
         }
         if self.bound is not None:
-            tableau.add({**costs, self.spare: 1}, self.bound, self.spare)
+            self.of_bound = tableau.add({**costs, self.spare: 1}, self.bound, self.spare)
+
+    def _begin(self) -> None:
+        """Begins at the channel in which each secret shows the output that costs it least."""
+        about, tableau, columns = self.about, self.tableau, range(len(self.about.outputs))
         first = [min(columns, key=row.__getitem__) for row in about.losses]
         for x, y in enumerate(first):
-            tableau.enter(rows[x], self.cell(x, y))
+            tableau.enter(self.rows[x], self.cell(x, y))
         for y in columns:
             here = [x for x in range(len(first)) if first[x] == y]
             best = max(range(len(self.gains)), key=lambda a: sum((self.gains[a][x] for x in here), Fraction(0)))
-            tableau.enter(of_worth[best, y], self.worth[y])
+            tableau.enter(self.of_worth[best, y], self.worth[y])
+
+    def run(self, until: float) -> None:
+        """Finds the least value: what HiGHS ends with, where that can be made exact and proves itself; else the exact simplex goes on from there.
+
+        Raises ``TookTooLong``.
+        """
+        near = near_least(self.tableau, until) if len(self.about.secrets) * len(self.about.outputs) > ALONE else None
+        if near is not None and near.ends is not None:
+            self._ends = near.ends
+            if self.is_proved():
+                return
+        self._ends = None
+        self._begin()
+        if near is not None:
+            self.tableau.run(until, near.above)
+        self.tableau.run(until)
+
+    def is_proved(self) -> bool:
+        """Whether its price and strategy show that no channel does better than its cells: by the cells and by these alone."""
+        about, cells, strategy, price = self.about, self.cells(), self.strategy(), self.price()
+        bound = about.loss_of(cells) if self.bound is None else self.bound
+        if price < 0 or any(p < 0 for row in (*cells, *strategy) for p in row) or any(sum(row) != 1 for row in (*cells, *strategy)):
+            return False
+        return about.loss_of(cells) <= bound and leaks(about, self.aim, cells) == lower_bound(about, self.aim, bound, price, strategy)
+
+    def price(self) -> Fraction:
+        """What one unit of loss is worth."""
+        if self.bound is None:
+            return self.given_price
+        return self.tableau.reduced_cost(self.spare) if self._ends is None else -self._ends.prices[self.of_bound]
 
     def cells(self) -> list[list[Fraction]]:
-        found = self.tableau.solution()
+        found = self.tableau.solution() if self._ends is None else self._ends.solution
         return [[found.get(self.cell(x, y), Fraction(0)) for y in range(len(self.about.outputs))] for x in range(len(self.about.secrets))]
 
     def strategy(self) -> list[list[Fraction]]:
         """For each output the probability of each action, whatever is left over going to the first one: no gain is below 0 here."""
-        found = [[self.tableau.reduced_cost(self.slack[a][y]) for a in range(len(self.gains))] for y in range(len(self.about.outputs))]
+
+        def weight(a: int, y: int) -> Fraction:
+            return self.tableau.reduced_cost(self.slack[a][y]) if self._ends is None else -self._ends.prices[self.of_worth[a, y]]
+
+        found = [[weight(a, y) for a in range(len(self.gains))] for y in range(len(self.about.outputs))]
         for row in found:
             row[0] += 1 - sum(row)
         return found
@@ -163,7 +203,7 @@ def _silent(about: Task, aim: Aim, bound: Fraction) -> Optimum:
 def _solved(about: Task, aim: Aim, bound: Fraction | None, price: Fraction, seconds: float) -> _Program:
     program = _Program(about, aim, bound, price)
     try:
-        program.tableau.run(monotonic() + seconds)
+        program.run(monotonic() + seconds)
     except TookTooLong:
         size = f"{len(about.secrets)} secrets and {len(about.outputs)} outputs"
         raise TimeoutError(f"no least channel for {size} within {max(seconds, 0):g} seconds; seconds= allows more") from None
@@ -189,8 +229,7 @@ def optimal(
     if most >= about.silent_loss:
         return _silent(about, aim, most)
     program = _solved(about, aim, most, Fraction(0), seconds)
-    price = program.tableau.reduced_cost(program.spare)
-    return _optimum(about, aim, most, price, program.cells(), program.strategy())
+    return _optimum(about, aim, most, program.price(), program.cells(), program.strategy())
 
 
 @dataclass(frozen=True)

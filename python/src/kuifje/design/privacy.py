@@ -2,7 +2,7 @@
 
 from __future__ import annotations
 
-from collections.abc import Iterable, Mapping, Sequence
+from collections.abc import Callable, Iterable, Mapping, Sequence
 from dataclasses import dataclass
 from fractions import Fraction
 from itertools import permutations
@@ -12,6 +12,7 @@ from typing import Literal
 from ..channels import Channel, Rational
 from ..values import Value, format_value
 from .optimum import SECONDS
+from .near import near_least
 from .tableau import Tableau, TookTooLong
 from .tasks import Infeasible, Loss, Task, exact, task
 
@@ -20,6 +21,7 @@ __all__ = ["Bracket", "MostUseful", "Neighbours", "check_most_useful", "least_fa
 Neighbours = Literal["all"] | Iterable[tuple[Value, Value]]
 """Which secrets an observer must hardly tell apart: all pairs (local differential privacy), or these pairs, in both directions."""
 
+CONDITIONS = 500  # up to which the exact simplex alone takes about a second
 Weights = Mapping[tuple[Value, Value, Value], Fraction]
 
 
@@ -116,20 +118,33 @@ def _least(about: Task, factor: Fraction, pairs: tuple[tuple[Value, Value], ...]
     tableau = Tableau({x * m + y: p * q for x, (p, row) in enumerate(zip(about.prior, about.losses)) for y, q in enumerate(row)})
     rows = [tableau.add({x * m + y: 1 for y in range(m)}, 1) for x in range(n)]
     slack = {(x, x2, y): n * m + i * m + y for i, (x, x2) in enumerate(pairs) for y in range(m)}
-    for (x, x2, y), s in slack.items():
-        tableau.add({places[x] * m + y: 1, places[x2] * m + y: -factor, s: 1}, 0, s)
+    of = {(x, x2, y): tableau.add({places[x] * m + y: 1, places[x2] * m + y: -factor, s: 1}, 0, s) for (x, x2, y), s in slack.items()}
+
+    def found_of(solution: Mapping[int, Fraction], price: Callable[[tuple[Value, Value, int]], Fraction]) -> MostUseful | None:
+        cells = [[solution.get(x * m + y, Fraction(0)) for y in range(m)] for x in range(n)]
+        if any(cell < 0 for row in cells for cell in row) or any(sum(row) != 1 for row in cells):
+            return None
+        weights = {(x, x2, about.outputs[y]): w for x, x2, y in slack if (w := price((x, x2, y)))}
+        found = MostUseful(factor, pairs, about.loss_of(cells), about.channel(cells), weights)
+        proved = all(w > 0 for w in weights.values()) and least_bound(about, factor, weights) == found.loss
+        return found if proved and is_private(about, cells, factor, pairs) else None
+
+    near = near_least(tableau, until) if len(slack) > CONDITIONS else None
+    if near is not None and near.ends is not None:
+        solution, prices = near.ends.solution, near.ends.prices
+        if (found := found_of(solution, lambda key: -prices[of[key]])) is not None:
+            return found
     for x, row in enumerate(rows):
         tableau.enter(row, x * m + about.silent_output)
     try:
+        if near is not None:
+            tableau.run(until, near.above)
         tableau.run(until)
     except TookTooLong:
         raise TimeoutError(f"no channel of least loss for {n} secrets and {m} outputs in time; seconds= allows more") from None
-    solution = tableau.solution()
-    cells = [[solution.get(x * m + y, Fraction(0)) for y in range(m)] for x in range(n)]
-    weights = {(x, x2, about.outputs[y]): w for (x, x2, y), s in slack.items() if (w := tableau.reduced_cost(s))}
-    found = MostUseful(factor, pairs, about.loss_of(cells), about.channel(cells), weights)
-    assert least_bound(about, factor, weights) == found.loss and is_private(about, cells, factor, pairs), "the weights don't prove the channel"
-    return found
+    last = found_of(tableau.solution(), lambda key: tableau.reduced_cost(slack[key]))
+    assert last is not None, "the weights don't prove the channel"
+    return last
 
 
 def least_loss(

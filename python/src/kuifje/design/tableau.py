@@ -1,7 +1,7 @@
 """The simplex algorithm in whole numbers: a least value of a linear program, and the prices that prove it, both exact.
 
 A row is a dictionary from unknowns to whole numbers without a common factor, so that a number that is 0 takes no room. The program starts at a
-corner that is given; which rows and unknowns there are is the business of `programs`.
+corner that is given; which rows and unknowns there are is the business of those who make it.
 """
 
 from __future__ import annotations
@@ -42,6 +42,8 @@ class Tableau:
     """
 
     def __init__(self, aim: Mapping[int, Rational]) -> None:
+        self.costs = dict(aim)
+        self.equations: list[tuple[dict[int, Rational], Rational]] = []  # as they were added
         self.rows: list[dict[int, int]] = []
         self.basic: list[int | None] = []
         self.uses: dict[int, set[int]] = {}
@@ -49,6 +51,7 @@ class Tableau:
 
     def add(self, terms: Mapping[int, Rational], side: Rational, basic: int | None = None) -> int:
         """Adds an equation, with its basic unknown if it has one already, and gives its number."""
+        self.equations.append((dict(terms), side))
         row = _whole({**terms, SIDE: side})
         for j in row:
             self.uses.setdefault(j, set()).add(len(self.rows))

@@ -100,8 +100,9 @@ class Model:
 
     def program(self, **public: Any) -> Program:
         """The program to ask, with these public inputs as constants; its refusals speak of Python lines."""
-        inputs = ", ".join(f"{name}={value!r}" for name, value in self._given(public).items())
-        found = replace(self.translation(**public), call=f"{self.name}({inputs})" if inputs else self.name)
+        given = self._given(public)
+        inputs = ", ".join(f"{name}={value!r}" for name, value in given.items())
+        found = replace(self.translation(**public), call=f"{self.name}({inputs})" if inputs else self.name, model=self, inputs=given)
         return Program(found.text, name=f"{self.name}.kf", turns=self.turns, engine=self.engine, expansion=found)
 
     def blame(self, **public: Any) -> list[tuple[Place, BlameLine]]:

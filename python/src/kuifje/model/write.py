@@ -2,9 +2,10 @@
 
 from __future__ import annotations
 
-from collections.abc import Sequence
-from dataclasses import dataclass, replace
+from collections.abc import Mapping, Sequence
+from dataclasses import dataclass, field, replace
 from math import prod
+from typing import Any
 
 from ..channels import LENGTH, NODES
 from ..errors import Refusal
@@ -27,13 +28,16 @@ class Translation:
     """The text of a model in the language, and where each of its lines comes from.
 
     ``lines`` has a place for each line of the text, and ``statements`` one for each top-level statement, as ``blame`` and ``quiet`` count them.
-    ``call`` is, of a program's translation, the model with its public inputs, ``early(tries=3)``, and its name alone where it has none.
+    Of a program's translation ``call`` is the model with its public inputs, ``early(tries=3)``, and its name alone where it has none; ``model`` is
+    the model, and ``inputs`` are the public inputs.
     """
 
     text: str
     lines: tuple[Place, ...]
     statements: tuple[Place, ...]
     call: str = ""
+    model: object = None
+    inputs: Mapping[str, Any] = field(default_factory=dict)
 
     def place(self, line: int) -> Place:
         """Where a line of the text comes from, counted from 1. Raises ``IndexError`` where there is no such line."""

@@ -5,5 +5,6 @@ modules may miss a verdict, and can't make a wrong one. The terms are those of *
 """
 
 from .decisions import Decision, decide
+from .within import Limit, Within, at_most, check_within, distance, ratio
 
-__all__ = ["Decision", "decide"]
+__all__ = ["Decision", "Limit", "Within", "at_most", "check_within", "decide", "distance", "ratio"]

@@ -148,11 +148,11 @@ def _unchecked(name: str, proof: Proof) -> Decision:
     return Decision(None, name, False, proof.certificate, proof.worth, reason, False if proof.obstacle and proof.final else None)
 
 
-def _hyper(of: Program | Hyper, timeout: float | None) -> Hyper:
+def hyper_of(of: Program | Hyper, timeout: float | None) -> Hyper:
     return of.hyper(timeout) if isinstance(of, Program) else of
 
 
-def _asked_for(name: str, of: Any) -> Program | Hyper:
+def asked_for(name: str, of: Any) -> Program | Hyper:
     """What an argument is, or is written as. Raises ``TypeError`` where it is none of what it may be."""
     if isinstance(of, Hyper):
         return of
@@ -178,9 +178,9 @@ def decide(a: Program | Writable | Hyper, b: Program | Writable | Hyper, seconds
     """
     bound, question = seconds_of("seconds", seconds), seconds_of("timeout", timeout)
     deadline, last = Deadline(bound), Deadline(None if bound is None else bound * (1 + CHECKING))
-    first, second = _asked_for("a", a), _asked_for("b", b)
+    first, second = asked_for("a", a), asked_for("b", b)
     try:
-        hypers = _hyper(first, _at_most(question, deadline.left)), _hyper(second, _at_most(question, deadline.left))
+        hypers = hyper_of(first, _at_most(question, deadline.left)), hyper_of(second, _at_most(question, deadline.left))
         problem = Problem.of(*hypers, deadline) if hypers[0].target == hypers[1].target else None
     except (OutOfTime, Undecided):
         if not deadline.passed:

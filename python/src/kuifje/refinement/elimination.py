@@ -1,39 +1,29 @@
-"""The matrix that has entries at some places alone, worked out over fractions."""
+"""Sparse equations, worked out over fractions; and by them the matrix that has entries at some places alone."""
 
 from __future__ import annotations
 
 import heapq
-from collections.abc import Sequence
+from collections.abc import Iterable, Sequence
 from fractions import Fraction
 
 from .problem import Deadline, Problem, Undecided, in_time
 
-__all__ = ["solution"]
+__all__ = ["Equations", "solution"]
 
 BITS = 2000  # of a denominator on the way, at most
 
 
-class _System:
-    """The equations of a matrix's entries at some places, as sparse rows, on the way to a triangular form.
+class Equations:
+    """Equations of so many unknowns as sparse rows, on the way to a triangular form.
 
     ``equations[e]`` has the coefficient of each unknown and the number that they come to, ``uses[u]`` which equations have the unknown u and aren't
     solved for another, and ``solved`` which equation was solved for which unknown, in order.
     """
 
-    def __init__(self, problem: Problem, places: Sequence[tuple[int, int]], deadline: Deadline) -> None:
-        self._deadline, self._late = deadline, f"an exact solution for {len(places)} entries takes too long"
-        self.equations: list[tuple[dict[int, Fraction], Fraction]] = []
-        columns: list[dict[int, dict[int, Fraction]]] = [{c: {} for c in inner} for inner in problem.b]
-        rows: list[dict[int, Fraction]] = [{} for _ in problem.a]
-        for u, (i, j) in enumerate(places):
-            in_time(deadline, self._late)
-            rows[i][u] = Fraction(1)
-            for c, weight in problem.a[i].items():
-                columns[j].setdefault(c, {})[u] = Fraction(weight)
-        for inner, column in zip(problem.b, columns):
-            self.equations += [(terms, Fraction(inner.get(c, 0))) for c, terms in column.items()]
-        self.equations += [(terms, Fraction(1)) for terms in rows]
-        self.uses: list[set[int]] = [set() for _ in places]
+    def __init__(self, unknowns: int, equations: Iterable[tuple[dict[int, Fraction], Fraction]], deadline: Deadline) -> None:
+        self._deadline, self._late = deadline, f"an exact solution for {unknowns} entries takes too long"
+        self.equations = list(equations)
+        self.uses: list[set[int]] = [set() for _ in range(unknowns)]
         for e, (terms, _) in enumerate(self.equations):
             for u in terms:
                 self.uses[u].add(e)
@@ -54,7 +44,7 @@ class _System:
                 for o in self._solve(e):
                     heapq.heappush(waiting, (len(self.equations[o][0]), o))
             elif value:
-                raise Undecided("no matrix has its entries at these places alone")
+                raise Undecided("no solution has its entries at these places alone")
 
     def _solve(self, e: int) -> list[int]:
         """Solves an equation for the unknown that fewest others have, and gives the others, from which that is gone."""
@@ -97,11 +87,25 @@ class _System:
         return found
 
 
+def _of_matrix(problem: Problem, places: Sequence[tuple[int, int]], deadline: Deadline) -> Iterable[tuple[dict[int, Fraction], Fraction]]:
+    """The equations of a matrix's entries at some places."""
+    columns: list[dict[int, dict[int, Fraction]]] = [{c: {} for c in inner} for inner in problem.b]
+    rows: list[dict[int, Fraction]] = [{} for _ in problem.a]
+    for u, (i, j) in enumerate(places):
+        in_time(deadline, f"an exact solution for {len(places)} entries takes too long")
+        rows[i][u] = Fraction(1)
+        for c, weight in problem.a[i].items():
+            columns[j].setdefault(c, {})[u] = Fraction(weight)
+    for inner, column in zip(problem.b, columns):
+        yield from ((terms, Fraction(inner.get(c, 0))) for c, terms in column.items())
+    yield from ((terms, Fraction(1)) for terms in rows)
+
+
 def solution(problem: Problem, places: Sequence[tuple[int, int]], deadline: Deadline) -> dict[tuple[int, int], Fraction]:
     """The entries at these places of a matrix that carries A to B, but that they may be below 0; an entry that nothing determines is 0.
 
     Raises ``Undecided`` where there are none, or they take too long to work out.
     """
-    system = _System(problem, places, deadline)
+    system = Equations(len(places), _of_matrix(problem, places, deadline), deadline)
     system.eliminate()
     return dict(zip(places, system.values()))

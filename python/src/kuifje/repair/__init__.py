@@ -1,6 +1,7 @@
-"""Repairs: programs that leak less and still do what they are for, each judged by the proved program."""
+"""Repairs: programs that leak less and still do what they are for, each judged by the proved program; of compiled code hints alone."""
 
+from .hints import Hint, hints
 from .purposes import BadPurpose, Floor, floor
 from .search import Repair, Repairs, repair
 
-__all__ = ["BadPurpose", "Floor", "Repair", "Repairs", "floor", "repair"]
+__all__ = ["BadPurpose", "Floor", "Hint", "Repair", "Repairs", "floor", "hints", "repair"]

@@ -43,7 +43,7 @@ def _said(name: str, found: Floor) -> str:
         lines.append("above the floor: more leaks than what is kept, though not to one guess")
     else:
         lines.append(f"above the floor by {leak - least}")
-    lines += [f"line {line} shows up to {count} values in a run, of which the last one is kept" for line, count in found.repeated.items()]
+    lines += [f"line {line} shows up to {count} values in a run, and all of them are kept, in their order" for line, count in found.repeated.items()]
     return "".join(f"{line}\n" for line in lines)
 
 

@@ -7,7 +7,7 @@ from itertools import product
 
 from ..source import Call, Choose, Distribution, Expression, Flip, Literal, Name, Part, Range, SetOf, Sure, Truth, Tuple, Type, Uniform
 
-__all__ = ["NoType", "first_value", "type_of", "type_text"]
+__all__ = ["VALUES", "NoType", "first_value", "joined", "size_of", "type_of", "type_text"]
 
 TRUTHS = {"=", "!=", "<", "<=", ">", ">=", "in", "subset", "or", "xor", "implies", "and", "not"}
 VALUES = 65_536  # of a type, at most
@@ -44,7 +44,7 @@ def first_value(kind: Type) -> str:
             return f"{{{one}}} less {{{one}}}"
 
 
-def _joined(a: Type, b: Type) -> Type:
+def joined(a: Type, b: Type) -> Type:
     """The least type with all values of both."""
     match a, b:
         case (Truth(), Truth()):
@@ -52,13 +52,14 @@ def _joined(a: Type, b: Type) -> Type:
         case (Range(low, high), Range(other_low, other_high)):
             return Range(min(low, other_low), max(high, other_high))
         case (Tuple(parts), Tuple(others)) if len(parts) == len(others):
-            return Tuple(tuple(map(_joined, parts, others)))
+            return Tuple(tuple(map(joined, parts, others)))
         case (SetOf(base), SetOf(other)):
-            return SetOf(_joined(base, other))
+            return SetOf(joined(base, other))
     raise NoType("its values are of several kinds")
 
 
-def _size(kind: Type) -> int:
+def size_of(kind: Type) -> int:
+    """How many values a type has; of a set's, 2^64 where it has more."""
     match kind:
         case Truth():
             return 2
@@ -67,10 +68,10 @@ def _size(kind: Type) -> int:
         case Tuple(parts):
             count = 1
             for part in parts:
-                count *= _size(part)
+                count *= size_of(part)
             return count
         case SetOf(base):
-            return 1 << min(_size(base), 64)
+            return 1 << min(size_of(base), 64)
 
 
 def _bounds(kind: Type) -> tuple[int, int]:
@@ -125,18 +126,18 @@ def _of(part: Expression, types: Mapping[str, Type]) -> Type:
         case Call("set", arguments):
             base = _of(arguments[0], types)
             for argument in arguments[1:]:
-                base = _joined(base, _of(argument, types))
+                base = joined(base, _of(argument, types))
             return SetOf(base)
         case Call("cond", (_, yes, no)):
-            return _joined(_of(yes, types), _of(no, types))
+            return joined(_of(yes, types), _of(no, types))
         case Call("union", (a, b)):
-            return _joined(_of(a, types), _of(b, types))
+            return joined(_of(a, types), _of(b, types))
         case Call("inter" | "less", (a, _)):
             return _of(a, types)
         case Call("size", (a,)):
             found = _of(a, types)
             if isinstance(found, SetOf):
-                return Range(0, _size(found.base))
+                return Range(0, size_of(found.base))
         case Call(operator, arguments):
             return _arithmetic(operator, [_of(argument, types) for argument in arguments])
     raise NoType("its type isn't found")
@@ -160,9 +161,9 @@ def type_of(value: Distribution, types: Mapping[str, Type]) -> Type:
         case Choose(cases):
             found = _of(cases[0].value, types)
             for case in cases[1:]:
-                found = _joined(found, _of(case.value, types))
-    if isinstance(found, Range) and _size(found) > VALUES:
+                found = joined(found, _of(case.value, types))
+    if isinstance(found, Range) and size_of(found) > VALUES:
         found = Range(-VALUES // 2, VALUES // 2 - 1)
-    if _size(found) > VALUES:
-        raise NoType(f"a type with its values has {_size(found):,} of them, and may have {VALUES:,}")
+    if size_of(found) > VALUES:
+        raise NoType(f"a type with its values has {size_of(found):,} of them, and may have {VALUES:,}")
     return found

@@ -13,16 +13,19 @@ from ..arguments import seconds
 from ..channels import hyper_of_columns
 from ..deadlines import NEVER, Deadline
 from ..errors import OutOfTime, Refusal
-from ..program import Program
+from ..model.write import Translation
+from ..program import Program, Writable, program_of
 from ..questions import AsItIsLeft
 from ..source import Observe, Source, Statement, Type, While, edited, every, read
 from ..texts import Hyper, Item, Target
 from ..values import Value
-from .kinds import NoType, first_value, type_of, type_text
+from .kinds import VALUES, NoType, first_value, joined, size_of, type_of, type_text
 
 __all__ = ["BadPurpose", "Floor", "Keep", "Marked", "Place", "floor", "marked"]
 
 MOST_COUNTED = 65_535  # the greatest number of turns that a loop may take
+MOST_VARIABLES = 32  # of a program
+MOST_PARTS = 64  # of a tuple that holds values one after the other, so that its assignment has no more than 1,000 nodes
 
 Place = int | tuple[int, int]
 """An observation: its line, from 1, or its line and column in bytes, as ``lines`` prints them, where several stand in one line."""
@@ -37,12 +40,53 @@ class BadPurpose(ValueError):
 
 @dataclass(frozen=True)
 class Shown:
-    """An observation that is kept: its statement, the type of its value, and the variables that hold the value shown last and whether one was."""
+    """What is kept of a place: its observations, of which a loop over constants has one for each turn, and the type of their values.
 
-    statement: Observe
+    A run shows there ``most`` values at most. The variable ``value`` holds the one shown last, and ``met`` whether one was. Where there may be
+    several, ``met`` counts them, and ``seen`` are the variables that hold all of them in their order: the first variable so many, and so on.
+    """
+
+    statements: tuple[Observe, ...]
     kind: Type
+    most: int
     value: str
     met: str
+    seen: tuple[tuple[str, int], ...] = ()
+
+    @property
+    def names(self) -> tuple[str, ...]:
+        """All of its variables."""
+        return (self.value, self.met, *(name for name, _ in self.seen))
+
+    @property
+    def marks(self) -> tuple[str, ...]:
+        """The variables that say what was shown, and how often."""
+        return (*(name for name, _ in self.seen), self.met) if self.seen else (self.value, self.met)
+
+    def declarations(self) -> list[str]:
+        """The lines that declare its variables."""
+        one, first = type_text(self.kind), first_value(self.kind)
+        lines = [f"var {self.value} : {one} := {first};", f"var {self.met} : {f'0..{self.most} := 0' if self.seen else 'bool := false'};"]
+        return lines + [f"var {name} : {_several_of(one, count)} := {_several_of(first, count)};" for name, count in self.seen]
+
+    def counted(self, guard: str | None = None) -> list[str]:
+        """The statements that come after the value is kept in its variable, where a guard holds."""
+        if not self.seen:
+            return [f"{self.met} := {'true' if guard is None else f'{self.met} or {guard}'};"]
+        lines, at = [], 0
+        for name, count in self.seen:
+            numbers = range(at, at + count)
+            now = [f"{self.met} = {i}" if guard is None else f"{guard} and {self.met} = {i}" for i in numbers]
+            before = [name] if count == 1 else [f"{name}.{j}" for j in range(count)]
+            parts = [f"cond({test}, {self.value}, {old})" for test, old in zip(now, before)]
+            lines.append(f"{name} := {parts[0] if count == 1 else '(' + ', '.join(parts) + ')'};")
+            at += count
+        return [*lines, f"{self.met} := {self.met} + {'1' if guard is None else f'cond({guard}, 1, 0)'};"]
+
+
+def _several_of(one: str, count: int) -> str:
+    """So many times the text of a type or a value, as a tuple's."""
+    return one if count == 1 else f"({', '.join([one] * count)})"
 
 
 @dataclass(frozen=True)
@@ -67,22 +111,35 @@ class Marked:
     @property
     def marks(self) -> tuple[str, ...]:
         """The variables that hold what the program is for, as far as it was shown."""
-        return tuple(name for shown in self.keeps for name in (shown.value, shown.met))
+        return tuple(name for shown in self.keeps for name in shown.marks)
+
+    @property
+    def kept_places(self) -> tuple[int, ...]:
+        """Where the observations that are kept begin."""
+        return tuple(one.at for shown in self.keeps for one in shown.statements)
+
+    @property
+    def names(self) -> tuple[str, ...]:
+        """All variables that hold what the program is for."""
+        return tuple(name for shown in self.keeps for name in shown.names)
+
+    def place(self, at: int) -> tuple[int, int]:
+        """The line and the column of a place, both from 1, in what the text was made of: a model's Python, or a template."""
+        return place_of(self.program, self.source, at)
 
     def like(self, text: str) -> Program:
         """Another text, asked as the program is."""
         return Program(text, name=self.program.name, turns=self.program.turns, engine=self.program.engine)
 
     def with_marks(self) -> str:
-        """The text, with each value that it is for kept in a variable before it is shown."""
-        return declared_text(
-            self.source, [(s.statement.at, s.statement.end, " ".join([*self.kept(s), f"observe {s.value};"])) for s in self.keeps], self.keeps
-        )
+        """The text, with each value that it is for kept in variables before it is shown."""
+        return declared_text(self.source, [self.kept(shown, one) for shown in self.keeps for one in shown.statements], self.keeps)
 
-    def kept(self, shown: Shown) -> list[str]:
-        """The statements that keep a value where it would be shown."""
-        value = shown.statement.value
-        return [f"{shown.value} := {self.source.text[value.at : value.end]};", f"{shown.met} := true;"]
+    def kept(self, shown: Shown, statement: Observe) -> tuple[int, int, str]:
+        """The edit that keeps a value where it is shown."""
+        value = statement.value
+        lines = [f"{shown.value} := {self.source.text[value.at : value.end]};", *shown.counted(), f"observe {shown.value};"]
+        return statement.at, statement.end, " ".join(lines)
 
     @property
     def left(self) -> float:
@@ -114,13 +171,13 @@ class Marked:
         first = fresh(self.source, "turn")
         return first, fresh(self.source, "most", [first])
 
-    def times(self, shown: Shown) -> int:
-        """How often a run shows a value at an observation, at most."""
-        if not any(_within(shown.statement, other) for other in every(self.source.statements) if isinstance(other, While)):
+    def times(self, statements: Sequence[Observe]) -> int:
+        """How many values a run shows at these observations, at most."""
+        loops = [other for other in every(self.source.statements) if isinstance(other, While)]
+        if len(statements) == 1 and not any(_within(statements[0], loop) for loop in loops):
             return 1
         count = self.counters[0]
-        at = shown.statement.at
-        return self.most(count, [(at, at, f"{count} := min({count} + 1, {MOST_COUNTED}); ")])
+        return self.most(count, [(one.at, one.at, f"{count} := min({count} + 1, {MOST_COUNTED}); ") for one in statements])
 
     def is_told(self, text: str) -> bool:
         """Whether whoever observes a run knows what the program is for, and whether it was shown."""
@@ -136,7 +193,7 @@ class Floor:
     Each program that still shows it, and leaves the joint distribution of the secret and of what it is for as it is, leaks at least as much as the
     floor under every gain function: what it is for is a function of what is seen, so the floor's columns are sums of that program's.
 
-    ``repeated`` has the lines of what is kept where a run may show several values, with their greatest number: the last one is what counts.
+    ``repeated`` has the lines of what is kept where a run may show several values, with their greatest number: all of them are kept, in their order.
     """
 
     hyper: Hyper
@@ -181,7 +238,7 @@ def about(text: str, items: Sequence[str]) -> str:
 
 def declared_text(source: Source, edits: Iterable[tuple[int, int, str]], keeps: Iterable[Shown], more: Iterable[str] = ()) -> str:
     """An edited text, with the variables of what is kept, and more, declared after the others."""
-    lines = [f"var {s.value} : {type_text(s.kind)} := {first_value(s.kind)};\nvar {s.met} : bool := false;" for s in keeps]
+    lines = [line for shown in keeps for line in shown.declarations()]
     place, end = _line_end(source)
     new = "".join(f"{end}{line}" for line in "\n".join([*lines, *more]).split("\n") if line)
     edits = [(at, to, text.replace("\r\n", "\n").replace("\n", end)) for at, to, text in edits]
@@ -204,10 +261,6 @@ def fresh(source: Source, wanted: str, taken: Iterable[str] = ()) -> str:
     return name
 
 
-def _column(source: Source, place: int) -> int:
-    return source.place(place)[1]
-
-
 def _place(place: object) -> tuple[int, int | None]:
     match place:
         case bool():
@@ -228,40 +281,62 @@ def _places(keep: Keep) -> list[tuple[int, int | None]] | None:
     return [_place(place) for place in keep]
 
 
-def _observations(source: Source, keep: Keep) -> list[Observe]:
+def place_of(program: Program, source: Source, at: int) -> tuple[int, int]:
+    """The line and the column of a place of a text, both from 1, in what it was made of; in the text itself where it wasn't made of anything."""
+    line, column = source.place(at)
+    if program.expansion is None:
+        return line, column
+    placed = program.expansion.placed(Refusal(0, "", program.name, line, column))
+    return placed.line or line, placed.column or column
+
+
+Group = tuple[Observe, ...]
+"""The observations of one place: several where the text was made of something that has a loop over constants there."""
+
+
+def _observations(program: Program, source: Source, keep: Keep) -> list[Group]:
+    """The observations that are kept, those of one place together."""
     found = [statement for statement in every(source.statements) if isinstance(statement, Observe)]
+    groups: dict[tuple[int, int], Group] = {}
+    for one in found:
+        place = place_of(program, source, one.at)
+        groups[place] = (*groups.get(place, ()), one)
     places = _places(keep)
     if places is None:
-        top = [statement for statement in source.statements if isinstance(statement, Observe)]
-        if len(top) > 1:
-            lines = ", ".join(str(source.line(one.at)) for one in top)
-            raise BadPurpose(f"several observations stand at the top level, in lines {lines}: say by keep= which of them the program is for")
-        if not found:
-            return []
-        return [top[0] if top else found[-1]] if top or len(found) == 1 else _several(source, found)
-    chosen: list[Observe] = []
+        return _of_top(source, groups)
+    chosen: dict[tuple[int, int], Group] = {}
     for line, column in places:
-        here = [one for one in found if source.line(one.at) == line and column in (None, _column(source, one.at))]
+        here = [place for place in groups if place[0] == line and column in (None, place[1])]
         if not here:
             raise BadPurpose(f"no observation begins in line {line}{'' if column is None else f', column {column}'}")
         if len(here) > 1:
-            columns = ", ".join(str(_column(source, one.at)) for one in here)
+            columns = ", ".join(str(place[1]) for place in here)
             raise BadPurpose(f"line {line} has several observations, in columns {columns}: say which is kept by the line and the column")
-        chosen += [one for one in here if not any(one is other for other in chosen)]
-    return chosen
+        chosen[here[0]] = groups[here[0]]
+    return list(chosen.values())
 
 
-def _several(source: Source, found: Sequence[Statement]) -> list[Observe]:
-    lines = ", ".join(str(source.line(one.at)) for one in found)
-    raise BadPurpose(f"observations stand in lines {lines}, none of them at the top level: say by keep= which the program is for")
+def _of_top(source: Source, groups: Mapping[tuple[int, int], Group]) -> list[Group]:
+    """The observations of the one place that has some at the top level, or of the one place that there is."""
+    at_top = {one.at for one in source.statements if isinstance(one, Observe)}
+    top = [place for place, group in groups.items() if any(one.at in at_top for one in group)]
+    if len(top) > 1:
+        raise BadPurpose(f"several observations stand at the top level, in lines {_lines(top)}: say by keep= which of them the program is for")
+    if not top and len(groups) > 1:
+        raise BadPurpose(f"observations stand in lines {_lines(groups)}, none of them at the top level: say by keep= which the program is for")
+    return [groups[top[0]]] if top else list(groups.values())
+
+
+def _lines(places: Iterable[tuple[int, int]]) -> str:
+    return ", ".join(str(line) for line, _ in places)
 
 
 def marked(program: Program, keep: Keep = None, finals: Sequence[str] | None = None, until: Deadline = NEVER) -> Marked:
     """A program with what it is for: the observations at ``keep``, or its one observation at the top level.
 
-    ``finals`` are the variables that have to end as they do; all of them where none are named. Raises ``BadPurpose`` where the target isn't what the
-    secrets were (``about old``), no single observation stands at a place, or what is shown can't be kept in a variable; ``OutOfTime`` where it isn't
-    known by ``until``.
+    ``finals`` are the variables that have to end as they do; where none are named all, and of a model none. Raises ``BadPurpose`` where the target
+    isn't what the secrets were (``about old``), no single observation stands at a place, or what is shown can't be kept in a variable; ``OutOfTime``
+    where it isn't known by ``until``.
     """
     program.hyper(until.left)
     source = read(program.text.decode())
@@ -269,10 +344,13 @@ def marked(program: Program, keep: Keep = None, finals: Sequence[str] | None = N
         raise BadPurpose("the target isn't what the secrets were: write about old")
     if isinstance(finals, str):
         raise TypeError(f"finals is a list of names, and {finals!r} was given")
-    chosen = tuple(source.names if finals is None else dict.fromkeys(finals))
+    if finals is None:
+        finals = () if isinstance(program.expansion, Translation) else source.names
+    chosen = tuple(dict.fromkeys(finals))
     if unknown := [name for name in chosen if name not in source.names]:
         raise BadPurpose(f"there is no variable {unknown[0]}")
-    found = Marked(program, source, _shown(source, _observations(source, keep)), chosen, until)
+    bare = Marked(program, source, (), chosen, until)
+    found = replace(bare, keeps=_shown(bare, _observations(program, source, keep)))
     try:
         is_told = found.is_told(found.with_marks())
         distributed = found.joint(found.with_marks())
@@ -283,29 +361,48 @@ def marked(program: Program, keep: Keep = None, finals: Sequence[str] | None = N
     return replace(found, distributed=distributed)
 
 
-def _shown(source: Source, observations: Sequence[Observe]) -> tuple[Shown, ...]:
-    """Observations that are kept, with the names of their variables. Raises ``BadPurpose`` where one has no type of at most 65,536 values."""
+def _shown(about_it: Marked, groups: Sequence[Group]) -> tuple[Shown, ...]:
+    """What is kept, with the names of its variables. Raises ``BadPurpose`` where its values have no type, or there may be too many of them."""
+    source = about_it.source
     types = {declared.name: declared.type for declared in source.declarations}
     keeps: list[Shown] = []
-    for statement in observations:
+    for group in groups:
+        line, most = about_it.place(group[0].at)[0], about_it.times(group)
         try:
-            kind = type_of(statement.value, types)
+            kind = type_of(group[0].value, types)
+            for other in group[1:]:
+                kind = joined(kind, type_of(other.value, types))
         except NoType as cause:
-            raise BadPurpose(f"line {source.line(statement.at)}: {cause}") from cause
-        taken = [name for shown in keeps for name in (shown.value, shown.met)]
+            raise BadPurpose(f"line {line}: {cause}") from cause
+        taken = [name for shown in keeps for name in shown.names]
         value = fresh(source, "kept", taken)
-        keeps.append(Shown(statement, kind, value, fresh(source, "met", [*taken, value])))
+        met = fresh(source, "met", [*taken, value])
+        seen: list[tuple[str, int]] = []
+        for count in _packed(kind, most) if most > 1 else ():
+            seen.append((fresh(source, "seen", [*taken, *(name for name, _ in seen)]), count))
+        if len(seen) > MOST_VARIABLES:
+            raise BadPurpose(f"line {line} shows up to {most:,} values in a run, and no {MOST_VARIABLES} variables hold so many")
+        keeps.append(Shown(group, kind, most, value, met, tuple(seen)))
     return tuple(keeps)
 
 
-def floor(program: Program, keep: Keep = None, timeout: float | None = None) -> Floor:
+def _packed(kind: Type, most: int) -> Iterator[int]:
+    """How many of so many values each of several variables holds, whose types have at most 65,536 values."""
+    each = MOST_PARTS
+    while each > 1 and size_of(kind) ** each > VALUES:
+        each -= 1
+    for at in range(0, most, each):
+        yield min(each, most - at)
+
+
+def floor(program: Program | Writable, keep: Keep = None, timeout: float | None = None) -> Floor:
     """How far a program leaks beyond what it is for: its hyper, and the least that a program leaks which still shows that.
 
-    What it is for is the value that is shown last at each place of ``keep``, and whether one was. Raises ``BadPurpose`` where that isn't shown, a
-    ``Refusal`` where the program has no answer, and ``OutOfTime`` where it isn't known after ``timeout`` seconds.
+    What it is for are the values that are shown at each place of ``keep``, in their order. Raises ``BadPurpose`` where an observer doesn't know them,
+    a ``Refusal`` where the program has no answer, and ``OutOfTime`` where it isn't known after ``timeout`` seconds.
     """
     with quietly():
-        return floor_of(marked(program, keep, (), Deadline(seconds("timeout", timeout))))
+        return floor_of(marked(program_of("program", program), keep, (), Deadline(seconds("timeout", timeout))))
 
 
 def floor_of(about_it: Marked) -> Floor:
@@ -318,6 +415,5 @@ def floor_of(about_it: Marked) -> Floor:
         column = columns.setdefault(values[len(values) - marks :] if marks else (), {})
         column[secret] = column.get(secret, Fraction(0)) + p
     target = Target(tuple(Item(name, True) for name in about_it.secrets))
-    times = {about_it.source.line(shown.statement.at): about_it.times(shown) for shown in about_it.keeps}
-    repeated = {line: count for line, count in times.items() if count > 1}
+    repeated = {about_it.place(shown.statements[0].at)[0]: shown.most for shown in about_it.keeps if shown.most > 1}
     return Floor(about_it.program.hyper(about_it.left), hyper_of_columns(target, columns.values()), repeated)

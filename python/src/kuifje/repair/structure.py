@@ -1,7 +1,7 @@
 """Programs whose branches and loops are taken whatever their guards say: assignments under a guard become assignments by ``cond``.
 
 A conditional that is made even has no guard left. A loop takes as many turns as it ever does, under a flag that says whether it still goes on. What
-was observed in it is kept in a variable, and shown whether or not it would have been.
+was observed in it is kept in a variable, and shown whether or not it would have been. A visible variable shows its value whether or not it changed.
 """
 
 from __future__ import annotations
@@ -9,12 +9,13 @@ from __future__ import annotations
 from collections.abc import Iterable, Iterator, Mapping
 from dataclasses import dataclass, field
 from textwrap import indent
+from typing import Literal
 
-from ..source import Assign, Choose, Distribution, Flip, If, Observe, Skip, Statement, Sure, Type, Uniform, While
+from ..source import Assign, Choose, Distribution, Flip, If, Observe, Skip, Statement, Sure, Type, Uniform, While, every
 from .kinds import NoType, first_value, type_of, type_text
 from .purposes import Marked, Shown, declared_text, fresh
 
-__all__ = ["Change", "Even", "Uncovered", "compounds", "parents"]
+__all__ = ["Change", "Even", "Instead", "Moved", "Uncovered", "compounds", "parents"]
 
 MOST_TURNS = 64  # that a loop is given
 
@@ -23,18 +24,21 @@ class Uncovered(Exception):
     """Why a statement isn't changed."""
 
 
+Instead = Literal["first", "carried", "own"]
+
+
 @dataclass(frozen=True)
 class Change:
     """What of a program is changed: conditionals and loops that are made even, and observations that are dropped, by the places where they begin.
 
-    ``carried`` says what is shown where a branch would have shown nothing: what was shown there last, or else the first value of the type.
-    ``hidden`` are the visible variables that no longer are.
+    ``instead`` says what is shown where a branch would have shown nothing: the first value of the type, what was shown there last (``"carried"``), or
+    what the observation shows of the values that there are (``"own"``). ``hidden`` are the visible variables that no longer are.
     """
 
     even: frozenset[int] = frozenset()
     dropped: frozenset[int] = frozenset()
     hidden: frozenset[str] = frozenset()
-    carried: bool = False
+    instead: Instead = "first"
 
     @property
     def kinds(self) -> tuple[str, ...]:
@@ -64,6 +68,25 @@ def parents(statements: Iterable[Statement]) -> dict[int, frozenset[int]]:
     return found
 
 
+@dataclass(frozen=True)
+class Moved:
+    """How what is kept is shown where its observations stand in what is made even: after the last of these, or after ``each``; and whether it is
+    shown, too, how many values there are (``met``).
+    """
+
+    each: bool = False
+    met: bool = False
+
+
+@dataclass(frozen=True)
+class _Root:
+    """What stands in the place of a conditional or a loop that is made even and stands in none that is, and what is kept of observations in it."""
+
+    statement: If | While
+    lines: tuple[str, ...]
+    kept: tuple[Shown, ...]
+
+
 @dataclass
 class Even:
     """A program's text with a change made. ``turns`` has the greatest number of turns of each loop, by its place."""
@@ -74,12 +97,12 @@ class Even:
     declared: list[str] = field(default_factory=list)
     names: list[str] = field(default_factory=list)
     moved: list[Shown] = field(default_factory=list)
+    roots: list[_Root] = field(default_factory=list)
 
     def __post_init__(self) -> None:
         self.source = self.about.source
         self.types: dict[str, Type] = {one.name: one.type for one in self.source.declarations}
-        self.visible = {one.name for one in self.source.declarations if one.visible} - self.change.hidden
-        self.keeps = {shown.statement.at: shown for shown in self.about.keeps}
+        self.keeps = {one.at: shown for shown in self.about.keeps for one in shown.statements}
 
     # ---- texts
 
@@ -88,25 +111,24 @@ class Even:
 
     def fresh(self, wanted: str, kind: str, first: str) -> str:
         """A new variable, declared with its first value."""
-        name = fresh(self.source, wanted, [*self.names, *self.about.marks])
+        name = fresh(self.source, wanted, [*self.names, *self.about.names])
         self.names.append(name)
         self.declared.append(f"var {name} : {kind} := {first};")
         return name
 
-    def text(self, with_marks: bool, with_met: bool) -> str:
-        """The changed text. ``with_marks`` keeps what it is for in variables, and ``with_met`` shows what was moved with whether it was shown at all.
+    def text(self, with_marks: bool, how: Moved = Moved()) -> str:
+        """The changed text. ``with_marks`` keeps what it is for in variables.
 
         Raises ``Uncovered`` where the change can't be made.
         """
-        edits = [*self._roots(self.source.statements, with_met), *self._hidden()]
+        self._roots(self.source.statements)
+        edits = [*self._written(how), *self._hidden()]
         for statement in self._outside(self.source.statements):
             if statement.at in self.change.dropped:
                 edits.append((statement.at, statement.end, "skip;"))
-            elif with_marks and statement.at in self.keeps:
-                shown = self.keeps[statement.at]
-                edits.append((statement.at, statement.end, " ".join([*self.about.kept(shown), f"observe {shown.value};"])))
-        kept = self.about.keeps if with_marks else tuple(self.moved)
-        return declared_text(self.source, edits, kept, self.declared)
+            elif statement.at in self.keeps and (with_marks or self.keeps[statement.at] in self.moved):
+                edits.append(self.about.kept(self.keeps[statement.at], statement))
+        return declared_text(self.source, edits, self.about.keeps if with_marks else tuple(self.moved), self.declared)
 
     def _hidden(self) -> list[tuple[int, int, str]]:
         return [(one.at, one.at + len("vis"), "var") for one in self.source.declarations if one.name in self.change.hidden]
@@ -119,25 +141,35 @@ class Even:
             elif isinstance(statement, (If, While)) and statement.at not in self.change.even:
                 yield from self._outside(statement.then + statement.otherwise if isinstance(statement, If) else statement.body)
 
-    def _roots(self, statements: Iterable[Statement], with_met: bool) -> list[tuple[int, int, str]]:
-        """What stands in the place of each conditional and loop that is made even and stands in none that is."""
-        edits = []
+    def _roots(self, statements: Iterable[Statement]) -> None:
+        """Writes each conditional and loop that is made even and stands in none that is."""
         for statement in statements:
             if not isinstance(statement, (If, While)):
                 continue
-            if statement.at in self.change.even:
-                before = len(self.moved)
-                lines = self.even(statement, None)
-                lines += [self._show(shown, with_met) for shown in self.moved[before:]]
-                column = statement.at - (self.source.text.rfind("\n", 0, statement.at) + 1)
-                edits.append((statement.at, statement.end, indent("\n".join(lines), " " * column).lstrip(" ")))
-            else:
-                edits += self._roots(statement.then + statement.otherwise if isinstance(statement, If) else statement.body, with_met)
+            inner = statement.then + statement.otherwise if isinstance(statement, If) else statement.body
+            if statement.at not in self.change.even:
+                self._roots(inner)
+                continue
+            lines = self.even(statement, None)
+            kept = [self.keeps[one.at] for one in every(inner) if one.at in self.keeps and self.keeps[one.at] in self.moved]
+            self.roots.append(_Root(statement, tuple(lines), tuple({shown.value: shown for shown in kept}.values())))
+
+    def _written(self, how: Moved) -> list[tuple[int, int, str]]:
+        """The edits that put these in their places, and show what was kept in them."""
+        last = {shown.value: i for i, root in enumerate(self.roots) for shown in root.kept}
+        edits = []
+        for i, root in enumerate(self.roots):
+            shown = [one for one in root.kept if how.each or last[one.value] == i]
+            lines = [*root.lines, *(line for one in shown for line in self._show(one, how.met))]
+            at, end = root.statement.at, root.statement.end
+            column = at - (self.source.text.rfind("\n", 0, at) + 1)
+            edits.append((at, end, indent("\n".join(lines or ["skip;"]), " " * column).lstrip(" ")))
         return edits
 
     @staticmethod
-    def _show(shown: Shown, with_met: bool) -> str:
-        return f"observe ({shown.met}, {shown.value});" if with_met else f"observe {shown.value};"
+    def _show(shown: Shown, with_met: bool) -> list[str]:
+        first, *more = [name for name, _ in shown.seen] or [shown.value]
+        return [f"observe ({shown.met}, {first});" if with_met else f"observe {first};", *(f"observe {name};" for name in more)]
 
     # ---- statements under a guard
 
@@ -147,8 +179,6 @@ class Even:
             case Skip():
                 return []
             case Assign(name, value):
-                if guard is not None and name in self.visible:
-                    raise Uncovered(f"an assignment of the visible variable {name} would be seen where there is none today")
                 return [self.assign(name, value, guard)]
             case Observe():
                 return self._observe(statement, guard)
@@ -216,11 +246,13 @@ class Even:
             shown = self.keeps[statement.at]
             if shown not in self.moved:
                 self.moved.append(shown)
-            met = "true" if guard is None else f"{shown.met} or {guard}"
-            return [self.assign(shown.value, statement.value, guard), f"{shown.met} := {met};"]
+            return [self.assign(shown.value, statement.value, guard), *shown.counted(guard)]
+        if guard is None or self.change.instead == "own":
+            return [f"observe {self.text_of(statement.value)};"]
         try:
             kind = type_of(statement.value, self.types)
         except NoType as cause:
-            raise Uncovered(f"the observation in line {self.source.line(statement.at)} can't be kept: {cause}") from cause
+            raise Uncovered(f"the observation in line {self.about.place(statement.at)[0]} can't be kept: {cause}") from cause
         name = self.fresh("shown", type_text(kind), first_value(kind))
-        return [self.assign(name, statement.value, guard, None if self.change.carried else f"({first_value(kind)})"), f"observe {name};"]
+        instead = None if self.change.instead == "carried" else f"({first_value(kind)})"
+        return [self.assign(name, statement.value, guard, instead), f"observe {name};"]

@@ -189,10 +189,10 @@ function listing(text, rows, { lost, so, sign }) {
         source.length > MOST_LINES && element("p", { class: "note" }, `The text has ${source.length} lines, of which the first ${MOST_LINES} are shown.`));
 }
 
-/** @param {import("./views.mjs").Context} context */
-function chooser({ measure, gain, setMeasure }) {
+/** @param {import("./context.mjs").Context} context */
+function chooser({ measure, gain, take }) {
     const options = gain === null ? USUAL : [...USUAL, [TABLE, "the gain table"]];
-    const select = element("select", { id: "measure", change: () => setMeasure(select.value) },
+    const select = element("select", { id: "measure", change: () => take({ measure: select.value }) },
         ...options.map(([value, name]) => element("option", { value, selected: value === measure }, value === TABLE ? name : `${name} (${value})`)));
     return element("p", {}, element("label", {}, "Lines are compared under ", select));
 }
@@ -213,7 +213,7 @@ function trailTable(text, counts) {
     return table(`How many posteriors of all variables there are${cut}`, ["after", "line", "posteriors"], rows);
 }
 
-/** @param {import("./views.mjs").Context} context */
+/** @param {import("./context.mjs").Context} context */
 export async function linesView(context) {
     const { ask, tryTo, file, text, measure, failure } = context;
     const trail = trailOf(await ask(["trail", file]));

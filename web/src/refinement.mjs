@@ -7,7 +7,7 @@ import { targetSize } from "./programs.mjs";
 import { gainTable, meaningOf, priorsOf } from "./verdicts.mjs";
 import { tooMany } from "./views.mjs";
 
-/** @typedef {import("./views.mjs").Context} Context */
+/** @typedef {import("./context.mjs").Context} Context */
 /** @typedef {import("./answers.mjs").Verdict} Verdict */
 /** @typedef {import("./answers.mjs").Groups} Groups */
 /**
@@ -127,8 +127,8 @@ const ABOUT_ALL = "Here every variable is a secret, keys, coins and counters too
 export async function refineView(context, command) {
     const isForEvery = command === "covers";
     const choice = element("p", { role: "group", "aria-label": "What the question is about" },
-        button("About the secret", () => context.setView("refine"), { "aria-pressed": String(!isForEvery) }), " ",
-        button("About all variables, first and last (covers)", () => context.setView("covers"), { "aria-pressed": String(isForEvery) }));
+        button("About the secret", () => context.take({ view: "refine" }), { "aria-pressed": String(!isForEvery) }), " ",
+        button("About all variables, first and last (covers)", () => context.take({ view: "covers" }), { "aria-pressed": String(isForEvery) }));
     if (!context.hasSecond) {
         return [choice, element("p", {}, "A second text is wanted. ", button("Compare with a second text", context.addSecond))];
     }

@@ -6,29 +6,7 @@ import { heatMap, hyperPicture } from "./pictures.mjs";
 import { USUAL, guessOf, jsonOf } from "./gains.mjs";
 import { typedWords } from "./commands.mjs";
 
-/**
- * What a view may do: ask, and change what the page asks.
- * @typedef {object} Context
- * @property {(words: string[]) => Promise<string>} ask gives the answer; throws where there is none
- * @property {(words: string[]) => Promise<import("./asker.mjs").Outcome>} tryTo gives whatever comes of it; throws where it is stopped
- * @property {string} file the program that is asked about
- * @property {string} text its text
- * @property {boolean} hasSecond
- * @property {() => void} addSecond
- * @property {string | null} gain the gain table that is set
- * @property {(json: string, values: string[]) => ReturnType<typeof import("./gains.mjs").gainEditor>} gainEditor the fields of the gain table: those
- * that stand there already, where they are of this table
- * @property {string} measure the gain under which lines are compared: one of USUAL, or TABLE
- * @property {(measure: string) => void} setMeasure
- * @property {(json: string) => void} setSeparation makes a table that commands may name separation.json
- * @property {string | null} words
- * @property {(words: string) => void} setWords
- * @property {(view: import("./questions.mjs").ViewName) => void} setView
- * @property {(words: string[]) => string[]} sent the words that the program gets
- * @property {string[]} kept the names of files that were kept, or came with a link
- * @property {(name: string, text: string) => void} keep hands a file to the reader of the page
- * @property {(error: unknown) => HTMLElement} failure why a question has no answer
- */
+/** @typedef {import("./context.mjs").Context} Context */
 
 /**
  * @param {number} count
@@ -137,7 +115,7 @@ export async function commandView(context) {
     const input = element("input", { type: "text", spellcheck: "false", autocomplete: "off", id: "words", value: context.words || "hyper a.kf" });
     const submit = (/** @type {Event} */ event) => {
         event.preventDefault();
-        context.setWords(input.value);
+        context.take({ words: input.value });
     };
     const form = element("form", { class: "words", submit }, element("label", { for: "words" }, "kuifje "), input, element("button", { type: "submit" }, "Ask"));
     const note = element("p", { class: "note" },

@@ -1,0 +1,66 @@
+// What a view may do: ask in its round, and change what the page asks.
+import { sentWords } from "./commands.mjs";
+import { failure } from "./outcomes.mjs";
+import { NoAnswer } from "./rounds.mjs";
+import { ownFiles, textOf, withKept } from "./state.mjs";
+
+/** @typedef {import("./questions.mjs").State} State */
+/** @typedef {import("./asker.mjs").Outcome} Outcome */
+/** @typedef {ReturnType<typeof import("./gains.mjs").gainEditor>} GainFields */
+/**
+ * @typedef {object} Context
+ * @property {(words: string[]) => Promise<string>} ask gives the answer; throws where there is none
+ * @property {(words: string[], more?: Record<string, string>) => Promise<Outcome>} tryTo gives whatever comes of it; throws where it is stopped.
+ * `more` are files beside the page's own
+ * @property {string} file the program that is asked about
+ * @property {string} text its text
+ * @property {boolean} hasSecond
+ * @property {() => void} addSecond
+ * @property {string | null} gain the gain table that is set
+ * @property {(json: string, values: string[]) => GainFields} gainEditor the fields of the gain table: those that stand there already, where they are of
+ * this table
+ * @property {string} measure the gain under which lines are compared: one of USUAL, or TABLE
+ * @property {string | null} words
+ * @property {(parts: Partial<State>) => void} take changes what is asked
+ * @property {(json: string) => void} setSeparation makes a table that commands may name separation.json
+ * @property {(words: string[]) => string[]} sent the words that the program gets
+ * @property {string[]} kept the names of files that were kept, or came with a link
+ * @property {(name: string, text: string) => void} keep hands a file to the reader of the page
+ * @property {typeof failure} failure why a question has no answer
+ */
+/**
+ * What the page does for its views.
+ * @typedef {object} Host
+ * @property {State} state
+ * @property {ReturnType<typeof import("./rounds.mjs").createRounds>} rounds
+ * @property {(parts: Partial<State>) => void} take
+ * @property {() => void} addSecond
+ * @property {(name: string, text: string) => void} keep
+ * @property {(json: string, values: string[]) => GainFields} gainEditor
+ */
+
+/**
+ * @param {Host} host
+ * @param {number} round
+ * @returns {Context}
+ */
+export function createContext({ state, rounds, take, addSecond, keep, gainEditor }, round) {
+    /** @type {Context["tryTo"]} */
+    const tryTo = (words, more) => rounds.tryTo(round, words, more === undefined ? null : { ...ownFiles(state), ...more });
+    return {
+        tryTo,
+        async ask(words) {
+            const outcome = await tryTo(words);
+            if (outcome.kind !== "answer" || outcome.status > 1) {
+                throw new NoAnswer(outcome);
+            }
+            return outcome.out;
+        },
+        file: `${state.of}.kf`, text: textOf(state), hasSecond: state.b !== null, addSecond, gain: state.gain, gainEditor, measure: state.measure,
+        words: state.words, take,
+        setSeparation: (json) => {
+            Object.assign(state, withKept(state, "separation.json", json));
+        },
+        sent: (words) => sentWords(words, state.turns), kept: Object.keys(state.kept), keep, failure,
+    };
+}

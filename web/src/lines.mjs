@@ -206,7 +206,7 @@ function trailTable(text, counts) {
     const starts = isLong(text) ? [] : statementLines(text);
     const source = text.split("\n");
     const rows = counts.slice(0, MOST_ROWS).map((count, index) => {
-        const line = index > 0 && starts.length === counts.length - 1 ? element("code", {}, source[starts[index - 1]].trim()) : "";
+        const line = index > 0 && starts.length === counts.length - 1 ? element("code", {}, source[starts[index - 1] - 1].trim()) : "";
         return [index === 0 ? "the declarations" : `statement ${index - 1}`, line, count];
     });
     const cut = counts.length > rows.length ? ` (the first ${rows.length} of ${counts.length})` : "";
@@ -234,7 +234,7 @@ export async function linesView(context) {
     const statement = statementsOf(text);
     const heads = ["place", "statement", "inners without it", `${names.name} without it`, `${names.so} ${names.lost}`];
     const cells = rows.map(({ line, column, inners, posterior, loss }) => [
-        `${line + 1}:${column}`, element("code", {}, statement(line, column)), inners, shown(posterior),
+        `${line + 1}:${column}`, element("code", {}, statement(line + 1, column)), inners, shown(posterior),
         shown(printed(loss)),
     ]);
     return [

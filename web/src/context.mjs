@@ -7,6 +7,7 @@ import { ownFiles, textOf, withKept } from "./state.mjs";
 /** @typedef {import("./questions.mjs").State} State */
 /** @typedef {import("./asker.mjs").Outcome} Outcome */
 /** @typedef {ReturnType<typeof import("./gains.mjs").gainEditor>} GainFields */
+/** @typedef {{ words: string[], out: string, err: string }} Printed a command, as it was sent, and the bytes that the program printed */
 /**
  * @typedef {object} Context
  * @property {(words: string[]) => Promise<string>} ask gives the answer; throws where there is none
@@ -27,6 +28,7 @@ import { ownFiles, textOf, withKept } from "./state.mjs";
  * @property {string[]} kept the names of files that were kept, or came with a link
  * @property {(name: string, text: string) => void} keep hands a file to the reader of the page
  * @property {typeof failure} failure why a question has no answer
+ * @property {Printed[]} printed what was asked in this round so far, and answered
  */
 /**
  * What the page does for its views.
@@ -45,8 +47,16 @@ import { ownFiles, textOf, withKept } from "./state.mjs";
  * @returns {Context}
  */
 export function createContext({ state, rounds, take, addSecond, keep, gainEditor }, round) {
+    /** @type {Printed[]} */
+    const printed = [];
     /** @type {Context["tryTo"]} */
-    const tryTo = (words, more) => rounds.tryTo(round, words, more === undefined ? null : { ...ownFiles(state), ...more });
+    const tryTo = async (words, more) => {
+        const outcome = await rounds.tryTo(round, words, more === undefined ? null : { ...ownFiles(state), ...more });
+        if (outcome.kind === "answer") {
+            printed.push({ words: sentWords(words, state.turns), out: outcome.out, err: outcome.err });
+        }
+        return outcome;
+    };
     return {
         tryTo,
         async ask(words) {
@@ -61,6 +71,6 @@ export function createContext({ state, rounds, take, addSecond, keep, gainEditor
         setSeparation: (json) => {
             Object.assign(state, withKept(state, "separation.json", json));
         },
-        sent: (words) => sentWords(words, state.turns), kept: Object.keys(state.kept), keep, failure,
+        sent: (words) => sentWords(words, state.turns), kept: Object.keys(state.kept), keep, failure, printed,
     };
 }

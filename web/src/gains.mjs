@@ -10,6 +10,8 @@ import { commonDenominator, isSame, lowest, printed, typedFraction } from "./fra
  * @type {[string, string][]}
  */
 export const USUAL = [["bayes", "one guess"], ["tries:2", "two tries"], ["tries:3", "three tries"], ["guessing", "expected number of guesses"]];
+/** The one of these that is a loss: less is better for an adversary. */
+export const GUESSING = "guessing";
 /** What stands for the gain table that is set. */
 export const TABLE = "table";
 

@@ -3,7 +3,7 @@
 import { element, table } from "./elements.mjs";
 import { linesOf, trailOf } from "./answers.mjs";
 import { NOTHING, decimal, difference, fractionOf, isNone, printed, product, shown } from "./fractions.mjs";
-import { TABLE, USUAL } from "./gains.mjs";
+import { GUESSING, TABLE, USUAL } from "./gains.mjs";
 import { isLong, statementLines, statementsOf } from "./programs.mjs";
 
 /** @typedef {import("./fractions.mjs").Fraction} Fraction */
@@ -47,7 +47,7 @@ export const gainWord = (measure) => (measure === TABLE ? "table:gain.json" : me
 function namesOf(measure) {
     const found = USUAL.find(([gain]) => gain === measure);
     const name = found === undefined ? "the gain table" : found[1];
-    if (measure === "guessing") {
+    if (measure === GUESSING) {
         const whole = "an adversary who keeps guessing is expected to take this number of guesses: ";
         return { name, lost: "more guesses", so: "so many", sign: "+", whole, beside: "how many more it would take" };
     }

@@ -67,3 +67,23 @@ export function targetSentence(state) {
         element("code", {}, `about old ${is.length > 0 ? is[0] : "x"};`));
     return [`The question is about ${listed(parts)}. `, warning];
 }
+
+/** The most characters of an answer that are shown as they are. */
+const MOST_SHOWN = 20000;
+
+/**
+ * What the program printed for an answer, a click away.
+ * @param {import("./context.mjs").Printed[]} printed
+ */
+export function printedBytes(printed) {
+    const inside = element("div", {});
+    const details = element("details", { class: "printed", toggle: () => {
+        if (details.open && inside.childNodes.length === 0) {
+            inside.append(...printed.map(({ words, out, err }) => {
+                const cut = out.length > MOST_SHOWN ? `${out.slice(0, MOST_SHOWN)}\n… (${out.length} characters in all; the tab Command keeps them as a file)\n` : out;
+                return element("pre", { class: "terminal", tabindex: "0" }, `$ kuifje ${words.join(" ")}\n${cut}${err}`);
+            }));
+        }
+    } }, element("summary", {}, "What the program printed"), inside);
+    return details;
+}

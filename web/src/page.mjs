@@ -7,7 +7,7 @@ import { createContext } from "./context.mjs";
 import { createEditor } from "./editor.mjs";
 import { byId, element, fill, fillAround } from "./elements.mjs";
 import { explanationOf, library } from "./library.mjs";
-import { failure, refusalBox, targetSentence } from "./outcomes.mjs";
+import { failure, printedBytes, refusalBox, targetSentence } from "./outcomes.mjs";
 import { gainEditor } from "./gains.mjs";
 import { gainWord, linesView, marksOf } from "./lines.mjs";
 import { isLong } from "./programs.mjs";
@@ -181,10 +181,11 @@ async function refresh() {
     Object.values(editors).forEach((editor) => editor.clear());
     let isAnswered = false;
     try {
-        const nodes = await SHOW[state.view](createContext({ state, rounds, take, addSecond, keep, gainEditor: fieldsOf }, round));
+        const context = createContext({ state, rounds, take, addSecond, keep, gainEditor: fieldsOf }, round);
+        const nodes = await SHOW[state.view](context);
         if (rounds.isNewest(round)) {
             fill(byId("target"), ...targetSentence(state));
-            fillAround(answer, ...nodes);
+            fillAround(answer, ...nodes, state.view !== "command" && printedBytes(context.printed));
             say(`Answered in ${Math.round(performance.now() - from)} ms.`);
             isAnswered = true;
         }

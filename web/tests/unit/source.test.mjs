@@ -28,7 +28,8 @@ test("operators bind as docs/LANGUAGE.md has it", () => {
 });
 
 test("distributions, with each case as it is written", () => {
-    const values = read("var x : 0..3 := uniform 0..3;\nx := choose { (x + 1) : 2 * 3, 0 : 1 };\nx := flip 1/3;\nx := uniform {0, 2};\nx := uniform 1..(x);\n").statements.map(({ value }) => value);
+    const text = "var x : 0..3 := uniform 0..3;\nx := choose { (x + 1) : 2 * 3, 0 : 1 };\nx := flip 1/3;\nx := uniform {0, 2};\nx := uniform 1..(x);\n";
+    const values = read(text).statements.map(({ value }) => value);
     assert.deepEqual(values[0].cases.map(({ valueText, weightText }) => [valueText, weightText]), [["(x + 1)", "2 * 3"], ["0", "1"]]);
     assert.deepEqual([values[1].over, values[1].under], [1, 3]);
     assert.deepEqual([values[2].high, values[3].high.name], [null, "x"]);

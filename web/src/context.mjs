@@ -12,10 +12,11 @@ import { ownFiles, textOf, withKept } from "./state.mjs";
  * @typedef {object} Context
  * @property {(words: string[]) => Promise<string>} ask gives the answer; throws where there is none
  * @property {(words: string[], more?: Record<string, string>) => Promise<Outcome>} tryTo gives whatever comes of it; throws where it is stopped.
- * `more` are files beside the page's own
+ * `more` are files beside the page's own; such questions are none of an answer's own, and stand in no list
  * @property {string} file the program that is asked about
  * @property {string} text its text
- * @property {boolean} hasSecond
+ * @property {string} a
+ * @property {string | null} b null where there is no second text
  * @property {() => void} addSecond
  * @property {string | null} gain the gain table that is set
  * @property {(json: string, values: string[]) => GainFields} gainEditor the fields of the gain table: those that stand there already, where they are of
@@ -52,7 +53,7 @@ export function createContext({ state, rounds, take, addSecond, keep, gainEditor
     /** @type {Context["tryTo"]} */
     const tryTo = async (words, more) => {
         const outcome = await rounds.tryTo(round, words, more === undefined ? null : { ...ownFiles(state), ...more });
-        if (outcome.kind === "answer") {
+        if (outcome.kind === "answer" && more === undefined) {
             printed.push({ words: sentWords(words, state.turns), out: outcome.out, err: outcome.err });
         }
         return outcome;
@@ -66,7 +67,7 @@ export function createContext({ state, rounds, take, addSecond, keep, gainEditor
             }
             return outcome.out;
         },
-        file: `${state.of}.kf`, text: textOf(state), hasSecond: state.b !== null, addSecond, gain: state.gain, gainEditor, measure: state.measure,
+        file: `${state.of}.kf`, text: textOf(state), a: state.a, b: state.b, addSecond, gain: state.gain, gainEditor, measure: state.measure,
         words: state.words, take,
         setSeparation: (json) => {
             Object.assign(state, withKept(state, "separation.json", json));

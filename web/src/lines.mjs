@@ -4,6 +4,7 @@ import { element, table } from "./elements.mjs";
 import { linesOf, trailOf } from "./answers.mjs";
 import { NOTHING, decimal, difference, fractionOf, isNone, printed, product, shown } from "./fractions.mjs";
 import { GUESSING, TABLE, USUAL } from "./gains.mjs";
+import { repairSection } from "./repairs.mjs";
 import { isLong, statementLines, statementsOf } from "./programs.mjs";
 
 /** @typedef {import("./fractions.mjs").Fraction} Fraction */
@@ -244,7 +245,7 @@ export async function linesView(context) {
         rows.length > 0 && legend(greatest, names),
         rows.some(({ loss }) => isNone(loss)) && element("p", { class: "note" }, "To this adversary a line with the number of ", element("code", {}, "all"),
             " is worth nothing beside the others. It may show something all the same: alone, together with others, or to another adversary."),
-        listing(text, rows, names),
+        listing(text, rows, names), repairSection(context),
         rows.length > 1 && isNone(greatest) && element("p", { class: "note" },
             "No statement alone is to blame. Where two show the same, neither has other numbers than all."),
         table("Which statement leaks", heads, cells), trailTable(text, trail),

@@ -3,6 +3,7 @@ import { button, element, fill, table } from "./elements.mjs";
 import { MOST, hyperOf, priorOf, reportOf, verdictOf } from "./answers.mjs";
 import { shown } from "./fractions.mjs";
 import { flowPicture, heatMap } from "./pictures.mjs";
+import { repairNote } from "./repairs.mjs";
 import { targetSize } from "./programs.mjs";
 import { gainTable, meaningOf, priorsOf } from "./verdicts.mjs";
 import { tooMany } from "./views.mjs";
@@ -129,7 +130,7 @@ export async function refineView(context, command) {
     const choice = element("p", { role: "group", "aria-label": "What the question is about" },
         button("About the secret", () => context.take({ view: "refine" }), { "aria-pressed": String(!isForEvery) }), " ",
         button("About all variables, first and last (covers)", () => context.take({ view: "covers" }), { "aria-pressed": String(isForEvery) }));
-    if (!context.hasSecond) {
+    if (context.b === null) {
         return [choice, element("p", {}, "A second text is wanted. ", button("Compare with a second text", context.addSecond))];
     }
     const hypers = isForEvery ? null : [hyperOf(await context.ask(["hyper", "a.kf"])), hyperOf(await context.ask(["hyper", "b.kf"]))];
@@ -140,7 +141,7 @@ export async function refineView(context, command) {
         await context.ask([command, "a.kf", "b.kf"]);
     }
     return [
-        choice, element("p", { class: "meaning" }, meaningOf(there.verdict, back.verdict, isForEvery)),
+        choice, repairNote(context.a, context.b), element("p", { class: "meaning" }, meaningOf(there.verdict, back.verdict, isForEvery)),
         element("p", { class: "note priors" }, hypers === null ? ABOUT_ALL : priorsOf(hypers, targetSize(context.text || ""))), priorsApart(hypers),
         await sectionOf(context, there), await sectionOf(context, back),
     ];

@@ -13,6 +13,7 @@ import { createVisits } from "./state.mjs";
  * @property {(page: string, heading: string) => Promise<boolean>} open shows a page, and says whether there is one of this name
  * @property {() => void} close shows the page without one
  * @property {() => void} refuse ends what runs, since nothing is shown
+ * @property {() => State | null} restored the state before a reload
  */
 
 /** What a link that can't be read hides. */
@@ -22,7 +23,7 @@ const SHOWN = "main, header nav";
 const bareAddress = () => location.pathname + location.search;
 
 /** @param {Host} host */
-export function createAddresses({ state, take, open, close, refuse }) {
+export function createAddresses({ state, take, open, close, refuse, restored }) {
     // Entries of an earlier load say nothing: its texts are gone.
     const visits = createVisits(performance.timeOrigin);
 
@@ -89,6 +90,18 @@ export function createAddresses({ state, take, open, close, refuse }) {
         },
         /** @param {string} link the address now */
         replace: (link) => history.replaceState(visits.entry(state.page), "", link),
+        /** Shows what was there before a reload, or else what the address says. */
+        async begin() {
+            const kept = restored();
+            if (kept === null) {
+                await this.follow();
+                return;
+            }
+            history.replaceState(visits.entry(kept.page), "");
+            if (await showPage(kept.page, "")) {
+                await take(kept);
+            }
+        },
         /** Shows what the address says. */
         async follow() {
             const entry = /** @type {import("./state.mjs").Entry | null} */ (history.state);

@@ -101,10 +101,11 @@ function areFiles(kept) {
 const isKnownGain = ({ measure, gain }) => (measure === TABLE ? gain !== null : USUAL.some(([word]) => word === measure));
 
 /**
+ * A state as it comes from outside. It throws where it is none.
  * @param {any} it
  * @returns {State}
  */
-function checked(it) {
+export function checkedState(it) {
     const names = typeof it !== "object" || it === null ? [] : Object.keys(it);
     if (!PARTS.every((name) => names.includes(name)) || !names.every((name) => [...PARTS, ...Object.keys(LATER)].includes(name))) {
         throw new Error("it has other parts than a link has");
@@ -150,7 +151,7 @@ export async function linkFrom(hash) {
         const bytes = Uint8Array.from(atob(found[1].replace(/-/g, "+").replace(/_/g, "/")), (it) => it.charCodeAt(0));
         const Stream = /** @type {any} */ (globalThis).DecompressionStream;
         const whole = await sent(bytes, new Stream("deflate-raw"));
-        return { kind: "state", state: checked(JSON.parse(new TextDecoder("utf-8", { fatal: true }).decode(whole))) };
+        return { kind: "state", state: checkedState(JSON.parse(new TextDecoder("utf-8", { fatal: true }).decode(whole))) };
     } catch (error) {
         return { kind: "unreadable", why: error instanceof Error ? error.message : String(error) };
     }

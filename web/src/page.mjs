@@ -16,6 +16,8 @@ import { OWN } from "./questions.mjs";
 import { refineView } from "./refinement.mjs";
 import { refusalOf } from "./answers.mjs";
 import { show } from "./reader.mjs";
+import { scriptAddress } from "./scripts.mjs";
+import { createSession, tabStorage, wayHere } from "./session.mjs";
 import { channelView, commandView, hyperView, leakView, tracesView } from "./views.mjs";
 import { commanded, firstState, marginMeasure, openedFile, withKept, withSecond } from "./state.mjs";
 
@@ -56,7 +58,10 @@ const editors = {
     a: createEditor(byId("editor-a"), "Program A", changed),
     b: createEditor(byId("editor-b"), "Program B", changed),
 };
-const addresses = createAddresses({ state, take, open: openPage, close: closePage, refuse: () => settle(`refused ${rounds.begin()}`) });
+const session = createSession(tabStorage());
+const addresses = createAddresses({
+    state, take, open: openPage, close: closePage, refuse: () => settle(`refused ${rounds.begin()}`), restored: () => session.restored(wayHere(), location.hash),
+});
 
 // What the page says.
 
@@ -171,6 +176,7 @@ async function colour(round, name, isAnswered) {
 /** Asks what the state says, and shows what comes of it, unless a newer question is asked meanwhile. */
 async function refresh() {
     const round = rounds.begin();
+    session.save(state, location.hash);
     const from = performance.now();
     const answer = byId("answer");
     shape(state);
@@ -268,6 +274,14 @@ function closePage() {
     editors.a.refresh();
 }
 
+/** Has the browser keep the page's own files, where it can: after the first answer, so that this doesn't wait for them. */
+function keepOffline() {
+    const kind = asker.kind();
+    if ("serviceWorker" in navigator && kind !== null) {
+        navigator.serviceWorker.register(scriptAddress(`offline.js?${kind}`)).catch(() => say("The browser doesn't keep the page for use without a network."));
+    }
+}
+
 async function main() {
     const programs = async () => (await library()).files;
     addControls({ state, asker, editors, addresses, take, refresh, addSecond, say, programs, others });
@@ -277,12 +291,14 @@ async function main() {
     asker.onFailure((why) => {
         fill(byId("answer"), element("div", { class: "failure" }, element("h3", {}, "The program can't be loaded"), element("p", {}, why)));
     });
-    window.addEventListener("hashchange", addresses.follow);
+    window.addEventListener("hashchange", () => addresses.follow());
+    window.addEventListener("pagehide", () => session.save(state, location.hash));
     // For the console, and for tests: the same question as the page's own.
     Object.assign(window, { kuifje: { ask: asker.ask, kind: asker.kind } });
-    await addresses.follow();
+    await addresses.begin();
     const names = Object.keys(await programs()).filter((name) => name.endsWith(".kf"));
     byId("open").append(...names.map((name) => element("option", { value: name }, name)));
+    keepOffline();
 }
 
 main();

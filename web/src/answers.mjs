@@ -223,6 +223,25 @@ export function verdictOf(text) {
     return { isYes: false, over, rest, actions };
 }
 
+/**
+ * The parts of a tuple or of a trace, as it is printed.
+ * @param {string} value
+ */
+export function partsOfValue(value) {
+    const found = [];
+    let depth = 0;
+    let from = 1;
+    for (let at = 0; at < value.length - 1; at += 1) {
+        depth += "({[".includes(value[at]) ? 1 : ")}]".includes(value[at]) ? -1 : 0;
+        if (value[at] === "," && depth === 1) {
+            found.push(value.slice(from, at).trim());
+            from = at + 1;
+        }
+    }
+    const last = value.slice(from, -1).trim();
+    return found.length === 0 && last === "" ? [] : [...found, last];
+}
+
 /** @typedef {{ file: string | null, line: number, column: number, word: string }} Refusal its place, from 1, or 0 where it has none */
 
 /**

@@ -27,7 +27,8 @@ import { ownFiles, textOf, withKept } from "./state.mjs";
  * @property {(json: string) => void} setSeparation makes a table that commands may name separation.json
  * @property {(words: string[]) => string[]} sent the words that the program gets
  * @property {string[]} kept the names of files that were kept, or came with a link
- * @property {(name: string, text: string) => void} keep hands a file to the reader of the page
+ * @property {(name: string, text: string) => void} keep hands a text to the reader of the page, and lets commands name it
+ * @property {(name: string, file: Blob) => void} hand gives a file to the reader of the page
  * @property {typeof failure} failure why a question has no answer
  * @property {Printed[]} printed what was asked in this round so far, and answered
  */
@@ -39,6 +40,7 @@ import { ownFiles, textOf, withKept } from "./state.mjs";
  * @property {(parts: Partial<State>) => void} take
  * @property {() => void} addSecond
  * @property {(name: string, text: string) => void} keep
+ * @property {(name: string, file: Blob) => void} hand
  * @property {(json: string, values: string[]) => GainFields} gainEditor
  */
 
@@ -47,7 +49,7 @@ import { ownFiles, textOf, withKept } from "./state.mjs";
  * @param {number} round
  * @returns {Context}
  */
-export function createContext({ state, rounds, take, addSecond, keep, gainEditor }, round) {
+export function createContext({ state, rounds, take, addSecond, keep, hand, gainEditor }, round) {
     /** @type {Printed[]} */
     const printed = [];
     /** @type {Context["tryTo"]} */
@@ -72,6 +74,6 @@ export function createContext({ state, rounds, take, addSecond, keep, gainEditor
         setSeparation: (json) => {
             Object.assign(state, withKept(state, "separation.json", json));
         },
-        sent: (words) => sentWords(words, state.turns), kept: Object.keys(state.kept), keep, failure, printed,
+        sent: (words) => sentWords(words, state.turns), kept: Object.keys(state.kept), keep, hand, failure, printed,
     };
 }

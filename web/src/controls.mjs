@@ -162,6 +162,8 @@ function addSettings({ state, asker, editors, take, refresh, say }) {
         document.documentElement.dataset.letters = letters.value;
         editors.a.refresh();
         editors.b.refresh();
+        // Pictures grow with the letters.
+        refresh();
     });
     decimals.addEventListener("change", () => document.body.classList.toggle("no-decimals", !decimals.checked));
     megabytes.addEventListener("change", () => {

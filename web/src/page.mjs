@@ -94,16 +94,25 @@ function settle(word) {
 }
 
 /**
- * Hands a file to the reader of the page.
+ * Gives a file to the reader of the page.
+ * @param {string} name
+ * @param {Blob} file
+ */
+function hand(name, file) {
+    const address = URL.createObjectURL(file);
+    element("a", { href: address, download: name }).click();
+    setTimeout(() => URL.revokeObjectURL(address), 10000);
+    say(`Kept ${name}.${name.endsWith(".json") ? " A command may name it, too." : ""}`);
+}
+
+/**
+ * Hands a text to the reader of the page, and lets commands name it.
  * @param {string} name
  * @param {string} text
  */
 function keep(name, text) {
     Object.assign(state, withKept(state, name, text));
-    const address = URL.createObjectURL(new Blob([text], { type: "text/plain" }));
-    element("a", { href: address, download: name }).click();
-    setTimeout(() => URL.revokeObjectURL(address), 10000);
-    say(`Kept ${name}.${name.endsWith(".json") ? " A command may name it, too." : ""}`);
+    hand(name, new Blob([text], { type: "text/plain" }));
 }
 
 // Answers.
@@ -187,7 +196,7 @@ async function refresh() {
     Object.values(editors).forEach((editor) => editor.clear());
     let isAnswered = false;
     try {
-        const context = createContext({ state, rounds, take, addSecond, keep, gainEditor: fieldsOf }, round);
+        const context = createContext({ state, rounds, take, addSecond, keep, hand, gainEditor: fieldsOf }, round);
         const nodes = await SHOW[state.view](context);
         if (rounds.isNewest(round)) {
             fill(byId("target"), ...targetSentence(state));

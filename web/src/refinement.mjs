@@ -2,6 +2,7 @@
 import { button, element, fill, table } from "./elements.mjs";
 import { MOST, hyperOf, priorOf, reportOf, verdictOf } from "./answers.mjs";
 import { shown } from "./fractions.mjs";
+import { figureOf } from "./figures.mjs";
 import { flowPicture, heatMap } from "./pictures.mjs";
 import { repairNote } from "./repairs.mjs";
 import { targetSize } from "./programs.mjs";
@@ -33,20 +34,21 @@ function priorsApart(hypers) {
 }
 
 /**
+ * @param {Context} context
  * @param {string[][]} matrix
  * @param {Direction} direction
  */
-function matrixOf(matrix, { letters: [first, second], hypers }) {
+function matrixOf(context, matrix, { letters: [first, second], hypers }) {
     const rows = matrix.map((_, index) => `${first} ${index}`);
     const columns = matrix[0].map((_, index) => `${second} ${index}`);
     const isSmall = rows.length <= MOST && columns.length <= MOST;
     const isWhole = hypers !== null && hypers.every((it) => it.isWhole);
-    const flow = isWhole && flowPicture(hypers.map((it) => it.groups.map(({ weight }) => weight)), [first, second], matrix);
-    const map = isSmall && heatMap(matrix, rows, columns, `Heat map of the matrix, ${rows.length} by ${columns.length}`);
+    const flow = !isWhole ? null : flowPicture(hypers.map((it) => it.groups.map(({ weight }) => weight)), [first, second], matrix);
+    const picture = flow !== null || !isSmall ? flow : heatMap(matrix, rows, columns, `Heat map of the matrix, ${rows.length} by ${columns.length}`);
     const cells = matrix.slice(0, MOST).map((row, index) => [rows[index], ...row.slice(0, MOST).map(shown)]);
     return [
         element("p", {}, `The matrix makes the hyper of ${second} of that of ${first}: a row for each inner of ${first}, a column for each inner of ${second}.`),
-        flow || map || tooMany(Math.max(rows.length, columns.length), "rows or columns"),
+        picture === null ? tooMany(Math.max(rows.length, columns.length), "rows or columns") : figureOf(picture, `matrix-${first}-${second}`, context.hand),
         table(`Matrix from ${first} to ${second}`, ["inner", ...columns.slice(0, MOST)], cells),
     ];
 }
@@ -90,7 +92,7 @@ async function sectionOf(context, direction) {
         return element("section", {}, element("h3", {}, question, element("strong", {}, "No verdict")), element("pre", { class: "terminal" }, direction.refusal));
     }
     const answer = element("strong", { class: verdict.isYes ? "yes" : "no" }, verdict.isYes ? "Yes" : "No");
-    const proof = verdict.isYes ? matrixOf(verdict.matrix, direction) : await separationOf(context, verdict, direction);
+    const proof = verdict.isYes ? matrixOf(context, verdict.matrix, direction) : await separationOf(context, verdict, direction);
     const keep = hypers !== null && button("Keep the certificate", async () => {
         const outcome = await context.tryTo(["refine", ...names, "--json"]);
         if (outcome.kind === "answer") {

@@ -1,7 +1,7 @@
 // Repairs: a text that does what another one does, still shows what that is for, and leaks less. The search isn't proved. Each text that it finds is
 // judged by the program: the joint distribution of secret, final values and what the text is for is the same; an observer still knows what it is
 // for; and the new text refines the old one. Only the structure is changed: branches and loops are made even.
-import { hyperOf, verdictOf } from "./answers.mjs";
+import { hyperOf, partsOfValue, verdictOf } from "./answers.mjs";
 import { Uncovered, compounds, declaredFor, evenText, fresh, held, within, withDeclared } from "./even.mjs";
 import { NOTHING, fractionOf, isAbove, lowest, printed, product, sum } from "./fractions.mjs";
 import { NoType, typeOf } from "./kinds.mjs";
@@ -83,24 +83,6 @@ function purposeOf(source, index) {
 // Hypers.
 
 /**
- * The parts of a tuple as it is printed.
- * @param {string} value
- */
-export function tupleParts(value) {
-    const found = [];
-    let depth = 0;
-    let from = 1;
-    for (let at = 0; at < value.length; at += 1) {
-        depth += "({".includes(value[at]) ? 1 : ")}".includes(value[at]) ? -1 : 0;
-        if ((value[at] === "," && depth === 1) || at === value.length - 1) {
-            found.push(value.slice(from, at).trim());
-            from = at + 1;
-        }
-    }
-    return found;
-}
-
-/**
  * A hyper as a text that two hypers share if they are the same distribution of posteriors, whatever their scales.
  * @param {{ weight: string, shares: { value: string, share: string }[] }[]} groups
  */
@@ -128,7 +110,7 @@ export function floorOf(joint, secrets, marks) {
     /** @type {Map<string, Map<string, Fraction>>} */
     const columns = new Map();
     for (const { value, share } of joint) {
-        const parts = tupleParts(value);
+        const parts = partsOfValue(value);
         const secret = secrets === 1 ? parts[0] : `(${parts.slice(0, secrets).join(", ")})`;
         const key = parts.slice(parts.length - marks).join();
         const column = columns.get(marks === 0 ? "" : key) || new Map();

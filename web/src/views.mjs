@@ -1,11 +1,15 @@
 // The views of an answer. Each asks the program what it needs, and gives the elements that show it.
 import { button, element, table } from "./elements.mjs";
-import { MOST, channelOf, hyperOf, priorOf, reportOf, tracesOf } from "./answers.mjs";
+import { MOST, channelOf, hyperOf, partsOfValue, priorOf, reportOf, tracesOf } from "./answers.mjs";
 import { bitsText, leakageText, log2, shannon } from "./bits.mjs";
 import { NOTHING, fractionOf, isNone, lowest, printed, shown } from "./fractions.mjs";
+import { figureOf } from "./figures.mjs";
 import { heatMap, hyperPicture } from "./pictures.mjs";
 import { GUESSING, USUAL, guessOf, jsonOf } from "./gains.mjs";
 import { typedWords } from "./commands.mjs";
+import { isLong } from "./programs.mjs";
+import { read as readText } from "./source.mjs";
+import { shownBy } from "./traces.mjs";
 
 /** @typedef {import("./context.mjs").Context} Context */
 
@@ -16,54 +20,73 @@ import { typedWords } from "./commands.mjs";
 export const tooMany = (count, what) => element("p", { class: "note" },
     `There are ${count} ${what}, too many for a picture. The table shows the first of them.`);
 
-/**
- * @param {import("./answers.mjs").Groups} read
- * @param {string} word
- * @param {string} weight
- * @param {string} head
- */
-function groupsTable(read, word, weight, head) {
-    const rows = read.groups.flatMap((group) => group.shares.map(({ value, share }, index) => [
+/** @param {import("./answers.mjs").Groups} hyper */
+function hyperTable({ groups }) {
+    const rows = groups.flatMap((group) => group.shares.map(({ value, share }, index) => [
         index === 0 ? group.name : "", index === 0 ? shown(group.weight) : "", value, shown(share)]));
-    return table(head, [word, weight, "value", word === "inner" ? "posterior probability" : "joint probability"], rows);
+    return table("The hyper-distribution", ["inner", "outer", "value", "posterior probability"], rows);
 }
 
 /** @param {Context} context */
-export async function hyperView({ ask, file }) {
+export async function hyperView({ ask, file, hand }) {
     const read = hyperOf(await ask(["hyper", file]));
     const picture = hyperPicture(read);
     const said = read.count === 1
         ? "There is one posterior, and it is the prior: an observer learns nothing about this target."
-        : `A run leaves an observer with one of ${read.count} posteriors, the inners. The picture shows the prior at the left, and each inner as wide as its outer probability.`;
+        : `A run leaves an observer with one of ${read.count} posteriors, the inners. The picture shows the prior at the left, `
+            + "and each inner as wide as its outer probability.";
     return [
-        element("p", {}, said), picture || tooMany(read.count, "inners"), groupsTable(read, "inner", "outer", "The hyper-distribution"),
+        element("p", {}, said), picture === null ? tooMany(read.count, "inners") : figureOf(picture, "hyper", hand), hyperTable(read),
         element("p", { class: "note" }, `The scale is ${read.scale}: every joint probability is a whole number over it.`),
     ];
 }
 
+/** The most parts of a trace that are shown with their lines. */
+const MOST_PARTS = 60;
+
+/**
+ * A trace with the line that showed each of its parts.
+ * @param {import("./source.mjs").Source | null} source
+ * @param {string} name the trace as it is printed
+ */
+function traceCell(source, name) {
+    const parts = partsOfValue(name);
+    const found = source === null ? null : shownBy(source, parts);
+    if (found === null || found.length === 0) {
+        return name;
+    }
+    const items = found.slice(0, MOST_PARTS).map(({ line, part, what }) => element("li", {}, element("span", { class: "number" }, part), " ",
+        element("span", { class: "shown-by" }, `line ${line}, ${what}`)));
+    return element("span", {}, name, element("ol", { class: "trace", "aria-label": "What showed each part" }, ...items),
+        found.length > MOST_PARTS && element("span", { class: "note" }, `and ${found.length - MOST_PARTS} more`));
+}
+
 /** @param {Context} context */
-export async function tracesView({ ask, file }) {
+export async function tracesView({ ask, file, text }) {
     const read = tracesOf(await ask(["traces", file]));
+    const source = isLong(text) ? null : readText(text);
+    const rows = read.groups.flatMap((group) => group.shares.map(({ value, share }, index) => [
+        index === 0 ? traceCell(source, group.name) : "", index === 0 ? shown(group.weight) : "", value, shown(share)]));
     return [
-        element("p", {}, read.count === 1 ? "Every run shows the same trace." : `An observer sees one of ${read.count} traces.`),
-        !read.isWhole && tooMany(read.count, "traces"), groupsTable(read, "trace", "probability", "What an observer may see"),
+        element("p", {}, read.count === 1 ? "Every run shows the same trace." : `An observer sees one of ${read.count} traces. Under each stands the line that showed each of its parts.`),
+        !read.isWhole && tooMany(read.count, "traces"), table("What an observer may see", ["trace", "probability", "value", "joint probability"], rows),
     ];
 }
 
 const MOST_CELLS = 8000;
 
 /** @param {Context} context */
-export async function channelView({ ask, tryTo, file }) {
+export async function channelView({ ask, tryTo, file, hand }) {
     const read = channelOf(await ask(["channel", file]));
     const isWhole = read.count <= MOST && read.rowCount <= MOST;
     const label = `Heat map of the channel: ${read.rowCount} values, ${read.count} traces. The table has its numbers.`;
-    const picture = isWhole && heatMap(read.rows.map((row) => row.cells), read.rows.map((row) => row.value), read.columns, label);
+    const picture = !isWhole ? null : heatMap(read.rows.map((row) => row.cells), read.rows.map((row) => row.value), read.columns, label);
     const capacity = await tryTo(["capacity", file]);
     const bound = capacity.kind === "answer" && capacity.status === 0 ? capacity.out.trim().split(" ")[1] : null;
     const rows = read.rows.slice(0, Math.max(Math.floor(MOST_CELLS / read.columns.length), 1));
     return [
         element("p", {}, "A row is a value of the secret. It has the probability of each trace under that value; all else is drawn as the text declares it."),
-        picture || tooMany(Math.max(read.count, read.rowCount), read.count >= read.rowCount ? "columns" : "rows"),
+        picture === null ? tooMany(Math.max(read.count, read.rowCount), read.count >= read.rowCount ? "columns" : "rows") : figureOf(picture, "channel", hand),
         bound !== null && element("p", {}, "Bayes capacity ", shown(bound), " ", element("span", { class: "bits" }, `(${leakageText(fractionOf(bound))})`),
             ". No multiplicative leakage is greater, for any prior on these values and any gain function without negative gains."),
         table("The channel matrix", ["value", ...read.columns], rows.map((row) => [row.value, ...row.cells.map(shown)])),

@@ -2,7 +2,7 @@
 import assert from "node:assert/strict";
 import { readFileSync } from "node:fs";
 import test from "node:test";
-import { MOST, blameOf, channelOf, hyperOf, itemsOf, linesOf, priorOf, refusalOf, reportOf, tracesOf, trailOf, verdictOf } from "../../src/answers.mjs";
+import { MOST, blameOf, channelOf, hyperOf, itemsOf, linesOf, partsOfValue, priorOf, refusalOf, reportOf, tracesOf, trailOf, verdictOf } from "../../src/answers.mjs";
 
 const FORMATS = readFileSync(new URL("../../../docs/FORMATS.md", import.meta.url), "utf8");
 /** What docs/FORMATS.md says that a command prints. */
@@ -70,6 +70,13 @@ test("a refusal: whose text, where, and by which word", () => {
     assert.deepEqual(refusalOf("kuifje: gain.json: Wide\n", names), { file: "gain.json", line: 0, column: 0, word: "Wide" });
     assert.deepEqual(refusalOf("kuifje: usage: kuifje COMMAND\n", names), { file: null, line: 0, column: 0, word: "usage: kuifje COMMAND" });
     assert.equal(refusalOf("kuifje: other.kf:1:1: Syntax\n", names).line, 0);
+});
+
+test("the parts of a tuple, and of a trace", () => {
+    assert.deepEqual(partsOfValue("(1, (2, 3), {4, 5}, true)"), ["1", "(2, 3)", "{4, 5}", "true"]);
+    assert.deepEqual(partsOfValue("(-1, {})"), ["-1", "{}"]);
+    assert.deepEqual(partsOfValue("[(0, 1), [], {2}]"), ["(0, 1)", "[]", "{2}"]);
+    assert.deepEqual([partsOfValue("[]"), partsOfValue("[true]")], [[], ["true"]]);
 });
 
 test("the items of a target", () => {

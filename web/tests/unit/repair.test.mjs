@@ -2,13 +2,8 @@
 import assert from "node:assert/strict";
 import test from "node:test";
 import { printed } from "../../src/fractions.mjs";
-import { NoPurpose, floorOf, observationsOf, repairOf, tupleParts, usualPurpose } from "../../src/repair.mjs";
+import { NoPurpose, floorOf, observationsOf, repairOf, usualPurpose } from "../../src/repair.mjs";
 import { read } from "../../src/source.mjs";
-
-test("a tuple's parts, as it is printed", () => {
-    assert.deepEqual(tupleParts("(1, (2, 3), {4, 5}, true)"), ["1", "(2, 3)", "{4, 5}", "true"]);
-    assert.deepEqual(tupleParts("(-1, {})"), ["-1", "{}"]);
-});
 
 test("the floor shows what a text is for, and nothing else", () => {
     // Of 0 to 3, each as likely, one shows whether it is 2: the columns 0, 1, 3 and 2.

@@ -113,12 +113,12 @@ async function showLink({ state, addresses, programs, others, say }) {
     const made = await linkOf({ ...state, kept: own });
     if (made.link === null) {
         byId("link-box").hidden = true;
-        say(`No link is made: it would have more than ${LONGEST} characters, too many for an address.`);
+        say(`No link was made: with more than ${LONGEST} characters it would be too long for an address.`);
         return;
     }
     addresses.replace(made.link);
-    const missing = made.without.length > 0 && `${listed(made.without)} ${made.without.length > 1 ? "are" : "is"} too long for an address: `
-        + "the command that this link carries names what it hasn't. Hand the file out, too.";
+    const missing = made.without.length > 0 && `${listed(made.without)} ${made.without.length > 1 ? "are" : "is"} too long for an address, and not in this link. `
+        + "The command in it names that file: hand the file out, too.";
     fill(byId("link-note"), missing);
     const field = byId("link-field", HTMLInputElement);
     field.value = location.href;

@@ -53,7 +53,7 @@ export function createEditor(parent, label, onChange) {
         extraKeys: { Tab: false, "Shift-Tab": false },
     });
     const note = element("p", { class: "note", role: "status", hidden: true },
-        "This text is long: it is shown without colours, and without marks on its lines. Answers and refusals are as ever.");
+        "This text is long, so it is shown without colours and without marks. Answers and refusals are the same.");
     parent.append(note);
     /** @type {any[]} */
     let marks = [];

@@ -141,7 +141,7 @@ export function gainEditor(json, values, changes) {
         const over = element("span", { class: "note" });
         const say = () => {
             const common = commonDenominator([gains.rest, ...gains.actions.flatMap((action) => [...action.gains.values()])]);
-            over.textContent = `In the table's file all gains are whole numbers, divided by ${common}.`;
+            over.textContent = `The table's file has whole numbers, all divided by ${common}.`;
         };
         const update = () => {
             say();
@@ -234,7 +234,7 @@ function tableOf(gains, values, changes) {
         add(action);
         changes.update();
     });
-    const again = button("Begin anew", () => changes.replace(jsonOf(guessOf(values))));
+    const again = button("Start over", () => changes.replace(jsonOf(guessOf(values))));
     const heads = ["action", ...columns, ""].map((it) => element("th", { scope: "col" }, it));
     const shown = element("table", {}, element("caption", {}, "What each action gains at each value"), element("thead", {}, element("tr", {}, ...heads)), body);
     return [element("div", { class: "scroll", tabindex: "0", role: "region", "aria-label": "Gain table" }, shown), element("p", {}, more, " ", again, " ", changes.over)];

@@ -50,10 +50,10 @@ function namesOf(measure) {
     const name = found === undefined ? "the gain table" : found[1];
     if (measure === GUESSING) {
         const whole = "an adversary who keeps guessing is expected to take this number of guesses: ";
-        return { name, lost: "more guesses", so: "so many", sign: "+", whole, beside: "how many more it would take" };
+        return { name, lost: "more guesses", sign: "+", whole, beside: "how many more it would take" };
     }
     const whole = measure === "bayes" ? "one guess at the target is right with probability " : `the posterior vulnerability under ${name} is `;
-    return { name, lost: "less", so: "so much", sign: "−", whole, beside: "by how much that would be less" };
+    return { name, lost: "less", sign: "−", whole, beside: "how much less that would be" };
 }
 
 /**
@@ -96,7 +96,7 @@ function rowsOf(out, measure) {
         const loss = losses[index];
         // What the margin has: how much is lost, or else what becomes of the inners.
         const mark = isNone(loss) ? (silent.inners === all.inners ? "0" : `${all.inners}→${silent.inners}`) : `${sign}${short(loss)}`;
-        const title = `Without the statement at ${silent.line}:${silent.column}: ${silent.inners} inners in place of ${all.inners}, `
+        const title = `Without the statement at ${silent.line}:${silent.column}: ${silent.inners} inners instead of ${all.inners}, `
             + `${name}: ${silent.posterior}, ${printed(loss)} ${lost}`;
         return { ...silent, line: silent.line - 1, loss, level: levelOf(loss, greatest), mark, title, isBlamed: mark !== "0" };
     });
@@ -171,9 +171,9 @@ function legend(greatest, { lost }) {
  * The text as a table: the number of each line, what is lost without its statements, and the line.
  * @param {string} text
  * @param {Row[]} rows
- * @param {{ lost: string, so: string, sign: string }} names
+ * @param {{ lost: string, sign: string }} names
  */
-function listing(text, rows, { lost, so, sign }) {
+function listing(text, rows, { lost, sign }) {
     const own = byLine(rows);
     const source = text.replace(/\n$/, "").split("\n");
     const lines = source.slice(0, MOST_LINES).map((line, number) => {
@@ -183,7 +183,7 @@ function listing(text, rows, { lost, so, sign }) {
         return element("tr", { class: found.length > 0 ? `leak-${level}` : "" }, element("th", { scope: "row" }, String(number + 1)),
             element("td", { class: "lost" }, ...numbers, " ", found.length > 0 && bar(level)), element("td", {}, element("code", {}, line)));
     });
-    const head = element("tr", {}, ...["line", `${so} ${lost} without it`, "text"].map((it) => element("th", { scope: "col" }, it)));
+    const head = element("tr", {}, ...["line", `${lost} without it`, "text"].map((it) => element("th", { scope: "col" }, it)));
     const name = "The text, line by line";
     const made = element("table", { class: "listing" }, element("caption", {}, name), element("thead", {}, head), element("tbody", {}, ...lines));
     return element("div", { class: "scroll", tabindex: "0", role: "region", "aria-label": name }, made,
@@ -211,7 +211,7 @@ function trailTable(text, counts) {
         return [index === 0 ? "the declarations" : `statement ${index - 1}`, line, count];
     });
     const cut = counts.length > rows.length ? ` (the first ${rows.length} of ${counts.length})` : "";
-    return table(`How many posteriors of all variables there are${cut}`, ["after", "line", "posteriors"], rows);
+    return table(`Posteriors of all variables on the way${cut}`, ["after", "line", "posteriors"], rows);
 }
 
 /** @param {import("./context.mjs").Context} context */
@@ -233,21 +233,21 @@ export async function linesView(context) {
     const { all, rows, greatest } = rowsOf(outcome.out, measure);
     const names = namesOf(measure);
     const statement = statementsOf(text);
-    const heads = ["place", "statement", "inners without it", `${names.name} without it`, `${names.so} ${names.lost}`];
+    const heads = ["place", "statement", "inners without it", `${names.name} without it`, names.lost];
     const cells = rows.map(({ line, column, inners, posterior, loss }) => [
         `${line + 1}:${column}`, element("code", {}, statement(line + 1, column)), inners, shown(posterior),
         shown(printed(loss)),
     ]);
     return [
         chooser(context),
-        element("p", {}, `As it is, the hyper has ${all.inners} inners, and ${names.whole}`, shown(all.posterior),
-            `. Beside a line stands ${names.beside} if the statement that begins there alone showed nothing, wherever it stands.`),
+        element("p", {}, `The hyper has ${all.inners} inners, and ${names.whole}`, shown(all.posterior),
+            `. The number beside a line says ${names.beside} if the statement that begins there, and no other one, showed nothing.`),
         rows.length > 0 && legend(greatest, names),
-        rows.some(({ loss }) => isNone(loss)) && element("p", { class: "note" }, "To this adversary a line with the number of ", element("code", {}, "all"),
-            " is worth nothing beside the others. It may show something all the same: alone, together with others, or to another adversary."),
+        rows.some(({ loss }) => isNone(loss)) && element("p", { class: "note" }, "To this adversary a line with 0 is worth nothing while the others show what they do. "
+            + "It may show something all the same: alone, together with others, or to another adversary."),
         listing(text, rows, names), repairSection(context),
         rows.length > 1 && isNone(greatest) && element("p", { class: "note" },
-            "No statement alone is to blame. Where two show the same, neither has other numbers than all."),
+            "No single statement is to blame. Where two show the same, it changes nothing to silence one of them."),
         table("Which statement leaks", heads, cells), trailTable(text, trail),
     ];
 }

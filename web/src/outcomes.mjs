@@ -17,8 +17,8 @@ const CALLED = new Map([["a.kf", "Program A"], ["b.kf", "Program B"], ["gain.jso
 export function failure(outcome) {
     const box = (/** @type {string} */ head, /** @type {string} */ text) => element("div", { class: "failure" }, element("h3", {}, head), element("p", {}, text));
     if (outcome.kind === "memory") {
-        return box("Want of memory", `The question wants more memory than the ${outcome.bound} MB that Settings allow, or than the browser gives. `
-            + "That is no answer: with more memory, or on a machine of its own, there may be one.");
+        return box("Want of memory", `The question needs more memory than the ${outcome.bound} MB that Settings allow, or than the browser gives. `
+            + "That is no answer: with more memory there may be one.");
     }
     if (outcome.kind === "trap") {
         return box("A trap", `The engine of the browser ended the run: ${outcome.why}. That is no answer, and nothing of the run is used again.`);

@@ -47,7 +47,7 @@ function matrixOf(context, matrix, { letters: [first, second], hypers }) {
     const picture = flow !== null || !isSmall ? flow : heatMap(matrix, rows, columns, `Heat map of the matrix, ${rows.length} by ${columns.length}`);
     const cells = matrix.slice(0, MOST).map((row, index) => [rows[index], ...row.slice(0, MOST).map(shown)]);
     return [
-        element("p", {}, `The matrix makes the hyper of ${second} of that of ${first}: a row for each inner of ${first}, a column for each inner of ${second}.`),
+        element("p", {}, `The matrix turns the hyper of ${first} into that of ${second}. It has a row for each inner of ${first} and a column for each inner of ${second}.`),
         picture === null ? tooMany(Math.max(rows.length, columns.length), "rows or columns") : figureOf(picture, `matrix-${first}-${second}`, context.hand),
         table(`Matrix from ${first} to ${second}`, ["inner", ...columns.slice(0, MOST)], cells),
     ];
@@ -120,8 +120,8 @@ async function directionOf(context, command, names, letters, hypers) {
     return { verdict: verdictOf(outcome.out), refusal: "", names, letters, hypers };
 }
 
-const ABOUT_ALL = "Here every variable is a secret, keys, coins and counters too, and so is what each becomes: a no may be about those. "
-    + "Whether B leaks no more than A about the secret alone, for every prior on it, is the other question, for a target that is old.";
+const ABOUT_ALL = "Here every variable is a secret, keys, coins and counters too, with what it becomes, and a no may be about those. "
+    + "The other question is about the secret alone: for a target that is old, its yes holds for every prior on the secret.";
 
 /**
  * @param {Context} context
@@ -133,7 +133,7 @@ export async function refineView(context, command) {
         button("About the secret", () => context.take({ view: "refine" }), { "aria-pressed": String(!isForEvery) }), " ",
         button("About all variables, first and last (covers)", () => context.take({ view: "covers" }), { "aria-pressed": String(isForEvery) }));
     if (context.b === null) {
-        return [choice, element("p", {}, "A second text is wanted. ", button("Compare with a second text", context.addSecond))];
+        return [choice, element("p", {}, "This view compares two texts. ", button("Compare with a second text", context.addSecond))];
     }
     const hypers = isForEvery ? null : [hyperOf(await context.ask(["hyper", "a.kf"])), hyperOf(await context.ask(["hyper", "b.kf"]))];
     const there = await directionOf(context, command, ["a.kf", "b.kf"], ["A", "B"], hypers);

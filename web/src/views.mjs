@@ -67,8 +67,9 @@ export async function tracesView({ ask, file, text }) {
     const source = isLong(text) ? null : readText(text);
     const rows = read.groups.flatMap((group) => group.shares.map(({ value, share }, index) => [
         index === 0 ? traceCell(source, group.name) : "", index === 0 ? shown(group.weight) : "", value, shown(share)]));
+    const sentence = read.count === 1 ? "Every run shows the same trace." : `An observer sees one of ${read.count} traces.`;
     return [
-        element("p", {}, read.count === 1 ? "Every run shows the same trace." : `An observer sees one of ${read.count} traces. Under each stands the line that showed each of its parts.`),
+        element("p", {}, `${sentence} Below a trace stands the line that showed each part of it.`),
         !read.isWhole && tooMany(read.count, "traces"), table("What an observer may see", ["trace", "probability", "value", "joint probability"], rows),
     ];
 }

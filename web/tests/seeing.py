@@ -1,0 +1,101 @@
+"""Trials of what the page makes of an answer: a fix, pictures that are kept, the lines of a trace, and bits."""
+
+from __future__ import annotations
+
+from browser import Page
+from trials import example, expect, has
+
+
+def proposes_a_fix(page: Page) -> None:
+    """A lock whose branch shows whether a value of four is 2 may show nothing: one guess is right with 1/4 in place of 1/2. Of three letters of three, a
+    password may say whether it was right, which is two classes of four: 2/27 in place of 4/27."""
+    page.open()
+    page.view("lines")
+    page.press("Look for a fix")
+    page.wait(lambda: "B is A with line 5 made even" in page.answer(), "a fix of the lock")
+    has(page.answer(), "The program confirms that B refines A", "probability 1/2", "after A and 1/4", "B is at the floor", "Not proved: the search", "B refines A: B leaks no more than A")
+    expect("if" not in page.text("b").split("about old h;")[1] and "cond(" in page.text("b"), f"the fix is {page.text('b')}")
+    page.write(page.text("b") + "observe h;\n", "b")
+    expect("A fix" not in page.answer(), "another text is said to be a fix")
+    page.open()
+    page.write(example("examples/password/early.kf"))
+    page.view("lines")
+    page.press("Look for a fix")
+    page.wait(lambda: "after A and 2/27" in page.answer(), "a fix of the password")
+    has(page.answer(), "4/27", "lines 8 and 9", "an observer of B knows what the observation in line 10 shows")
+    says_where_there_is_none(page)
+
+
+def says_where_there_is_none(page: Page) -> None:
+    page.open()
+    page.write(example("examples/cond.kf"))
+    page.view("lines")
+    page.press("Look for a fix")
+    page.wait(lambda: "Nothing to repair." in page.answer(), "a text that is at its floor")
+    page.write("var x : 0..3 := uniform 0..3;\nabout old x;\nobserve x mod 2;\nobserve x < 2;\n")
+    page.press("Look for a fix")
+    page.wait(lambda: "Choose first what the text is for" in page.answer(), "a question what the text is for")
+    page.choose("#purpose", "0")
+    page.press("Look for a fix")
+    # Whether x is even leaves two values of four: 1/2. Both observations leave one.
+    page.wait(lambda: "The text is above its floor" in page.answer() and "it would be 1/2" in page.answer(), "the floor of one of two observations")
+    has(page.answer(), "No fix by structure was found")
+    page.write("var x : 0..3 := uniform 0..3;\nobserve x mod 2;\n")
+    page.press("Look for a fix")
+    page.wait(lambda: "write about old" in page.answer(), "a target that is none of a secret")
+
+
+def keeps_pictures(page: Page) -> None:
+    """A picture has its numbers, is a file of its own, grows with the letters and fills the screen."""
+    page.open()
+    page.script("window.handed = []; const make = URL.createObjectURL; URL.createObjectURL = (it) => { handed.push(it); return make.call(URL, it); };")
+    page.press("Keep as SVG")
+    text = str(page.driver.execute_async_script("const done = arguments[0]; handed[0].text().then(done)"))
+    has(text, 'xmlns="http://www.w3.org/2000/svg"', "<rect", ">3/4<", ">1/4<", ">0: 1/3<", "font-family=", "<title>")
+    expect("class=" not in text and "style=" not in text, "a picture wants the page's style")
+    page.press("Keep as PNG")
+    page.wait(lambda: page.script("return handed.some((it) => it.type === 'image/png')"), "a picture in points")
+    size = page.driver.execute_async_script("""const done = arguments[0]; createImageBitmap(handed.find((it) => it.type === 'image/png')).then((made) => {
+        const canvas = Object.assign(document.createElement("canvas"), { width: made.width, height: made.height });
+        const context = canvas.getContext("2d"); context.drawImage(made, 0, 0);
+        const { data } = context.getImageData(0, 0, made.width, made.height);
+        done([made.width, made.height, new Set(new Uint32Array(data.buffer)).size]); });""")
+    box = page.script("const it = document.querySelector('svg.picture').viewBox.baseVal; return [it.width, it.height]")
+    expect(size[0] == round(2 * box[0]) and size[1] == round(2 * box[1]) and size[2] > 5, f"the picture has {size}, and its drawing {box}")
+    height = "return document.querySelector('svg.picture .label').getBoundingClientRect().height"
+    usual = page.script(height)
+    page.choose("#letters", "huge")
+    page.settle()
+    expect(page.script(height) > 1.3 * usual, f"letters of {usual} in a picture have {page.script(height)} on a projector")
+    page.choose("#letters", "")
+    page.settle()
+    page.press("Fill the screen")
+    page.wait(lambda: page.script("return document.fullscreenElement !== null && document.fullscreenElement.tagName === 'FIGURE'"), "a picture alone", 10)
+    page.press("Fill the screen")
+    page.wait(lambda: page.script("return document.fullscreenElement === null"), "the page again", 10)
+
+
+def names_lines_of_traces(page: Page) -> None:
+    page.open()
+    page.view("traces")
+    has(page.answer(), "[false]", "false line 5, if", "true line 5, if")
+    page.write("var x : 0..1 := uniform 0..1;\nvis v : 0..1 := 0;\nabout old x;\nwhile x > 0 {\n  x := x - 1; v := 1;\n}\nobserve v;\n")
+    has(page.answer(), "false line 4, while", "1 line 5, v", "1 line 7, observe")
+
+
+def says_bits(page: Page) -> None:
+    """One of four values is told from the others: of 2 bits of entropy 3/4 times the logarithm of 3 is left, and one guess is twice as often right."""
+    page.open()
+    page.view("leak")
+    has(page.answer(), "prior vulnerability\tposterior vulnerability\tmultiplicative leakage\tadditive leakage", "= 1 bit",
+        "min-entropy (of one guess)\t= 2 bits\t= 1 bit\t= 1 bit", "Shannon entropy\t= 2 bits\t≈ 1.189 bits\t≈ 0.8113 bits")
+    # Guesses: (1 + 2 + 3 + 4) / 4, and then 3/4 (1 + 2 + 3) / 3 + 1/4.
+    has(page.answer(), "keeps guessing (guessing)\t5/2 = 2.5\t7/4 = 1.75\t10/7 ≈ 1.429\t3/4 = 0.75")
+    printed = page.find("details.printed")
+    printed.find_element("css selector", "summary").click()
+    page.wait(lambda: "$ kuifje leak a.kf --gain bayes\n" in printed.text and "quotient 2" in printed.text, "the program's own bytes")
+    page.view("channel")
+    has(page.answer(), "Bayes capacity 2 (= 1 bit)")
+
+
+TRIALS = [proposes_a_fix, keeps_pictures, names_lines_of_traces, says_bits]

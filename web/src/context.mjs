@@ -22,6 +22,8 @@ import { ownFiles, textOf, withKept } from "./state.mjs";
  * @property {(json: string, values: string[]) => GainFields} gainEditor the fields of the gain table: those that stand there already, where they are of
  * this table
  * @property {string} measure the gain under which lines are compared: one of USUAL, or TABLE
+ * @property {string | null} prior weights of a prior that is looked at beside the declared one
+ * @property {(prior: string | null) => void} setPrior
  * @property {string | null} words
  * @property {(parts: Partial<State>) => void} take changes what is asked
  * @property {(json: string) => void} setSeparation makes a table that commands may name separation.json
@@ -71,6 +73,10 @@ export function createContext({ state, rounds, take, addSecond, keep, hand, gain
         },
         file: `${state.of}.kf`, text: textOf(state), a: state.a, b: state.b, addSecond, gain: state.gain, gainEditor, measure: state.measure,
         words: state.words, take,
+        prior: state.prior,
+        setPrior: (prior) => {
+            state.prior = prior;
+        },
         setSeparation: (json) => {
             Object.assign(state, withKept(state, "separation.json", json));
         },

@@ -1,7 +1,7 @@
 // What the part of an address after # says: a state of the page, or a lesson, study or page of its own. Nothing of it is sent to a server. A link
 // that can't be read is refused as a whole.
 import { TABLE, USUAL } from "./gains.mjs";
-import { MOST_TURNS, OWN, USUAL_TURNS, VIEWS } from "./questions.mjs";
+import { MOST_TURNS, OWN, USUAL_TURNS, VIEWS, weightsIn } from "./questions.mjs";
 
 /** @typedef {import("./questions.mjs").State} State */
 /** @typedef {{ kind: "nothing" } | { kind: "unreadable", why: string } | { kind: "state", state: State } | { kind: "page", page: string }} Link */
@@ -14,7 +14,7 @@ const ANCHORS = ["", "#", "#answer"];
 const NAME = /^[A-Za-z0-9][A-Za-z0-9_./-]*$/;
 /** What each link has, and what older ones may lack, with what they mean by that. */
 const PARTS = ["a", "b", "gain", "of", "page", "view", "words"];
-const LATER = { measure: "bayes", turns: USUAL_TURNS, kept: {} };
+const LATER = { measure: "bayes", turns: USUAL_TURNS, kept: {}, prior: null };
 /** The most bytes of a state: two programs and a table, each as long as a file may be. */
 const MOST = 4 << 20;
 /** The most characters of a link: browsers and fields take as much without delay. */
@@ -112,7 +112,7 @@ export function checkedState(it) {
     }
     const state = { ...LATER, ...it };
     ["a", "view", "of"].forEach((name) => wantText(state, name, false));
-    ["b", "gain", "words", "page"].forEach((name) => wantText(state, name, true));
+    ["b", "gain", "words", "page", "prior"].forEach((name) => wantText(state, name, true));
     if (!VIEWS.some(({ name }) => name === state.view) || !["a", "b"].includes(state.of) || (state.of === "b" && state.b === null)) {
         throw new Error("it asks what the page doesn't know");
     }
@@ -121,6 +121,9 @@ export function checkedState(it) {
     }
     if (!Number.isInteger(state.turns) || state.turns < 1 || state.turns > MOST_TURNS) {
         throw new Error("it has no number of turns");
+    }
+    if (state.prior !== null && weightsIn(state.prior) === null) {
+        throw new Error("it has no prior");
     }
     if (!areFiles(state.kept)) {
         throw new Error("it has other files than a link has");

@@ -11,6 +11,7 @@ import { failure, printedBytes, refusalBox, targetSentence } from "./outcomes.mj
 import { gainEditor } from "./gains.mjs";
 import { gainWord, linesView, marksOf } from "./lines.mjs";
 import { isLong } from "./programs.mjs";
+import { priorsView } from "./priors.mjs";
 import { NoAnswer, createRounds } from "./rounds.mjs";
 import { OWN } from "./questions.mjs";
 import { refineView } from "./refinement.mjs";
@@ -27,7 +28,7 @@ import { commanded, firstState, marginMeasure, openedFile, withKept, withSecond 
 
 /** @type {Record<import("./questions.mjs").ViewName, (context: Context) => Promise<Child[]>>} */
 const SHOW = {
-    hyper: hyperView, channel: channelView, leak: leakView, traces: tracesView, lines: linesView, command: commandView,
+    hyper: hyperView, channel: channelView, leak: leakView, priors: priorsView, traces: tracesView, lines: linesView, command: commandView,
     refine: (context) => refineView(context, "refine"), covers: (context) => refineView(context, "covers"),
 };
 /** How many milliseconds after the last key a text is asked about. */

@@ -29,7 +29,7 @@ function isLight(colour) {
 }
 
 /** The width that a picture has now, in letters of the usual size: where letters are larger, so is all of the picture. */
-function room() {
+export function room() {
     const column = document.getElementById("answers");
     const letters = parseFloat(getComputedStyle(document.documentElement).fontSize) / 16;
     return Math.min(Math.max(column === null ? WIDEST : column.clientWidth / letters, NARROWEST), WIDEST);
@@ -40,7 +40,7 @@ function room() {
  * @param {number} height
  * @param {string} label
  */
-function canvas(width, height, label) {
+export function canvas(width, height, label) {
     const svg = document.createElementNS("http://www.w3.org/2000/svg", "svg");
     svg.setAttribute("viewBox", `0 0 ${width} ${height}`);
     svg.setAttribute("role", "img");
@@ -76,7 +76,7 @@ function addBoxes(drawing, boxes) {
  * @param {any} drawing
  * @param {{ x: number, y: number, text: string, anchor?: string, isStrong?: boolean }[]} labels
  */
-function addLabels(drawing, labels) {
+export function addLabels(drawing, labels) {
     drawing.append("g").selectAll("text").data(labels).enter().append("text").attr("x", (/** @type {any} */ it) => it.x)
         .attr("y", (/** @type {any} */ it) => it.y).attr("class", (/** @type {any} */ it) => (it.isStrong ? "label strong" : "label"))
         .attr("text-anchor", (/** @type {any} */ it) => it.anchor || "middle").text((/** @type {any} */ it) => it.text);
@@ -86,7 +86,7 @@ function addLabels(drawing, labels) {
  * A colour for each value.
  * @param {string[]} values
  */
-function coloursOf(values) {
+export function coloursOf(values) {
     const colour = (/** @type {number} */ index) => (values.length <= FEW.length ? FEW[index] : interpolateCividis(index / (values.length - 1)));
     return new Map(values.map((value, index) => [value, colour(index)]));
 }

@@ -18,7 +18,7 @@ if h = 2 { y := 1; } else { y := 0; }
 
 /** @returns {State} the state with which the page begins */
 export const firstState = () => ({
-    a: FIRST, b: null, view: "hyper", of: "a", gain: null, measure: "bayes", words: null, page: null, turns: USUAL_TURNS, kept: {},
+    a: FIRST, b: null, view: "hyper", of: "a", gain: null, measure: "bayes", prior: null, words: null, page: null, turns: USUAL_TURNS, kept: {},
 });
 
 /**

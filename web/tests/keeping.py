@@ -116,7 +116,7 @@ def goes_back(page: Page) -> None:
 
 def restores_each_view(page: Page) -> None:
     """A link that is made in a view opens that view, with its answer. (A unit test makes one for each view, too.)"""
-    expect(len(VIEWS) == 8, f"the list of views has {VIEWS}")
+    expect(len(VIEWS) == 9, f"the list of views has {VIEWS}")
     page.open()
     page.write(example("course/witness.kf"))
     page.click("#compare")

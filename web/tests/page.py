@@ -354,7 +354,7 @@ def fetches_nothing_else(page: Page) -> None:
     expect(page.script("return Object.keys(sessionStorage)") == ["kuifje"], "the tab keeps more than it says")
     expect(page.script("return Object.keys(JSON.parse(sessionStorage.kuifje)).sort()") == ["hash", "state"], "the tab keeps other things")
     state = page.script("return Object.keys(JSON.parse(sessionStorage.kuifje).state).sort()")
-    expect(state == ["a", "b", "gain", "kept", "measure", "of", "page", "turns", "view", "words"], f"the tab keeps {state}")
+    expect(state == ["a", "b", "gain", "kept", "measure", "of", "page", "prior", "turns", "view", "words"], f"the tab keeps {state}")
     stored = page.driver.execute_async_script("""const done = arguments[0]; (async () => { await navigator.serviceWorker.ready;
         const stores = await caches.keys(); done([stores, (await (await caches.open(stores[0])).keys()).map((it) => it.url)]); })();""")
     expect(len(stored[0]) == 1 and stored[0][0].startswith("kuifje-"), f"the browser has stores {stored[0]}")

@@ -98,4 +98,37 @@ def says_bits(page: Page) -> None:
     has(page.answer(), "Bayes capacity 2 (= 1 bit)")
 
 
-TRIALS = [proposes_a_fix, keeps_pictures, names_lines_of_traces, says_bits]
+def moves_a_prior(page: Page) -> None:
+    """A reading that is right three times of four: at 1/2 one guess rises to 3/4, and at 3/4 it stays there. Of three values, each reading that is wrong
+    shows the next one."""
+    page.open()
+    page.write("var x : 0..1 := uniform 0..1;\nabout old x;\nobserve choose { x : 3, 1 - x : 1 };\n")
+    page.view("priors")
+    has(page.answer(), "computed in this page", "1/2 = 0.5\t3/4 = 0.75\t3/2 = 1.5\t1/4 = 0.25\t≈ 0.585 bits", "prior\t\t1/2 = 0.5\t1/2 = 0.5")
+    expect(len(page.driver.find_elements("css selector", "svg .envelope")) == 2, "the envelope of two guesses has other than two lines")
+    slide(page, (45, 15))
+    has(page.answer(), "3/4 = 0.75\t3/4 = 0.75\t1\t0\t= 0 bits", "5/8 = 0.625\t9/10 = 0.9\t1/10 = 0.1", "3/8 = 0.375\t1/2 = 0.5\t1/2 = 0.5")
+    said = page.answer()
+    page.find("#link-button").click()
+    link = page.wait(lambda: page.find("#link-field").get_attribute("value"), "a link")
+    page.press("The declared prior")
+    has(page.answer(), "1/2 = 0.5\t3/4 = 0.75\t3/2 = 1.5")
+    page.open(link[len(page.address):])
+    expect(page.answer() == said, "a link has another prior")
+    page.write("var x : 0..2 := choose { 0 : 2, 1 : 1, 2 : 1 };\nabout old x;\nobserve choose { x : 1, (x + 1) mod 3 : 1 };\n")
+    # One guess: 1/2 before. After it 0 is seen with 1/4 and 1/8, 1 with 1/4 and 1/8, and 2 with 1/8 twice: 1/4 + 1/4 + 1/8.
+    has(page.answer(), "1/2 = 0.5\t5/8 = 0.625\t5/4 = 1.25\t1/8 = 0.125")
+    drawn = [len(page.driver.find_elements("css selector", f"svg {it}")) for it in (".region", ".disc", ".triangle", ".ring")]
+    expect(drawn == [3, 3, 1, 1], f"the triangle has {drawn}")
+    slide(page, (0, 60, 0))
+    has(page.answer(), "1\t1\t1\t0\t= 0 bits")
+    page.write("var x : 0..3 := uniform 0..3;\nabout old x;\nobserve x = 2;\n")
+    has(page.answer(), "This target has 4")
+
+
+def slide(page: Page, weights: tuple[int, ...]) -> None:
+    page.script("""[...document.querySelectorAll(".sliders input")].forEach((it, index) => { it.value = arguments[0][index]; });
+        document.querySelector(".sliders input").dispatchEvent(new Event("input"));""", weights)
+
+
+TRIALS = [moves_a_prior, proposes_a_fix, keeps_pictures, names_lines_of_traces, says_bits]

@@ -30,7 +30,7 @@ test("a second text begins as the first, and goes with the view of two", () => {
 
 test("another program has no gain table of the one before, the same one keeps it", () => {
     const set = { ...STATE, gain: "{}", measure: "table", of: "b", view: "command" };
-    assert.deepEqual(openedFile(set, "x.kf", "C"), { a: "C", of: "a", gain: null, measure: "bayes", view: "hyper" });
+    assert.deepEqual(openedFile(set, "x.kf", "C"), { a: "C", of: "a", gain: null, prior: null, measure: "bayes", view: "hyper" });
     assert.deepEqual(openedFile(set, "x.kf", "A"), { a: "A", of: "a", view: "hyper" });
     assert.deepEqual(openedFile(set, "bet.json", "[]"), { gain: "[]", view: "leak" });
 });

@@ -1,8 +1,8 @@
 // Pictures of priors: over two values vulnerability as the upper envelope of its actions, over three the triangle with the regions of the best action.
 // The prior and the inners are points in them; an inner is a disc as large as it is likely.
 import { scaleLinear } from "d3-scale";
-import { near } from "./fractions.mjs";
-import { envelope, regions, vulnerability } from "./geometry.mjs";
+import { near, printed } from "./fractions.mjs";
+import { envelope, posteriorVulnerability, regions, vulnerability } from "./geometry.mjs";
 import { addLabels, canvas, coloursOf, room } from "./pictures.mjs";
 
 /** @typedef {import("./fractions.mjs").Fraction} Fraction */
@@ -46,7 +46,8 @@ function linePicture({ values, names, actions, prior, inners }) {
     const lowest = Math.min(0, ...heights);
     const x = scaleLinear([0, 1], [LINE.left, width - LINE.right]);
     const y = scaleLinear([lowest, Math.max(...heights, lowest + 1e-9)], [LINE.height - LINE.bottom, LINE.top]);
-    const label = `Picture of the vulnerability over the probability of ${values[1]}: an envelope with ${corners.length} corners, and ${inners.length} inners. The tables have the numbers.`;
+    const label = `Picture of the vulnerability over the probability of ${values[1]}: an envelope with ${corners.length} corners, and ${inners.length} inners. `
+        + "The tables have the numbers.";
     const { svg, drawing } = canvas(width, LINE.height, label);
     addLine(drawing, "axis", [x(0), y(lowest)], [x(1), y(lowest)]);
     addLine(drawing, "axis", [x(0), y(lowest)], [x(0), LINE.top]);
@@ -58,23 +59,27 @@ function linePicture({ values, names, actions, prior, inners }) {
         const [left, right] = [from < lowest ? meets : 0, to < lowest ? meets : 1];
         if (from >= lowest || to >= lowest) {
             const at = (/** @type {number} */ p) => [x(p), y(from + p * (to - from))];
-            addLine(drawing, "action", at(left), at(right)).attr("stroke", colours.get(names[index])).append("title").text(`${names[index]} gains ${from} at ${values[0]}, ${to} at ${values[1]}`);
+            addLine(drawing, "action", at(left), at(right)).attr("stroke", colours.get(names[index]))
+                .append("title").text(`${names[index]} gains ${printed(a)} at ${values[0]}, ${printed(b)} at ${values[1]}`);
         }
     });
     corners.slice(1).forEach((corner, index) => addLine(drawing, "envelope", [x(corners[index][0]), y(corners[index][1])], [x(corner[0]), y(corner[1])]));
     const worth = (/** @type {Fraction[]} */ shares) => near(vulnerability(actions, shares));
-    const expected = inners.reduce((all, { outer, shares }) => all + near(outer) * worth(shares), 0);
+    const [before, after] = [vulnerability(actions, prior), posteriorVulnerability(actions, inners)];
+    const expected = near(after);
     const p = near(prior[1]);
-    addLine(drawing, "rise", [x(p), y(worth(prior))], [x(p), y(expected)]).append("title").text("from prior to posterior vulnerability: the additive leakage");
+    addLine(drawing, "rise", [x(p), y(near(before))], [x(p), y(expected)]).append("title").text("from prior to posterior vulnerability: the additive leakage");
     addLine(drawing, "prior", [x(p), y(lowest)], [x(p), y(worth(prior))]);
     addDiscs(drawing, inners.map(({ outer, shares }, index) => ({
-        x: x(near(shares[1])), y: y(worth(shares)), radius: radiusOf(outer), title: `inner ${index}`, label: `inner ${index}`,
+        x: x(near(shares[1])), y: y(worth(shares)), radius: radiusOf(outer), title: `inner ${index}`, label: `inner ${index}: ${printed(outer)}`,
     })));
     drawing.append("circle").attr("class", "expected").attr("cx", x(p)).attr("cy", y(expected)).attr("r", 5).append("title").text("posterior vulnerability");
     drawing.append("circle").attr("class", "ring").attr("cx", x(p)).attr("cy", y(worth(prior))).attr("r", 5).append("title").text("prior vulnerability");
     addLabels(drawing, [
         { x: x(0), y: LINE.height - 22, text: values[0], anchor: "start" }, { x: x(1), y: LINE.height - 22, text: values[1], anchor: "end" },
-        { x: x(0.5), y: LINE.height - 6, text: `probability of ${values[1]}` }, { x: x(p), y: y(lowest) + 16, text: "prior", isStrong: true },
+        { x: x(0.5), y: LINE.height - 6, text: `probability of ${values[1]}` }, { x: x(p), y: y(lowest) + 16, text: `prior ${printed(prior[1])}`, isStrong: true },
+        { x: x(p) + 9, y: y(near(before)) + 16, text: printed(before), anchor: "start" },
+        ...(printed(before) === printed(after) ? [] : [{ x: x(p) + 9, y: y(expected) - 4, text: printed(after), anchor: "start", isStrong: true }]),
         ...y.ticks(5).map((/** @type {number} */ tick) => ({ x: x(0) - 6, y: y(tick) + 5, text: String(tick), anchor: "end" })),
     ]);
     return svg;
@@ -82,10 +87,11 @@ function linePicture({ values, names, actions, prior, inners }) {
 
 /** @param {Scene} scene */
 function trianglePicture({ values, names, actions, prior, inners }) {
-    const width = Math.min(room(), SIDE.most);
-    const side = width - 2 * SIDE.edge;
+    const width = room();
+    const side = Math.min(width, SIDE.most) - 2 * SIDE.edge;
     const height = (side * Math.sqrt(3)) / 2;
-    const corners = [[SIDE.edge, SIDE.edge + height], [SIDE.edge + side, SIDE.edge + height], [SIDE.edge + side / 2, SIDE.edge]];
+    const left = (width - side) / 2;
+    const corners = [[left, SIDE.edge + height], [left + side, SIDE.edge + height], [left + side / 2, SIDE.edge]];
     const place = (/** @type {Fraction[]} */ shares) => [0, 1].map((axis) => shares.reduce((all, share, index) => all + near(share) * corners[index][axis], 0));
     const { svg, drawing } = canvas(width, height + 2 * SIDE.edge,
         `Triangle of the priors on ${values.join(", ")}, with the prior and ${inners.length} inners as discs. The tables have the numbers.`);
@@ -99,13 +105,13 @@ function trianglePicture({ values, names, actions, prior, inners }) {
     drawing.append("polygon").attr("class", "triangle").attr("points", corners.map((corner) => corner.join()).join(" "));
     addDiscs(drawing, inners.map(({ outer, shares }, index) => {
         const [x, y] = place(shares);
-        return { x, y, radius: radiusOf(outer), title: `inner ${index}`, label: `inner ${index}` };
+        return { x, y, radius: radiusOf(outer), title: `inner ${index}`, label: `inner ${index}: ${printed(outer)}` };
     }));
     const [x, y] = place(prior);
     drawing.append("circle").attr("class", "ring").attr("cx", x).attr("cy", y).attr("r", 5).append("title").text("prior");
     addLabels(drawing, [
         { x: corners[0][0], y: corners[0][1] + 20, text: values[0] }, { x: corners[1][0], y: corners[1][1] + 20, text: values[1] },
-        { x: corners[2][0], y: corners[2][1] - 10, text: values[2] }, { x: x - 9, y: y + 5, text: "prior", anchor: "end", isStrong: true },
+        { x: corners[2][0], y: corners[2][1] - 10, text: values[2] }, { x: x - 9, y: y + 5, text: `prior ${prior.map(printed).join(", ")}`, anchor: "end", isStrong: true },
     ]);
     return svg;
 }

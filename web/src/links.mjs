@@ -113,23 +113,18 @@ export function checkedState(it) {
     const state = { ...LATER, ...it };
     ["a", "view", "of"].forEach((name) => wantText(state, name, false));
     ["b", "gain", "words", "page", "prior"].forEach((name) => wantText(state, name, true));
-    if (!VIEWS.some(({ name }) => name === state.view) || !["a", "b"].includes(state.of) || (state.of === "b" && state.b === null)) {
-        throw new Error("it asks what the page doesn't know");
-    }
-    if (!isKnownGain(state)) {
-        throw new Error("it names no gain that the page knows");
-    }
-    if (!Number.isInteger(state.turns) || state.turns < 1 || state.turns > MOST_TURNS) {
-        throw new Error("it has no number of turns");
-    }
-    if (state.prior !== null && weightsIn(state.prior) === null) {
-        throw new Error("it has no prior");
-    }
-    if (!areFiles(state.kept)) {
-        throw new Error("it has other files than a link has");
-    }
-    if (state.page !== null && !PAGE.test(`#${state.page}`)) {
-        throw new Error("it names no page");
+    /** @type {[boolean, string][]} */
+    const wanted = [
+        [VIEWS.some(({ name }) => name === state.view) && ["a", "b"].includes(state.of) && (state.of === "a" || state.b !== null), "it asks what the page doesn't know"],
+        [isKnownGain(state), "it names no gain that the page knows"],
+        [Number.isInteger(state.turns) && state.turns >= 1 && state.turns <= MOST_TURNS, "it has no number of turns"],
+        [state.prior === null || weightsIn(state.prior) !== null, "it has no prior"],
+        [areFiles(state.kept), "it has other files than a link has"],
+        [state.page === null || PAGE.test(`#${state.page}`), "it names no page"],
+    ];
+    const missing = wanted.find(([isThere]) => !isThere);
+    if (missing !== undefined) {
+        throw new Error(missing[1]);
     }
     return state;
 }

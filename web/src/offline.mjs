@@ -1,5 +1,6 @@
-// Keeps the page's own files in the browser, so that the page opens without a network. web/build says which files there are and which build they
-// are of: a newer build has a store of its own, which is used once no window shows the older one. Nothing that is typed comes here.
+// Keeps the page's own files in the browser, so that the page opens without a network. With one, everything comes from the server, as if this weren't
+// here. web/build says which files there are and which build they are of: a newer build has a store of its own, which is used once no window shows the
+// older one. Nothing that is typed comes here.
 /* global BUILD, FILES */
 
 const STORE = `kuifje-${BUILD}`;
@@ -16,6 +17,12 @@ scope.addEventListener("activate", (/** @type {any} */ event) => {
 scope.addEventListener("fetch", (/** @type {any} */ event) => {
     const { request } = event;
     if (request.method === "GET") {
-        event.respondWith(caches.open(STORE).then(async (store) => (await store.match(request, { ignoreSearch: request.mode === "navigate" })) || fetch(request)));
+        event.respondWith(fetch(request).catch(async (error) => {
+            const kept = await (await caches.open(STORE)).match(request, { ignoreSearch: request.mode === "navigate" });
+            if (kept === undefined) {
+                throw error;
+            }
+            return kept;
+        }));
     }
 });

@@ -58,7 +58,8 @@ function tablesOf(values, prior, inners, actions) {
     const bits = quotient === null || !isAbove(quotient, NOTHING) ? "" : bitsText(log2(quotient));
     const rows = inners.map(({ outer, shares }, index) => [`inner ${index}`, shown(printed(outer)), ...shares.map((share) => shown(printed(share)))]);
     return [
-        table("Vulnerability and leakage at this prior", ["prior vulnerability", "posterior vulnerability", "multiplicative leakage", "additive leakage", "multiplicative, in bits"],
+        table("Vulnerability and leakage at this prior",
+            ["prior vulnerability", "posterior vulnerability", "multiplicative leakage", "additive leakage", "multiplicative, in bits"],
             [[shown(printed(before)), shown(printed(after)), quotient === null ? "undefined" : shown(printed(quotient)), shown(printed(difference(after, before))), bits]]),
         table("Prior and inners", ["", "outer", ...values], [["prior", "", ...prior.map((share) => shown(printed(share)))], ...rows]),
     ];
@@ -110,8 +111,8 @@ export async function priorsView(context) {
     }
     show(isOther ? distributionOf(weights) : declared);
     return [
-        element("p", {}, "Move the prior, and the rest follows. The channel of the program stays; joint = prior × channel, and all that follows from it, is computed in this page. ",
-            `At the declared prior the program says the same: its posterior vulnerability is ${posterior}, too.`),
+        element("p", {}, "Move the prior, and the rest follows. The channel is the program's, and it stays. The joint distribution, prior × channel, and all that follows, "
+            + `are computed in this page. At the declared prior the program prints the same posterior vulnerability: ${posterior}.`),
         chooser(context, hasTable),
         element("div", { class: "sliders" }, ...values.map((value, index) => element("label", {}, `${value} `, sliders[index])), button("The declared prior", () => {
             setPrior(null);

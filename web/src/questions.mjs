@@ -23,8 +23,8 @@ export const MOST_TURNS = 65535;
 
 /**
  * What the page asks: two texts (the second one may be missing), which view, about which of the two, a gain table, the gain under which lines are
- * compared, weights of a prior that is looked at beside the declared one, words typed by hand, a lesson, study or page that is open, how many turns a loop may have, and files that the words name and that are
- * none of the repository's, such as a certificate that was kept.
+ * compared, weights of a prior that is looked at beside the declared one, words typed by hand, a lesson, study or page that is open, how many turns a
+ * loop may have, and files that the words name and that are none of the repository's, such as a certificate that was kept.
  * @typedef {object} State
  * @property {string} a
  * @property {string | null} b
@@ -76,7 +76,9 @@ export function weightsIn(text) {
  * @param {string} text
  * @returns {Partial<State>}
  */
-export const opened = (state, text) => ({ a: text, of: "a", ...(text === state.a ? {} : { gain: null, prior: null, measure: state.measure === "table" ? "bayes" : state.measure }) });
+export const opened = (state, text) => ({
+    a: text, of: "a", ...(text === state.a ? {} : { gain: null, prior: null, measure: state.measure === "table" ? "bayes" : state.measure }),
+});
 
 /**
  * The tab that a view stands in.

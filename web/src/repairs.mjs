@@ -24,8 +24,7 @@ const pairs = new Map();
  */
 const pairOf = (a, b) => JSON.stringify([a, b]);
 
-const LAW = "That no text below its floor still shows what it is for is a law that this page relies on and the program doesn't check: "
-    + "whatever still shows it has a trace that says it, so its hyper is refined by the one that says only that.";
+const LAW = "The page also relies on a law that the program doesn't check here: a text that still shows what it is for leaks at least as much as its floor, to any adversary.";
 
 /** @param {number[]} lines */
 const linesText = (lines) => `${lines.length > 1 ? "lines" : "line"} ${listed(lines.map(String))}`;
@@ -73,7 +72,7 @@ export function repairNote(a, b) {
             element("li", {}, "One guess is right with probability ", shown(printed(found.posterior)), " after A and ", shown(printed(repair.posterior)), " after B. ",
                 repair.isAtFloor ? "B is at the floor: its hyper is that of a text that shows what B is for and nothing else."
                     : element("span", {}, "At the floor it would be ", shown(printed(found.floor)), "; this search found nothing nearer to it."))),
-        element("p", {}, element("strong", {}, "Not proved: "), "the search, which may miss a better text; and time, memory and whatever else a text doesn't model. ", LAW));
+        element("p", {}, element("strong", {}, "Not proved: "), "that the search finds the best text. Time, memory and whatever else the text leaves out aren't judged. ", LAW));
 }
 
 /**
@@ -137,7 +136,8 @@ export function repairSection(context) {
         if (context.b === null) {
             compare();
         } else {
-            fill(result, floorSentence(found, purpose), element("p", {}, `A fix of ${linesText(repair.lines)} was found. `, button("Show it as program B", compare)),
+            fill(result, floorSentence(found, purpose), element("p", {}, `A fix of ${linesText(repair.lines)} was found. `,
+                button(text === context.a ? "Show it as program B" : "Show the text as program A and the fix as B", compare)),
                 uncoveredList(found));
         }
     }

@@ -13,7 +13,7 @@ def proposes_a_fix(page: Page) -> None:
     page.view("lines")
     page.press("Look for a fix")
     page.wait(lambda: "B is A with line 5 made even" in page.answer(), "a fix of the lock")
-    has(page.answer(), "The program confirms that B refines A", "probability 1/2", "after A and 1/4", "B is at the floor", "Not proved: the search", "B refines A: B leaks no more than A")
+    has(page.answer(), "The program confirms that B refines A", "probability 1/2", "after A and 1/4", "B is at the floor", "Not proved: that the search finds the best text", "B refines A: B leaks no more than A")
     expect("if" not in page.text("b").split("about old h;")[1] and "cond(" in page.text("b"), f"the fix is {page.text('b')}")
     page.write(page.text("b") + "observe h;\n", "b")
     expect("A fix" not in page.answer(), "another text is said to be a fix")

@@ -6,7 +6,9 @@ import { deflateRawSync } from "node:zlib";
 import { LONGEST, linkFrom, linkOf } from "../../src/links.mjs";
 import { MOST_TURNS, SETTINGS, VIEWS, opened, tabOf, turnsIn } from "../../src/questions.mjs";
 
-const STATE = { a: "var x : 0..1 := 0;", b: "var y : bool := true;", view: "hyper", of: "a", gain: null, measure: "bayes", prior: null, words: null, page: null, turns: 1024, kept: {} };
+const STATE = {
+    a: "var x : 0..1 := 0;", b: "var y : bool := true;", view: "hyper", of: "a", gain: null, measure: "bayes", prior: null, words: null, page: null, turns: 1024, kept: {},
+};
 const packed = (state) => `#kf1.${deflateRawSync(JSON.stringify(state)).toString("base64url")}`;
 
 async function restored(state) {
@@ -75,7 +77,9 @@ test("a link that means no good is refused", async () => {
     const odd = [
         {}, [], null, "x", { ...STATE, more: 1 }, { ...STATE, view: "__proto__" }, { ...STATE, view: "constructor" }, { ...STATE, a: 5 }, { ...STATE, of: "b", b: null },
         { ...STATE, page: "../x" }, { ...STATE, measure: "table" }, { ...STATE, measure: "tries:5" }, { ...STATE, turns: 0 }, { ...STATE, turns: MOST_TURNS + 1 },
-        { ...STATE, prior: "1" }, { ...STATE, prior: "0 0" }, { ...STATE, prior: "1 61" }, { ...STATE, prior: "1 2 3 4" }, { ...STATE, prior: 5 }, { ...STATE, turns: "7" }, { ...STATE, turns: 1.5 }, { ...STATE, kept: [] }, { ...STATE, kept: null }, { ...STATE, kept: { "a.kf": "" } },
+        { ...STATE, prior: "1" },
+        { ...STATE, prior: "0 0" }, { ...STATE, prior: "1 61" }, { ...STATE, prior: "1 2 3 4" }, { ...STATE, prior: 5 },
+        { ...STATE, turns: "7" }, { ...STATE, turns: 1.5 }, { ...STATE, kept: [] }, { ...STATE, kept: null }, { ...STATE, kept: { "a.kf": "" } },
         { ...STATE, kept: { "x.json": 5 } }, { ...STATE, kept: { "x y": "" } }, { ...STATE, kept: { "../x": "" } },
     ];
     for (const state of odd) {

@@ -85,26 +85,45 @@ export function held({ text }, { statement, value, met }) {
 }
 
 /**
- * A text with a change made. It throws Uncovered where that can't be.
- * @param {Source} source
- * @param {Change} change
- * @param {Purpose | null} purpose
- * @param {Map<number, number>} turns the greatest number of turns of each loop, by its place
- * @param {{ isHeld: boolean, hasMet: boolean }} how whether what it is for is held in variables, though it needn't be; and whether an observation that is
- * moved also shows whether it was met
+ * How a text with a change made is written: `isHeld` says that what it is for is held in variables, though it needn't be, and `hasMet` that an
+ * observation that is moved also shows whether it was met.
+ * @typedef {{ isHeld: boolean, hasMet: boolean }} Manner
  */
-export function evenText(source, change, purpose, turns, how) {
-    const { text } = source;
-    const types = new Map(source.declarations.map(({ name, type }) => [name, type]));
-    const visible = source.declarations.filter(({ isVisible }) => isVisible).map(({ name }) => name);
-    const places = placesIn(text);
-    /** @type {string[]} */
-    const declared = [];
-    /** @type {string[]} */
-    const names = purpose === null ? [] : [purpose.value, purpose.met];
-    let isMoved = false;
 
-    const slice = (/** @type {{ at: number, end: number }} */ { at, end }) => text.slice(at, end);
+/** A text with a change made, and the variables that it wants. */
+class Even {
+    /**
+     * @param {Source} source
+     * @param {Change} change
+     * @param {Purpose | null} purpose
+     * @param {Map<number, number>} turns
+     * @param {Manner} manner
+     */
+    constructor(source, change, purpose, turns, manner) {
+        this.source = source;
+        this.change = change;
+        this.purpose = purpose;
+        this.turns = turns;
+        this.manner = manner;
+        this.types = new Map(source.declarations.map(({ name, type }) => [name, type]));
+        this.visible = source.declarations.filter(({ isVisible }) => isVisible).map(({ name }) => name);
+        /** @type {string[]} */
+        this.declared = [];
+        /** @type {string[]} */
+        this.names = purpose === null ? [] : [purpose.value, purpose.met];
+        this.isMoved = false;
+    }
+
+    text() {
+        const edits = this.edits(this.source.statements);
+        const kept = this.purpose !== null && (this.manner.isHeld || this.isMoved) ? declaredFor(this.purpose) : [];
+        return withDeclared(this.source, edits, [...kept, ...this.declared]);
+    }
+
+    /** @param {{ at: number, end: number }} part */
+    slice({ at, end }) {
+        return this.source.text.slice(at, end);
+    }
 
     /**
      * A new variable.
@@ -112,11 +131,68 @@ export function evenText(source, change, purpose, turns, how) {
      * @param {string} type
      * @param {string} first
      */
-    function variable(wanted, type, first) {
-        const name = fresh(source, wanted, names);
-        names.push(name);
-        declared.push(`var ${name} : ${type} := ${first};`);
+    variable(wanted, type, first) {
+        const name = fresh(this.source, wanted, this.names);
+        this.names.push(name);
+        this.declared.push(`var ${name} : ${type} := ${first};`);
         return name;
+    }
+
+    // What stands in the place of statements.
+
+    /**
+     * @param {Statement[]} statements
+     * @returns {Edit[]}
+     */
+    edits(statements) {
+        return statements.flatMap((statement) => {
+            if (this.change.even.has(statement.at)) {
+                return [this.replacement(statement)];
+            }
+            if (this.manner.isHeld && this.purpose !== null && statement === this.purpose.statement) {
+                return [held(this.source, this.purpose)];
+            }
+            return this.edits(partsOf(statement));
+        });
+    }
+
+    /**
+     * @param {Statement} statement that is made even, and stands in none that is
+     * @returns {Edit}
+     */
+    replacement(statement) {
+        const wasMoved = this.isMoved;
+        const lines = this.even(statement, null);
+        if (this.purpose !== null && this.isMoved && !wasMoved) {
+            const { value, met } = this.purpose;
+            lines.push(this.manner.hasMet ? `observe (${met}, ${value});` : `observe ${value};`);
+        }
+        const indent = " ".repeat(statement.at - (this.source.text.lastIndexOf("\n", statement.at - 1) + 1));
+        return { at: statement.at, end: statement.end, by: lines.join(`\n${indent}`) };
+    }
+
+    /**
+     * A statement where a guard holds, and nothing that is noticed where it doesn't.
+     * @param {Statement} statement
+     * @param {string | null} guard
+     * @returns {string[]}
+     */
+    even(statement, guard) {
+        switch (statement.kind) {
+            case "skip":
+                return [];
+            case "assign":
+                if (guard !== null && this.visible.includes(statement.name)) {
+                    throw new Uncovered(`the visible variable ${statement.name} is assigned in it, which would be seen where nothing is seen today`);
+                }
+                return [this.assigned(statement.name, statement.value, guard)];
+            case "observe":
+                return this.observed(statement, guard);
+            case "if":
+                return this.branches(statement, guard);
+            default:
+                return this.loop(statement, guard);
+        }
     }
 
     /**
@@ -126,25 +202,21 @@ export function evenText(source, change, purpose, turns, how) {
      * @param {string | null} guard
      * @param {string} [instead]
      */
-    function assigned(name, value, guard, instead = name) {
+    assigned(name, value, guard, instead = name) {
         if (guard === null) {
-            return `${name} := ${slice(value)};`;
+            return `${name} := ${this.slice(value)};`;
         }
+        const under = (/** @type {string} */ yes, no = instead) => `cond(${guard}, ${yes}, ${no})`;
         switch (value.kind) {
             case "sure":
-                return `${name} := cond(${guard}, ${slice(value)}, ${instead});`;
+                return `${name} := ${under(this.slice(value))};`;
             case "flip":
-                return `${name} := choose { cond(${guard}, true, ${instead}) : ${value.over}, cond(${guard}, false, ${instead}) : ${value.under - value.over} };`;
-            case "choose": {
-                const cases = value.cases.map(({ valueText, weightText }) => `cond(${guard}, ${valueText}, ${instead}) : cond(${guard}, ${weightText}, 1)`);
-                return `${name} := choose { ${cases.join(", ")} };`;
-            }
-            default: {
-                if (value.high === null) {
-                    return `${name} := uniform cond(${guard}, ${slice(value.low)}, {${instead}});`;
-                }
-                return `${name} := uniform ${[value.low, value.high].map((end) => `cond(${guard}, ${slice(end)}, ${instead})`).join("..")};`;
-            }
+                return `${name} := choose { ${under("true")} : ${value.over}, ${under("false")} : ${value.under - value.over} };`;
+            case "choose":
+                return `${name} := choose { ${value.cases.map(({ valueText, weightText }) => `${under(valueText)} : ${under(weightText, "1")}`).join(", ")} };`;
+            default:
+                return value.high === null ? `${name} := uniform ${under(this.slice(value.low), `{${instead}}`)};`
+                    : `${name} := uniform ${under(this.slice(value.low))}..${under(this.slice(value.high))};`;
         }
     }
 
@@ -154,11 +226,11 @@ export function evenText(source, change, purpose, turns, how) {
      * @param {string | null} guard
      * @param {string} name
      */
-    function guarded(asked, guard, name) {
+    guarded(asked, guard, name) {
         if (asked.kind !== "sure") {
-            return assigned(name, asked, guard, "false");
+            return this.assigned(name, asked, guard, "false");
         }
-        return guard === null ? `${name} := ${slice(asked)};` : `${name} := ${guard} and (${slice(asked)});`;
+        return guard === null ? `${name} := ${this.slice(asked)};` : `${name} := ${guard} and (${this.slice(asked)});`;
     }
 
     /**
@@ -166,15 +238,15 @@ export function evenText(source, change, purpose, turns, how) {
      * @param {string | null} guard
      * @returns {string[]}
      */
-    function branches({ guard: asked, then, otherwise }, guard) {
-        const yes = variable("yes", "bool", "false");
-        const lines = [guarded(asked, guard, yes)];
+    branches({ guard: asked, then, otherwise }, guard) {
+        const yes = this.variable("yes", "bool", "false");
+        const lines = [this.guarded(asked, guard, yes)];
         const other = otherwise.filter(({ kind }) => kind !== "skip");
-        const no = other.length > 0 ? variable("no", "bool", "false") : null;
+        const no = other.length > 0 ? this.variable("no", "bool", "false") : null;
         if (no !== null) {
             lines.push(guard === null ? `${no} := not ${yes};` : `${no} := ${guard} and not ${yes};`);
         }
-        return [...lines, ...then.flatMap((it) => even(it, yes)), ...other.flatMap((it) => even(it, no))];
+        return [...lines, ...then.flatMap((it) => this.even(it, yes)), ...other.flatMap((it) => this.even(it, no))];
     }
 
     /**
@@ -182,17 +254,17 @@ export function evenText(source, change, purpose, turns, how) {
      * @param {string | null} guard
      * @returns {string[]}
      */
-    function loop({ at, guard: asked, body }, guard) {
-        const most = turns.get(at) || 0;
+    loop({ at, guard: asked, body }, guard) {
+        const most = this.turns.get(at) || 0;
         if (most > MOST_TURNS) {
             throw new Uncovered(`the loop takes up to ${most} turns, and this search gives a loop ${MOST_TURNS} at most`);
         }
         if (most === 0) {
             return [];
         }
-        const on = variable("on", "bool", "false");
-        const turn = variable("turn", `0..${most}`, "0");
-        const inner = [guarded(asked, on, on), ...body.flatMap((it) => even(it, on)), `${turn} := ${turn} + 1;`];
+        const on = this.variable("on", "bool", "false");
+        const turn = this.variable("turn", `0..${most}`, "0");
+        const inner = [this.guarded(asked, on, on), ...body.flatMap((it) => this.even(it, on)), `${turn} := ${turn} + 1;`];
         return [`${on} := ${guard || "true"};`, `${turn} := 0;`, `while ${turn} < ${most} {`, ...inner.map((line) => `  ${line}`), "}"];
     }
 
@@ -200,66 +272,34 @@ export function evenText(source, change, purpose, turns, how) {
      * @param {Extract<Statement, { kind: "observe" }>} statement
      * @param {string | null} guard
      */
-    function observed(statement, guard) {
-        if (purpose !== null && statement === purpose.statement) {
-            isMoved = true;
-            return [assigned(purpose.value, statement.value, guard), `${purpose.met} := ${guard === null ? "true" : `${purpose.met} or ${guard}`};`];
+    observed(statement, guard) {
+        if (this.purpose !== null && statement === this.purpose.statement) {
+            const { value, met } = this.purpose;
+            this.isMoved = true;
+            return [this.assigned(value, statement.value, guard), `${met} := ${guard === null ? "true" : `${met} or ${guard}`};`];
         }
+        const type = this.typeOf(statement);
+        const name = this.variable("shown", typeText(type), firstValue(type));
+        return [this.assigned(name, statement.value, guard, this.change.isCarried ? name : `(${firstValue(type)})`), `observe ${name};`];
+    }
+
+    /** @param {Extract<Statement, { kind: "observe" }>} statement */
+    typeOf({ value, at }) {
         try {
-            const type = typeOf(statement.value, types);
-            const name = variable("shown", typeText(type), firstValue(type));
-            return [assigned(name, statement.value, guard, change.isCarried ? name : `(${firstValue(type)})`), `observe ${name};`];
+            return typeOf(value, this.types);
         } catch (error) {
-            throw error instanceof NoType ? new Uncovered(`the observation in line ${places.of(statement.at).line} can't be kept in a variable: ${error.message}`) : error;
+            const { line } = placesIn(this.source.text).of(at);
+            throw error instanceof NoType ? new Uncovered(`the observation in line ${line} can't be kept in a variable: ${error.message}`) : error;
         }
     }
-
-    /**
-     * A statement where a guard holds, and nothing that is noticed where it doesn't.
-     * @param {Statement} statement
-     * @param {string | null} guard
-     * @returns {string[]}
-     */
-    function even(statement, guard) {
-        switch (statement.kind) {
-            case "skip":
-                return [];
-            case "assign":
-                if (guard !== null && visible.includes(statement.name)) {
-                    throw new Uncovered(`the visible variable ${statement.name} is assigned in it, which would be seen where nothing is seen today`);
-                }
-                return [assigned(statement.name, statement.value, guard)];
-            case "observe":
-                return observed(statement, guard);
-            case "if":
-                return branches(statement, guard);
-            default:
-                return loop(statement, guard);
-        }
-    }
-
-    /**
-     * @param {Statement[]} statements
-     * @returns {Edit[]}
-     */
-    function edits(statements) {
-        return statements.flatMap((statement) => {
-            if (change.even.has(statement.at)) {
-                const wasMoved = isMoved;
-                const lines = even(statement, null);
-                if (purpose !== null && isMoved && !wasMoved) {
-                    lines.push(how.hasMet ? `observe (${purpose.met}, ${purpose.value});` : `observe ${purpose.value};`);
-                }
-                const indent = " ".repeat(statement.at - (text.lastIndexOf("\n", statement.at - 1) + 1));
-                return [{ at: statement.at, end: statement.end, by: lines.join(`\n${indent}`) }];
-            }
-            if (how.isHeld && purpose !== null && statement === purpose.statement) {
-                return [held(source, purpose)];
-            }
-            return edits(partsOf(statement));
-        });
-    }
-
-    const made = edits(source.statements);
-    return withDeclared(source, made, [...(purpose !== null && (how.isHeld || isMoved) ? declaredFor(purpose) : []), ...declared]);
 }
+
+/**
+ * A text with a change made. It throws Uncovered where that can't be.
+ * @param {Source} source
+ * @param {Change} change
+ * @param {Purpose | null} purpose
+ * @param {Map<number, number>} turns the greatest number of turns of each loop, by its place
+ * @param {Manner} manner
+ */
+export const evenText = (source, change, purpose, turns, manner) => new Even(source, change, purpose, turns, manner).text();

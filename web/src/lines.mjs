@@ -65,6 +65,9 @@ function short(f) {
     return whole.length > LONGEST ? decimal(f).text : whole;
 }
 
+/** @param {string} count */
+const innersText = (count) => `${count} ${count === "1" ? "inner" : "inners"}`;
+
 /** @param {Fraction} f */
 const positive = (f) => (f.n < NOTHING.n ? difference(NOTHING, f) : f);
 
@@ -96,7 +99,7 @@ function rowsOf(out, measure) {
         const loss = losses[index];
         // What the margin has: how much is lost, or else what becomes of the inners.
         const mark = isNone(loss) ? (silent.inners === all.inners ? "0" : `${all.inners}→${silent.inners}`) : `${sign}${short(loss)}`;
-        const title = `Without the statement at ${silent.line}:${silent.column}: ${silent.inners} inners instead of ${all.inners}, `
+        const title = `Without the statement at ${silent.line}:${silent.column}: ${innersText(silent.inners)} instead of ${all.inners}, `
             + `${name}: ${silent.posterior}, ${printed(loss)} ${lost}`;
         return { ...silent, line: silent.line - 1, loss, level: levelOf(loss, greatest), mark, title, isBlamed: mark !== "0" };
     });
@@ -240,7 +243,7 @@ export async function linesView(context) {
     ]);
     return [
         chooser(context),
-        element("p", {}, `The hyper has ${all.inners} inners, and ${names.whole}`, shown(all.posterior),
+        element("p", {}, `The hyper has ${innersText(all.inners)}, and ${names.whole}`, shown(all.posterior),
             `. The number beside a line says ${names.beside} if the statement that begins there, and no other one, showed nothing.`),
         rows.length > 0 && legend(greatest, names),
         rows.some(({ loss }) => isNone(loss)) && element("p", { class: "note" }, "To this adversary a line with 0 is worth nothing while the others show what they do. "

@@ -71,8 +71,8 @@ export async function priorsView(context) {
     const channel = channelOf(await ask(["channel", file]));
     const values = channel.rows.map(({ value }) => value);
     if (channel.rowCount < FEWEST || channel.rowCount > MOST || channel.count > channel.columns.length) {
-        return [element("p", {}, `This view draws priors on two or three values. This target has ${channel.rowCount}`,
-            `${channel.count > channel.columns.length ? ", and more traces than the page reads" : ""}. course/witness.kf is a program with two.`)];
+        return [element("p", {}, `This view draws priors on two or three values. This target has ${channel.rowCount} possible ${channel.rowCount === 1 ? "value" : "values"}`,
+            `${channel.count > channel.columns.length ? ", and more traces than the page reads" : ""}. A program with two is course/witness.kf.`)];
     }
     const shares = new Map(priorOf(hyperOf(await ask(["hyper", file]))).map(({ value, share }) => [value, share]));
     const declared = values.map((value) => fractionOf(shares.get(value) || "0") || NOTHING);

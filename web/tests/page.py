@@ -217,6 +217,12 @@ def cuts_what_is_large(page: Page) -> None:
     has(page.answer(), "An observer sees one of 300 traces", "There are 300 traces, too many for a picture")
 
 
+def close_when_kept(page: Page, server: Server) -> None:
+    """Closes a server once the browser has the page's files, for which it asks after the first answer."""
+    page.driver.execute_async_script("const done = arguments[0]; navigator.serviceWorker.ready.then(() => done(true))")
+    server.close()
+
+
 # Runs that don't come to an answer.
 
 
@@ -256,7 +262,7 @@ def tells_a_trap(page: Page) -> None:
         other.open()
         has(other.answer(), "A trap", "The engine of the browser ended the run", "unreachable", "That is no answer")
         expect("inner" not in other.answer(), "a trap has an answer")
-        server.close()
+        close_when_kept(page, server)
 
 
 def takes_both_modules(page: Page) -> None:
@@ -271,7 +277,7 @@ def takes_both_modules(page: Page) -> None:
     other = Page(page.driver, server.address)
     other.open()
     expect(other.answer() == given, "a server that doesn't know what a module is has another answer")
-    server.close()
+    close_when_kept(page, server)
 
 
 # Links, and texts that mean no good.
@@ -368,8 +374,7 @@ def opens_without_a_network(page: Page) -> None:
     server = Server(FOLDER)
     other = Page(page.driver, server.address)
     other.open()
-    page.driver.execute_async_script("const done = arguments[0]; navigator.serviceWorker.ready.then(() => done(true))")
-    server.close()
+    close_when_kept(page, server)
     other.open("#lesson/2")
     has(other.answer(), "one of 2 posteriors")
     has(other.find("#reader-text").text, "2. Hyper-distributions")

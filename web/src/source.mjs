@@ -36,7 +36,9 @@ const LEVEL_OF = new Map(LEVELS.flatMap((operators, level) => operators.map((ope
 /** The level of `not`, which takes what binds tighter. */
 const NOT = 2;
 const CALLS = ["size", "cond", "min", "max", "abs"];
-const TOKEN = /(?:[ \t\r\n]|#[^\n]*)*(:=|\.\.|!=|<=|>=|[:;,(){}./=<>+\-*]|[0-9]+|(?:\w|[\u0080-\uffff])+|$)/y;
+/** The signs, a longer one before a shorter one. */
+const SIGNS = [":=", "..", "!=", "<=", ">=", ":", ";", ",", "(", ")", "{", "}", ".", "/", "=", "<", ">", "+", "-", "*"];
+const TOKEN = new RegExp(`(?:[ \\t\\r\\n]|#[^\\n]*)*(${SIGNS.map((sign) => sign.replace(/\W/g, "\\$&")).join("|")}|[0-9]+|(?:\\w|[\\u0080-\\uffff])+|$)`, "y");
 
 /**
  * Reads one token after the other; the last one is the empty one at the end of the text.

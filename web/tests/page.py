@@ -366,6 +366,8 @@ def fetches_nothing_else(page: Page) -> None:
     expect(len(stored[0]) == 1 and stored[0][0].startswith("kuifje-"), f"the browser has stores {stored[0]}")
     files = {str(it.relative_to(FOLDER)) for it in FOLDER.rglob("*") if it.is_file()} | {""}
     expect(all(url.startswith(page.address) and url[len(page.address):] in files for url in stored[1]), f"the browser keeps {stored[1]}")
+    manifest = page.driver.execute_cdp_cmd("Page.getAppManifest", {})
+    expect(not manifest["errors"] and "kuifje" in manifest["data"].lower(), f"the page's manifest has {manifest['errors']}")
     expect(page.driver.execute_async_script("const done = arguments[0]; indexedDB.databases().then((it) => done(it.length))") == 0, "the page keeps a database")
 
 
@@ -492,7 +494,8 @@ def fits_a_telephone(page: Page) -> None:
     for width in (360,) if QUICK else (360, 768, 1500):
         page.driver.execute_cdp_cmd("Emulation.setDeviceMetricsOverride", {"width": width, "height": 780, "deviceScaleFactor": 1, "mobile": width < 700})
         page.open()
-        for view in ("hyper", "channel", "leak", "lines", "command"):
+        page.write(example("course/witness.kf"))
+        for view in ("hyper", "channel", "leak", "priors", "traces", "lines", "command"):
             page.view(view)
             over = page.script("return document.documentElement.scrollWidth - window.innerWidth")
             expect(over <= 0, f"{view} is {over} wider than {width}")

@@ -73,6 +73,7 @@ def fix(page: Page) -> None:
     page.press("Look for a fix")
     page.wait(lambda: "B is A with" in page.answer(), "a fix")
     page.settle()
+    page.script("window.scrollTo(0, 0)")
 
 
 def refinement(page: Page) -> None:

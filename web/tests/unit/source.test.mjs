@@ -1,5 +1,6 @@
 // The reader of programs: its tree, and places in characters and in bytes.
 import assert from "node:assert/strict";
+import { readFileSync } from "node:fs";
 import test from "node:test";
 import { edited, every, placesIn, read, readHead, sizeOf } from "../../src/source.mjs";
 
@@ -24,6 +25,21 @@ test("operators bind as docs/LANGUAGE.md has it", () => {
         ["cond(a, b, c)", "cond(a, b, c)"], ["min(a, b) mod 2 <= 1", "((min(a, b) mod 2) <= 1)"], ["s union t less u", "((s union t) less u)"],
     ]) {
         assert.equal(shown(text), right, text);
+    }
+});
+
+test("each two operators bind by the levels of the table in docs/LANGUAGE.md", () => {
+    const language = readFileSync(new URL("../../../docs/LANGUAGE.md", import.meta.url), "utf8");
+    const rows = [...language.matchAll(/^\| ((?:`[^`]+` ?)+) \| (\d) \|/gm)].map(([, words, level]) => ({ words: words.match(/[^` ]+/g), level: Number(level) }));
+    const binary = rows.filter(({ level }) => [1, 2, 4, 5, 6].includes(level)).flatMap(({ words, level }) => words.map((word) => ({ word, level })));
+    assert.equal(binary.length, 20);
+    for (const first of binary) {
+        // A comparison doesn't go on.
+        for (const second of binary.filter(({ level }) => level !== 4 || first.level !== 4)) {
+            const text = `a ${first.word} b ${second.word} c`;
+            const right = first.level >= second.level ? `((a ${first.word} b) ${second.word} c)` : `(a ${first.word} (b ${second.word} c))`;
+            assert.equal(shown(text), right);
+        }
     }
 });
 

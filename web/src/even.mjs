@@ -257,7 +257,8 @@ class Even {
     loop({ at, guard: asked, body }, guard) {
         const most = this.turns.get(at) || 0;
         if (most > MOST_TURNS) {
-            throw new Uncovered(`the loop takes up to ${most} turns, and this search gives a loop ${MOST_TURNS} at most`);
+            throw new Uncovered(Number.isFinite(most) ? `it takes up to ${most} turns, and this search gives a loop ${MOST_TURNS} at most`
+                : "the program doesn't say how many turns it takes");
         }
         if (most === 0) {
             return [];

@@ -1,6 +1,6 @@
 // A fix for a text: what it is for is chosen, the floor is said, and a repair that the program confirms is shown beside the text.
 import { button, element, fill } from "./elements.mjs";
-import { printed, shown } from "./fractions.mjs";
+import { difference, isNone, printed, shown } from "./fractions.mjs";
 import { NoPurpose, observationsOf, repairOf, usualPurpose } from "./repair.mjs";
 import { NoAnswer } from "./rounds.mjs";
 import { listed } from "./outcomes.mjs";
@@ -41,7 +41,9 @@ function floorSentence({ posterior, floor, isReached, isInLoop }, purpose) {
         return element("p", {}, element("strong", {}, "Nothing to repair. "), `The text is at its floor: its hyper is that of a text that ${forWhat}. `,
             "One guess is right with probability ", shown(printed(posterior)), ".", last);
     }
-    return element("p", {}, element("strong", {}, "The text is above its floor. "), "One guess is right with probability ", shown(printed(posterior)),
+    const more = difference(posterior, floor);
+    const above = isNone(more) ? ["The text is above its floor, though not to one guess. "] : ["The text is above its floor, to one guess by ", shown(printed(more)), ". "];
+    return element("p", {}, element("strong", {}, ...above), "One guess is right with probability ", shown(printed(posterior)),
         `. After a text that ${forWhat} it would be `, shown(printed(floor)), ".", last);
 }
 

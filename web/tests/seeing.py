@@ -38,7 +38,7 @@ def says_where_there_is_none(page: Page) -> None:
     page.choose("#purpose", "0")
     page.press("Look for a fix")
     # Whether x is even leaves two values of four: 1/2. Both observations leave one.
-    page.wait(lambda: "The text is above its floor" in page.answer() and "it would be 1/2" in page.answer(), "the floor of one of two observations")
+    page.wait(lambda: "The text is above its floor, to one guess by 1/2" in page.answer() and "it would be 1/2" in page.answer(), "the floor of one of two observations")
     has(page.answer(), "No fix by structure was found")
     page.write("var x : 0..3 := uniform 0..3;\nobserve x mod 2;\n")
     page.press("Look for a fix")

@@ -138,9 +138,9 @@ export function repairSection(context) {
         if (context.b === null) {
             compare();
         } else {
-            fill(result, floorSentence(found, purpose), element("p", {}, `A fix of ${linesText(repair.lines)} was found. `,
-                button(text === context.a ? "Show it as program B" : "Show the text as program A and the fix as B", compare)),
-                uncoveredList(found));
+            const label = text === context.a ? "Show it as program B" : "Show the text as program A and the fix as B";
+            const offer = element("p", {}, `A fix of ${linesText(repair.lines)} was found. `, button(label, compare));
+            fill(result, floorSentence(found, purpose), offer, uncoveredList(found));
         }
     }
 

@@ -85,8 +85,10 @@ export async function priorsView(context) {
         throw new Error(`at the declared prior this page comes to another posterior vulnerability than the program, which says ${posterior}`);
     }
 
-    const output = element("div", { "aria-live": "polite" });
+    const output = element("div", {});
     const show = (/** @type {Fraction[]} */ prior) => {
+        // What a screen reader says of a slider that is moved.
+        sliders.forEach((it, index) => it.setAttribute("aria-valuetext", `probability ${printed(prior[index])}`));
         const inners = hyperAt(prior, cells);
         fill(output, figureOf(priorPicture({ values, names, actions, prior, inners }), "priors", hand), ...tablesOf(values, prior, inners, actions));
     };

@@ -1,8 +1,8 @@
-// Pictures of priors: over two values vulnerability as the upper envelope of its actions, over three the triangle with the regions of the best action.
+// Pictures of priors: over two values vulnerability as the upper envelope of its actions, over three the triangle with the regions of the best action and lines of the same worth.
 // The prior and the inners are points in them; an inner is a disc as large as it is likely.
 import { scaleLinear } from "d3-scale";
-import { near, printed } from "./fractions.mjs";
-import { envelope, posteriorVulnerability, regions, vulnerability } from "./geometry.mjs";
+import { near, printed, typedFraction } from "./fractions.mjs";
+import { envelope, levelLines, posteriorVulnerability, regions, vulnerability } from "./geometry.mjs";
 import { addLabels, canvas, coloursOf, room } from "./pictures.mjs";
 
 /** @typedef {import("./fractions.mjs").Fraction} Fraction */
@@ -14,6 +14,8 @@ import { addLabels, canvas, coloursOf, room } from "./pictures.mjs";
 const LINE = { height: 320, left: 46, right: 20, top: 24, bottom: 44 };
 const SIDE = { most: 480, edge: 40 };
 const LARGEST_DISC = 20;
+/** About how many levels are drawn. */
+const LEVELS = 5;
 
 /** @param {Fraction} outer */
 const radiusOf = (outer) => Math.max(LARGEST_DISC * Math.sqrt(near(outer)), 2);
@@ -85,6 +87,25 @@ function linePicture({ values, names, actions, prior, inners }) {
     return svg;
 }
 
+/**
+ * Lines of priors that are worth the same, with what that is.
+ * @param {any} drawing
+ * @param {Fraction[][]} actions
+ * @param {(prior: Fraction[]) => number[]} place
+ */
+function addLevels(drawing, actions, place) {
+    const worths = regions(actions).flat().map((prior) => near(vulnerability(actions, prior)));
+    const ticks = scaleLinear([Math.min(...worths), Math.max(...worths)], [0, 1]).ticks(LEVELS);
+    const lines = ticks.flatMap((/** @type {number} */ tick) => {
+        const value = typedFraction(String(tick));
+        return value === null ? [] : levelLines(actions, value).map((line) => ({ text: String(tick), ends: line.map(place) }));
+    });
+    lines.forEach((/** @type {{ ends: number[][] }} */ { ends: [from, to] }) => addLine(drawing, "level", from, to));
+    addLabels(drawing, lines.map((/** @type {{ text: string, ends: number[][] }} */ { text, ends: [from, to] }) => ({
+        x: (from[0] + to[0]) / 2, y: (from[1] + to[1]) / 2 + 4, text, isSoft: true,
+    })));
+}
+
 /** @param {Scene} scene */
 function trianglePicture({ values, names, actions, prior, inners }) {
     const width = room();
@@ -102,6 +123,7 @@ function trianglePicture({ values, names, actions, prior, inners }) {
                 .append("title").text(`here ${names[index]} is best`);
         }
     });
+    addLevels(drawing, actions, place);
     drawing.append("polygon").attr("class", "triangle").attr("points", corners.map((corner) => corner.join()).join(" "));
     addDiscs(drawing, inners.map(({ outer, shares }, index) => {
         const [x, y] = place(shares);

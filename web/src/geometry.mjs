@@ -89,21 +89,35 @@ export function envelope(actions) {
 const TRIANGLE = [[ONE, NOTHING, NOTHING], [NOTHING, ONE, NOTHING], [NOTHING, NOTHING, ONE]];
 
 /**
+ * The prior between two others at which a number that is linear in the prior is 0, as a list: none where it isn't above 0 at one and below at the other.
+ * @param {{ prior: Fraction[], number: Fraction }} from
+ * @param {{ prior: Fraction[], number: Fraction }} to
+ */
+function crossing(from, to) {
+    const isCrossed = (isAbove(from.number, NOTHING) && isAbove(NOTHING, to.number)) || (isAbove(NOTHING, from.number) && isAbove(to.number, NOTHING));
+    if (!isCrossed) {
+        return [];
+    }
+    const part = quotient(from.number, difference(from.number, to.number));
+    return [from.prior.map((p, at) => sum(p, product(part, difference(to.prior[at], p))))];
+}
+
+/**
+ * The corners of a polygon of priors, each with the one before it, and with a number that is linear in the prior.
+ * @param {Fraction[][]} polygon
+ * @param {Fraction[]} numbers at each value
+ */
+const edgesOf = (polygon, numbers) => polygon.map((prior, index) => {
+    const end = (/** @type {Fraction[]} */ it) => ({ prior: it, number: total(it.map((p, at) => product(p, numbers[at]))) });
+    return [end(polygon[(index + polygon.length - 1) % polygon.length]), end(prior)];
+});
+
+/**
  * The part of a polygon of priors at which one action gains no less than another.
  * @param {Fraction[][]} polygon
  * @param {Fraction[]} more how much more it gains at each value
  */
-function cut(polygon, more) {
-    const gain = (/** @type {Fraction[]} */ prior) => total(prior.map((p, index) => product(p, more[index])));
-    return polygon.flatMap((corner, index) => {
-        const before = polygon[(index + polygon.length - 1) % polygon.length];
-        const [was, is] = [gain(before), gain(corner)];
-        const crosses = (isAbove(was, NOTHING) && isAbove(NOTHING, is)) || (isAbove(NOTHING, was) && isAbove(is, NOTHING));
-        const part = crosses ? quotient(was, difference(was, is)) : NOTHING;
-        const meeting = crosses ? [before.map((p, at) => sum(p, product(part, difference(corner[at], p))))] : [];
-        return isAbove(NOTHING, is) ? meeting : [...meeting, corner];
-    });
-}
+const cut = (polygon, more) => edgesOf(polygon, more).flatMap(([from, to]) => [...crossing(from, to), ...(isAbove(NOTHING, to.number) ? [] : [to.prior])]);
 
 /**
  * For each action the priors on three values at which no other one gains more, by the corners of that polygon: none where there are only some at its edge.
@@ -113,4 +127,16 @@ function cut(polygon, more) {
 export const regions = (actions) => actions.map((own) => {
     const polygon = actions.reduce((left, other) => (other === own ? left : cut(left, own.map((gain, index) => difference(gain, other[index])))), TRIANGLE);
     return polygon.length > 2 ? polygon : [];
+});
+
+/**
+ * The priors on three values that are worth just so much, as lines: each from one edge of a region to another one.
+ * @param {Fraction[][]} actions
+ * @param {Fraction} value
+ * @returns {Fraction[][][]}
+ */
+export const levelLines = (actions, value) => regions(actions).flatMap((polygon, action) => {
+    const above = actions[action].map((gain) => difference(gain, value));
+    const points = edgesOf(polygon, above).flatMap(([from, to]) => (isNone(to.number) ? [to.prior] : crossing(from, to)));
+    return points.length === 2 ? [points] : [];
 });

@@ -74,11 +74,11 @@ function addBoxes(drawing, boxes) {
 
 /**
  * @param {any} drawing
- * @param {{ x: number, y: number, text: string, anchor?: string, isStrong?: boolean }[]} labels
+ * @param {{ x: number, y: number, text: string, anchor?: string, isStrong?: boolean, isSoft?: boolean }[]} labels
  */
 export function addLabels(drawing, labels) {
     drawing.append("g").selectAll("text").data(labels).enter().append("text").attr("x", (/** @type {any} */ it) => it.x)
-        .attr("y", (/** @type {any} */ it) => it.y).attr("class", (/** @type {any} */ it) => (it.isStrong ? "label strong" : "label"))
+        .attr("y", (/** @type {any} */ it) => it.y).attr("class", (/** @type {any} */ it) => (it.isStrong ? "label strong" : it.isSoft ? "label soft" : "label"))
         .attr("text-anchor", (/** @type {any} */ it) => it.anchor || "middle").text((/** @type {any} */ it) => it.text);
 }
 

@@ -120,6 +120,9 @@ def moves_a_prior(page: Page) -> None:
     has(page.answer(), "1/2 = 0.5\t5/8 = 0.625\t5/4 = 1.25\t1/8 = 0.125")
     drawn = [len(page.driver.find_elements("css selector", f"svg {it}")) for it in (".region", ".disc", ".triangle", ".ring")]
     expect(drawn == [3, 3, 1, 1], f"the triangle has {drawn}")
+    # A guess is worth from 1/3 to 1: lines at 0.4, 0.5 and so on, one in each region.
+    levels = page.script("return [...document.querySelectorAll('svg .soft')].map((it) => it.textContent)")
+    expect(levels == [it for it in ("0.4", "0.5", "0.6", "0.7", "0.8", "0.9") for _ in range(3)], f"the triangle has lines at {levels}")
     slide(page, (0, 60, 0))
     has(page.answer(), "1\t1\t1\t0\t= 0 bits")
     page.write("var x : 0..3 := uniform 0..3;\nabout old x;\nobserve x = 2;\n")

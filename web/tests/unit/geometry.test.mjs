@@ -2,7 +2,7 @@
 import assert from "node:assert/strict";
 import test from "node:test";
 import { fractionOf, printed } from "../../src/fractions.mjs";
-import { distributionOf, envelope, hyperAt, posteriorVulnerability, regions, vulnerability } from "../../src/geometry.mjs";
+import { distributionOf, envelope, hyperAt, levelLines, posteriorVulnerability, regions, vulnerability } from "../../src/geometry.mjs";
 
 const row = (text) => text.split(" ").map(fractionOf);
 const rows = (...texts) => texts.map(row);
@@ -60,4 +60,15 @@ test("an action that is never better has no region, and one that always is has a
     assert.deepEqual([none, all.map(shown)], [[], ["1 0 0", "0 1 0", "0 0 1"]]);
     // As good at one corner alone.
     assert.deepEqual(regions(rows("1 0 0", "1 1 1"))[0], []);
+});
+
+test("priors that are worth the same lie on lines", () => {
+    const lines = (value, ...actions) => levelLines(rows(...actions), fractionOf(value)).map((line) => line.map(shown).sort().join(" to "));
+    const guess = ["1 0 0", "0 1 0", "0 0 1"];
+    assert.deepEqual(lines("3/4", ...guess), ["3/4 0 1/4 to 3/4 1/4 0", "0 3/4 1/4 to 1/4 3/4 0", "0 1/4 3/4 to 1/4 0 3/4"]);
+    // At 1/2 the lines meet in the middles of the edges.
+    assert.deepEqual(lines("1/2", ...guess), ["1/2 0 1/2 to 1/2 1/2 0", "0 1/2 1/2 to 1/2 1/2 0", "0 1/2 1/2 to 1/2 0 1/2"]);
+    // Nothing is worth less than 1/3, which is one point, and nothing more than 1.
+    assert.deepEqual([lines("1/4", ...guess), lines("1/3", ...guess), lines("1", ...guess)], [[], [], []]);
+    assert.deepEqual(lines("1", "0 1 2"), ["0 1 0 to 1/2 0 1/2"]);
 });

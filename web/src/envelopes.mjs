@@ -102,7 +102,7 @@ function addLevels(drawing, actions, place) {
     });
     lines.forEach((/** @type {{ ends: number[][] }} */ { ends: [from, to] }) => addLine(drawing, "level", from, to));
     addLabels(drawing, lines.map((/** @type {{ text: string, ends: number[][] }} */ { text, ends: [from, to] }) => ({
-        x: (from[0] + to[0]) / 2, y: (from[1] + to[1]) / 2 + 4, text, isSoft: true,
+        x: (3 * from[0] + to[0]) / 4, y: (3 * from[1] + to[1]) / 4 + 4, text, isSoft: true,
     })));
 }
 

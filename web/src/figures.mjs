@@ -3,8 +3,8 @@ import { button, element } from "./elements.mjs";
 
 /** How a picture looks, in what a file has in the place of the page's style. */
 const LOOKS = [
-    "fill", "fill-opacity", "stroke", "stroke-width", "stroke-opacity", "stroke-dasharray", "font-family", "font-size", "font-weight", "text-anchor",
-    "dominant-baseline",
+    "fill", "fill-opacity", "stroke", "stroke-width", "stroke-opacity", "stroke-dasharray", "stroke-linejoin", "paint-order", "font-family", "font-size",
+    "font-weight", "text-anchor", "dominant-baseline",
 ];
 /** A picture in points has this many times as many of them as it is wide. */
 const FINE = 2;

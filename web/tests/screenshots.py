@@ -102,7 +102,7 @@ def main() -> None:
     folder = Path(sys.argv[1]) if len(sys.argv) > 1 else TOP / "docs"
     server, driver = Server(TOP / "dist" / "page"), chromium(1240, 900)
     page = Page(driver, server.address)
-    for take, height in ((refusal, 420), (hyper, 760), (priors, 760), (lines, 760), (fix, 900), (refinement, 900), (lesson, 900)):
+    for take, height in ((refusal, 420), (hyper, 760), (priors, 860), (lines, 760), (fix, 900), (refinement, 900), (lesson, 900)):
         driver.execute_cdp_cmd("Emulation.setDeviceMetricsOverride", {"width": 1240, "height": height, "deviceScaleFactor": 1, "mobile": False})
         take(page)
         time.sleep(1)

@@ -81,7 +81,7 @@ def test_a_list_of_commands_that_says_otherwise(repository: Repository, name: st
         ("web/src/programs.mjs", '"set", ', "", "the words of programs.mjs: has [], and not ['set']"),
         ("web/src/programs.mjs", '"abs"', '"abs", "sign"', "the calls of programs.mjs: has ['sign']"),
         ("web/src/programs.mjs", '"min", ', '"min", "min", ', "how many words programs.mjs has: "),
-        ("web/src/programs.mjs", "|!=|", "|", "the signs of programs.mjs: has [], and not ['!=']"),
+        ("web/src/source.mjs", '"..", "!=", ', '"..", ', "the signs of source.mjs: has [], and not ['!=']"),
         ("python/src/kuifje/source.py", '("and",),', '("and", "nand"),', "the operators of the Python package's reader: has [\"('nand', '2')\"]"),
         ("python/src/kuifje/model/assign.py", '"var vis', '"var', "the reserved words of kuifje.model: has [], and not ['vis']"),
         ("docs/LANGUAGE.md", "| `union` `less` | 5 |", "| `union` | 5 |", "the operators in LANGUAGE.md"),

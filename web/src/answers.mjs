@@ -15,7 +15,7 @@ import { NOTHING, fractionOf, printed, product, sum } from "./fractions.mjs";
 
 /** The most groups, columns or rows that are read. */
 export const MOST = 200;
-const MOST_SHARES = 4000;
+const USUAL_MOST = { groups: MOST, shares: 4000 };
 
 /**
  * The lines of a text, one at a time.
@@ -62,9 +62,10 @@ function apart(line) {
  * @param {string} text
  * @param {string} word
  * @param {string} weight
+ * @param {{ groups: number, shares: number }} most that are read
  * @returns {Groups}
  */
-function groups(text, word, weight) {
+function groups(text, word, weight, most) {
     const from = lines(text);
     const target = from.behind("target");
     const scale = from.behind("scale");
@@ -76,23 +77,26 @@ function groups(text, word, weight) {
         if (line.startsWith("  ")) {
             found[found.length - 1].shares.push(apart(line));
             shares += 1;
-        } else if (found.length === MOST) {
+        } else if (found.length === most.groups) {
             return { target, scale, count, groups: found, isWhole: false };
         } else {
             const cut = line.lastIndexOf(` ${weight} `);
             found.push({ name: line.slice(word.length + 1, cut), weight: line.slice(cut + weight.length + 2), shares: [] });
         }
-        if (shares === MOST_SHARES) {
+        if (shares === most.shares) {
             return { target, scale, count, groups: found, isWhole: false };
         }
     }
     return { target, scale, count, groups: found, isWhole: true };
 }
 
+/**
+ * @param {string} text
+ * @param {{ groups: number, shares: number }} [most] that are read
+ */
+export const hyperOf = (text, most = USUAL_MOST) => groups(text, "inner", "outer", most);
 /** @param {string} text */
-export const hyperOf = (text) => groups(text, "inner", "outer");
-/** @param {string} text */
-export const tracesOf = (text) => groups(text, "trace", "weight");
+export const tracesOf = (text) => groups(text, "trace", "weight", USUAL_MOST);
 
 /**
  * The prior that a hyper averages to, its values in their order.
@@ -217,6 +221,25 @@ export function verdictOf(text) {
         }
     }
     return { isYes: false, over, rest, actions };
+}
+
+/**
+ * The parts of a tuple or of a trace, as it is printed.
+ * @param {string} value
+ */
+export function partsOfValue(value) {
+    const found = [];
+    let depth = 0;
+    let from = 1;
+    for (let at = 0; at < value.length - 1; at += 1) {
+        depth += "({[".includes(value[at]) ? 1 : ")}]".includes(value[at]) ? -1 : 0;
+        if (value[at] === "," && depth === 1) {
+            found.push(value.slice(from, at).trim());
+            from = at + 1;
+        }
+    }
+    const last = value.slice(from, -1).trim();
+    return found.length === 0 && last === "" ? [] : [...found, last];
 }
 
 /** @typedef {{ file: string | null, line: number, column: number, word: string }} Refusal its place, from 1, or 0 where it has none */

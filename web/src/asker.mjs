@@ -1,5 +1,7 @@
 // Asks the worker, one question after the other, and ends it where a run is stopped. A new worker gets the module that the first one compiled.
 
+import { scriptAddress } from "./scripts.mjs";
+
 /** @typedef {{ kind: "answer", status: number, out: string, err: string, memory: number, took: number }} Answered */
 /** @typedef {Answered | { kind: "memory", bound: number, took: number } | { kind: "trap", why: string, took: number } | { kind: "stopped", took: number }} Outcome */
 /** @typedef {{ words: string[], since: number }} Run */
@@ -10,16 +12,9 @@ const WANT_OF_MEMORY = 12;
 const decoder = new TextDecoder("utf-8", { ignoreBOM: true });
 const encoder = new TextEncoder();
 
-/** The address of the worker, for browsers that take none from a plain text. */
-function address() {
-    const url = new URL("worker.js", document.baseURI).href;
-    const factory = /** @type {any} */ (window).trustedTypes;
-    return factory ? factory.createPolicy("kuifje-worker", { createScriptURL: () => url }).createScriptURL("") : url;
-}
-
 /** @param {(run: Run | null) => void} onRun is called where a run begins, and with null where there is none any more */
 export function createAsker(onRun) {
-    const url = address();
+    const url = scriptAddress("worker.js");
     /** @type {Worker | null} */
     let worker = null;
     /** @type {WebAssembly.Module | null} */

@@ -1,7 +1,8 @@
 // An editor for one program: the language's colours, a refusal at its place, and lines coloured by what they leak, with that in the margin.
 import CodeMirror from "codemirror";
 import { element } from "./elements.mjs";
-import { WORDS, characterAt, isLong } from "./programs.mjs";
+import { WORDS, isLong } from "./programs.mjs";
+import { characterAt } from "./source.mjs";
 
 const KINDS = { declaration: "def", type: "type", statement: "keyword", distribution: "builtin", constant: "atom", operator: "operator", function: "builtin" };
 /** @type {Record<string, string>} */
@@ -52,7 +53,7 @@ export function createEditor(parent, label, onChange) {
         extraKeys: { Tab: false, "Shift-Tab": false },
     });
     const note = element("p", { class: "note", role: "status", hidden: true },
-        "This text is long: it is shown without colours, and without marks on its lines. Answers and refusals are as ever.");
+        "This text is long, so it is shown without colours and without marks. Answers and refusals are the same.");
     parent.append(note);
     /** @type {any[]} */
     let marks = [];

@@ -23,15 +23,18 @@ export function element(name, attributes, ...children) {
 }
 
 /**
+ * The page's element of this name.
+ * @template {HTMLElement} [T=HTMLElement]
  * @param {string} id
- * @returns {any} the page's element of this name
+ * @param {new () => T} [kind] which kind of element it is
+ * @returns {T}
  */
-export function byId(id) {
+export function byId(id, kind) {
     const found = document.getElementById(id);
-    if (found === null) {
+    if (found === null || (kind !== undefined && !(found instanceof kind))) {
         throw new Error(`the page has no ${id}`);
     }
-    return found;
+    return /** @type {T} */ (found);
 }
 
 /**
@@ -62,12 +65,12 @@ const keyOf = (it) => [it.tagName, it.id, it.getAttribute("aria-label"), it.id =
  * @param {...Child} children
  */
 export function fillAround(parent, ...children) {
-    const held = /** @type {any} */ (document.activeElement);
+    const held = document.activeElement;
     const isInside = held !== null && held !== parent && parent.contains(held);
     fill(parent, ...children);
     if (isInside && !held.isConnected) {
-        const same = /** @type {any[]} */ ([...parent.querySelectorAll(held.tagName)]).find((it) => keyOf(it) === keyOf(held));
-        if (same !== undefined && held instanceof HTMLInputElement && held.type === "text") {
+        const same = /** @type {HTMLElement[]} */ ([...parent.querySelectorAll(held.tagName)]).find((it) => keyOf(it) === keyOf(held));
+        if (same instanceof HTMLInputElement && held instanceof HTMLInputElement && held.type === "text") {
             same.value = held.value;
             same.setSelectionRange(held.selectionStart, held.selectionEnd);
         }

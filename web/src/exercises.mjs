@@ -4,6 +4,7 @@ import { button, element, fill } from "./elements.mjs";
 import { fractionOf, isSame } from "./fractions.mjs";
 import { blameOf, hyperOf, linesOf, reportOf, tracesOf, trailOf } from "./answers.mjs";
 import { hasFiles, namesIn, wordsOf } from "./commands.mjs";
+import { GUESSING } from "./gains.mjs";
 import { blocksOf } from "./reader.mjs";
 
 /** @typedef {import("./reader.mjs").Place} Place */
@@ -39,12 +40,20 @@ const capacitiesOf = (out) => ["first", "second", "both"].map((word) => one(`cap
 /** @param {string} out */
 const verdictsOf = (out) => [one("yes or no", lineOf(out, "refines"))];
 
+/** Of gains these two lines have a name of the book's, which a loss as the number of guesses hasn't. */
+const LEAKAGES = { quotient: "quotient (multiplicative leakage)", difference: "difference (additive leakage)" };
+
 /**
  * Which fields the answer of each command has.
  * @type {Record<string, (out: string) => Field[]>}
  */
 const FIELDS = {
-    leak: (out) => Object.entries(reportOf(out)).filter(([name]) => name !== "gain").map(([name, right]) => one(name, right)),
+    leak: (out) => {
+        const { gain, ...numbers } = reportOf(out);
+        const { quotient, difference } = gain === GUESSING ? { quotient: "quotient", difference: "difference" } : LEAKAGES;
+        const names = { prior: "prior", posterior: "posterior", quotient, difference };
+        return Object.entries(numbers).map(([name, right]) => one(names[/** @type {keyof typeof names} */ (name)], right));
+    },
     hyper: outersOf,
     quiet: outersOf,
     traces: (out) => [many("joint probabilities, in any order", tracesOf(out).groups.flatMap((it) => it.shares.map(({ share }) => share)), false)],

@@ -86,6 +86,12 @@ export const product = (a, b) => lowest(a.n * b.n, a.d * b.d);
  * @param {Fraction} b
  */
 export const isSame = (a, b) => a.n * b.d === b.n * a.d;
+/**
+ * Whether a is above b.
+ * @param {Fraction} a
+ * @param {Fraction} b
+ */
+export const isAbove = (a, b) => a.n * b.d > b.n * a.d;
 /** @param {Fraction} f */
 export const isNone = (f) => f.n === ZERO;
 /** @param {Fraction} f */

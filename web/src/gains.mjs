@@ -10,6 +10,8 @@ import { commonDenominator, isSame, lowest, printed, typedFraction } from "./fra
  * @type {[string, string][]}
  */
 export const USUAL = [["bayes", "one guess"], ["tries:2", "two tries"], ["tries:3", "three tries"], ["guessing", "expected number of guesses"]];
+/** The one of these that is a loss: less is better for an adversary. */
+export const GUESSING = "guessing";
 /** What stands for the gain table that is set. */
 export const TABLE = "table";
 
@@ -139,7 +141,7 @@ export function gainEditor(json, values, changes) {
         const over = element("span", { class: "note" });
         const say = () => {
             const common = commonDenominator([gains.rest, ...gains.actions.flatMap((action) => [...action.gains.values()])]);
-            over.textContent = `In the table's file all gains are whole numbers, divided by ${common}.`;
+            over.textContent = `The table's file has whole numbers, all divided by ${common}.`;
         };
         const update = () => {
             say();
@@ -232,7 +234,7 @@ function tableOf(gains, values, changes) {
         add(action);
         changes.update();
     });
-    const again = button("Begin anew", () => changes.replace(jsonOf(guessOf(values))));
+    const again = button("Start over", () => changes.replace(jsonOf(guessOf(values))));
     const heads = ["action", ...columns, ""].map((it) => element("th", { scope: "col" }, it));
     const shown = element("table", {}, element("caption", {}, "What each action gains at each value"), element("thead", {}, element("tr", {}, ...heads)), body);
     return [element("div", { class: "scroll", tabindex: "0", role: "region", "aria-label": "Gain table" }, shown), element("p", {}, more, " ", again, " ", changes.over)];

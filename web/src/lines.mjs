@@ -3,7 +3,8 @@
 import { element, table } from "./elements.mjs";
 import { linesOf, trailOf } from "./answers.mjs";
 import { NOTHING, decimal, difference, fractionOf, isNone, printed, product, shown } from "./fractions.mjs";
-import { TABLE, USUAL } from "./gains.mjs";
+import { GUESSING, TABLE, USUAL } from "./gains.mjs";
+import { repairSection } from "./repairs.mjs";
 import { isLong, statementLines, statementsOf } from "./programs.mjs";
 
 /** @typedef {import("./fractions.mjs").Fraction} Fraction */
@@ -47,12 +48,12 @@ export const gainWord = (measure) => (measure === TABLE ? "table:gain.json" : me
 function namesOf(measure) {
     const found = USUAL.find(([gain]) => gain === measure);
     const name = found === undefined ? "the gain table" : found[1];
-    if (measure === "guessing") {
+    if (measure === GUESSING) {
         const whole = "an adversary who keeps guessing is expected to take this number of guesses: ";
-        return { name, lost: "more guesses", so: "so many", sign: "+", whole, beside: "how many more it would take" };
+        return { name, lost: "more guesses", sign: "+", whole, beside: "how many more it would take" };
     }
     const whole = measure === "bayes" ? "one guess at the target is right with probability " : `the posterior vulnerability under ${name} is `;
-    return { name, lost: "less", so: "so much", sign: "−", whole, beside: "by how much that would be less" };
+    return { name, lost: "less", sign: "−", whole, beside: "how much less that would be" };
 }
 
 /**
@@ -63,6 +64,9 @@ function short(f) {
     const whole = printed(f);
     return whole.length > LONGEST ? decimal(f).text : whole;
 }
+
+/** @param {string} count */
+const innersText = (count) => `${count} ${count === "1" ? "inner" : "inners"}`;
 
 /** @param {Fraction} f */
 const positive = (f) => (f.n < NOTHING.n ? difference(NOTHING, f) : f);
@@ -95,7 +99,7 @@ function rowsOf(out, measure) {
         const loss = losses[index];
         // What the margin has: how much is lost, or else what becomes of the inners.
         const mark = isNone(loss) ? (silent.inners === all.inners ? "0" : `${all.inners}→${silent.inners}`) : `${sign}${short(loss)}`;
-        const title = `Without the statement at ${silent.line}:${silent.column}: ${silent.inners} inners in place of ${all.inners}, `
+        const title = `Without the statement at ${silent.line}:${silent.column}: ${innersText(silent.inners)} instead of ${all.inners}, `
             + `${name}: ${silent.posterior}, ${printed(loss)} ${lost}`;
         return { ...silent, line: silent.line - 1, loss, level: levelOf(loss, greatest), mark, title, isBlamed: mark !== "0" };
     });
@@ -170,9 +174,9 @@ function legend(greatest, { lost }) {
  * The text as a table: the number of each line, what is lost without its statements, and the line.
  * @param {string} text
  * @param {Row[]} rows
- * @param {{ lost: string, so: string, sign: string }} names
+ * @param {{ lost: string, sign: string }} names
  */
-function listing(text, rows, { lost, so, sign }) {
+function listing(text, rows, { lost, sign }) {
     const own = byLine(rows);
     const source = text.replace(/\n$/, "").split("\n");
     const lines = source.slice(0, MOST_LINES).map((line, number) => {
@@ -182,17 +186,17 @@ function listing(text, rows, { lost, so, sign }) {
         return element("tr", { class: found.length > 0 ? `leak-${level}` : "" }, element("th", { scope: "row" }, String(number + 1)),
             element("td", { class: "lost" }, ...numbers, " ", found.length > 0 && bar(level)), element("td", {}, element("code", {}, line)));
     });
-    const head = element("tr", {}, ...["line", `${so} ${lost} without it`, "text"].map((it) => element("th", { scope: "col" }, it)));
+    const head = element("tr", {}, ...["line", `${lost} without it`, "text"].map((it) => element("th", { scope: "col" }, it)));
     const name = "The text, line by line";
     const made = element("table", { class: "listing" }, element("caption", {}, name), element("thead", {}, head), element("tbody", {}, ...lines));
     return element("div", { class: "scroll", tabindex: "0", role: "region", "aria-label": name }, made,
         source.length > MOST_LINES && element("p", { class: "note" }, `The text has ${source.length} lines, of which the first ${MOST_LINES} are shown.`));
 }
 
-/** @param {import("./views.mjs").Context} context */
-function chooser({ measure, gain, setMeasure }) {
+/** @param {import("./context.mjs").Context} context */
+function chooser({ measure, gain, take }) {
     const options = gain === null ? USUAL : [...USUAL, [TABLE, "the gain table"]];
-    const select = element("select", { id: "measure", change: () => setMeasure(select.value) },
+    const select = element("select", { id: "measure", change: () => take({ measure: select.value }) },
         ...options.map(([value, name]) => element("option", { value, selected: value === measure }, value === TABLE ? name : `${name} (${value})`)));
     return element("p", {}, element("label", {}, "Lines are compared under ", select));
 }
@@ -206,14 +210,14 @@ function trailTable(text, counts) {
     const starts = isLong(text) ? [] : statementLines(text);
     const source = text.split("\n");
     const rows = counts.slice(0, MOST_ROWS).map((count, index) => {
-        const line = index > 0 && starts.length === counts.length - 1 ? element("code", {}, source[starts[index - 1]].trim()) : "";
+        const line = index > 0 && starts.length === counts.length - 1 ? element("code", {}, source[starts[index - 1] - 1].trim()) : "";
         return [index === 0 ? "the declarations" : `statement ${index - 1}`, line, count];
     });
     const cut = counts.length > rows.length ? ` (the first ${rows.length} of ${counts.length})` : "";
-    return table(`How many posteriors of all variables there are${cut}`, ["after", "line", "posteriors"], rows);
+    return table(`Posteriors of all variables on the way${cut}`, ["after", "line", "posteriors"], rows);
 }
 
-/** @param {import("./views.mjs").Context} context */
+/** @param {import("./context.mjs").Context} context */
 export async function linesView(context) {
     const { ask, tryTo, file, text, measure, failure } = context;
     const trail = trailOf(await ask(["trail", file]));
@@ -232,21 +236,21 @@ export async function linesView(context) {
     const { all, rows, greatest } = rowsOf(outcome.out, measure);
     const names = namesOf(measure);
     const statement = statementsOf(text);
-    const heads = ["place", "statement", "inners without it", `${names.name} without it`, `${names.so} ${names.lost}`];
+    const heads = ["place", "statement", "inners without it", `${names.name} without it`, names.lost];
     const cells = rows.map(({ line, column, inners, posterior, loss }) => [
-        `${line + 1}:${column}`, element("code", {}, statement(line, column)), inners, shown(posterior),
+        `${line + 1}:${column}`, element("code", {}, statement(line + 1, column)), inners, shown(posterior),
         shown(printed(loss)),
     ]);
     return [
         chooser(context),
-        element("p", {}, `As it is, the hyper has ${all.inners} inners, and ${names.whole}`, shown(all.posterior),
-            `. Beside a line stands ${names.beside} if the statement that begins there alone showed nothing, wherever it stands.`),
+        element("p", {}, `The hyper has ${innersText(all.inners)}, and ${names.whole}`, shown(all.posterior),
+            `. The number beside a line says ${names.beside} if the statement that begins there, and no other one, showed nothing.`),
         rows.length > 0 && legend(greatest, names),
-        rows.some(({ loss }) => isNone(loss)) && element("p", { class: "note" }, "To this adversary a line with the number of ", element("code", {}, "all"),
-            " is worth nothing beside the others. It may show something all the same: alone, together with others, or to another adversary."),
-        listing(text, rows, names),
+        rows.some(({ loss }) => isNone(loss)) && element("p", { class: "note" }, "To this adversary a line with 0 is worth nothing while the others show what they do. "
+            + "It may show something all the same: alone, together with others, or to another adversary."),
+        listing(text, rows, names), repairSection(context),
         rows.length > 1 && isNone(greatest) && element("p", { class: "note" },
-            "No statement alone is to blame. Where two show the same, neither has other numbers than all."),
+            "No single statement is to blame. Where two show the same, it changes nothing to silence one of them."),
         table("Which statement leaks", heads, cells), trailTable(text, trail),
     ];
 }

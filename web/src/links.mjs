@@ -1,7 +1,7 @@
 // What the part of an address after # says: a state of the page, or a lesson, study or page of its own. Nothing of it is sent to a server. A link
 // that can't be read is refused as a whole.
 import { TABLE, USUAL } from "./gains.mjs";
-import { MOST_TURNS, OWN, USUAL_TURNS, VIEWS } from "./questions.mjs";
+import { MOST_TURNS, OWN, USUAL_TURNS, VIEWS, weightsIn } from "./questions.mjs";
 
 /** @typedef {import("./questions.mjs").State} State */
 /** @typedef {{ kind: "nothing" } | { kind: "unreadable", why: string } | { kind: "state", state: State } | { kind: "page", page: string }} Link */
@@ -14,7 +14,7 @@ const ANCHORS = ["", "#", "#answer"];
 const NAME = /^[A-Za-z0-9][A-Za-z0-9_./-]*$/;
 /** What each link has, and what older ones may lack, with what they mean by that. */
 const PARTS = ["a", "b", "gain", "of", "page", "view", "words"];
-const LATER = { measure: "bayes", turns: USUAL_TURNS, kept: {} };
+const LATER = { measure: "bayes", turns: USUAL_TURNS, kept: {}, prior: null };
 /** The most bytes of a state: two programs and a table, each as long as a file may be. */
 const MOST = 4 << 20;
 /** The most characters of a link: browsers and fields take as much without delay. */
@@ -101,31 +101,30 @@ function areFiles(kept) {
 const isKnownGain = ({ measure, gain }) => (measure === TABLE ? gain !== null : USUAL.some(([word]) => word === measure));
 
 /**
+ * A state as it comes from outside. It throws where it is none.
  * @param {any} it
  * @returns {State}
  */
-function checked(it) {
+export function checkedState(it) {
     const names = typeof it !== "object" || it === null ? [] : Object.keys(it);
     if (!PARTS.every((name) => names.includes(name)) || !names.every((name) => [...PARTS, ...Object.keys(LATER)].includes(name))) {
         throw new Error("it has other parts than a link has");
     }
     const state = { ...LATER, ...it };
     ["a", "view", "of"].forEach((name) => wantText(state, name, false));
-    ["b", "gain", "words", "page"].forEach((name) => wantText(state, name, true));
-    if (!VIEWS.some(({ name }) => name === state.view) || !["a", "b"].includes(state.of) || (state.of === "b" && state.b === null)) {
-        throw new Error("it asks what the page doesn't know");
-    }
-    if (!isKnownGain(state)) {
-        throw new Error("it names no gain that the page knows");
-    }
-    if (!Number.isInteger(state.turns) || state.turns < 1 || state.turns > MOST_TURNS) {
-        throw new Error("it has no number of turns");
-    }
-    if (!areFiles(state.kept)) {
-        throw new Error("it has other files than a link has");
-    }
-    if (state.page !== null && !PAGE.test(`#${state.page}`)) {
-        throw new Error("it names no page");
+    ["b", "gain", "words", "page", "prior"].forEach((name) => wantText(state, name, true));
+    /** @type {[boolean, string][]} */
+    const wanted = [
+        [VIEWS.some(({ name }) => name === state.view) && ["a", "b"].includes(state.of) && (state.of === "a" || state.b !== null), "it asks what the page doesn't know"],
+        [isKnownGain(state), "it names no gain that the page knows"],
+        [Number.isInteger(state.turns) && state.turns >= 1 && state.turns <= MOST_TURNS, "it has no number of turns"],
+        [state.prior === null || weightsIn(state.prior) !== null, "it has no prior"],
+        [areFiles(state.kept), "it has other files than a link has"],
+        [state.page === null || PAGE.test(`#${state.page}`), "it names no page"],
+    ];
+    const missing = wanted.find(([isThere]) => !isThere);
+    if (missing !== undefined) {
+        throw new Error(missing[1]);
     }
     return state;
 }
@@ -150,7 +149,7 @@ export async function linkFrom(hash) {
         const bytes = Uint8Array.from(atob(found[1].replace(/-/g, "+").replace(/_/g, "/")), (it) => it.charCodeAt(0));
         const Stream = /** @type {any} */ (globalThis).DecompressionStream;
         const whole = await sent(bytes, new Stream("deflate-raw"));
-        return { kind: "state", state: checked(JSON.parse(new TextDecoder("utf-8", { fatal: true }).decode(whole))) };
+        return { kind: "state", state: checkedState(JSON.parse(new TextDecoder("utf-8", { fatal: true }).decode(whole))) };
     } catch (error) {
         return { kind: "unreadable", why: error instanceof Error ? error.message : String(error) };
     }

@@ -10,7 +10,7 @@ import { NOTHING, fractionOf, near } from "./fractions.mjs";
 /** @typedef {import("./answers.mjs").Groups} Groups */
 
 const FEW = ["#e69f00", "#56b4e9", "#009e73", "#f0e442", "#0072b2", "#d55e00", "#cc79a7", "#999999"];
-/** A picture is drawn for the width that it has on the page, so that its letters have the size of others. */
+/** A picture is drawn for the width that it has on the page, so that its letters have the size of others. These are its bounds. */
 const WIDEST = 760;
 const NARROWEST = 340;
 const MOST_CELLS = 6000;
@@ -28,10 +28,11 @@ function isLight(colour) {
     return 0.2126 * red + 0.7152 * green + 0.0722 * blue > 0.179;
 }
 
-/** The width that a picture has now. */
-function room() {
+/** The width that a picture has now, in letters of the usual size: where letters are larger, so is all of the picture. */
+export function room() {
     const column = document.getElementById("answers");
-    return Math.min(Math.max(column === null ? WIDEST : column.clientWidth, NARROWEST), WIDEST);
+    const letters = parseFloat(getComputedStyle(document.documentElement).fontSize) / 16;
+    return Math.min(Math.max(column === null ? WIDEST : column.clientWidth / letters, NARROWEST), WIDEST);
 }
 
 /**
@@ -39,7 +40,7 @@ function room() {
  * @param {number} height
  * @param {string} label
  */
-function canvas(width, height, label) {
+export function canvas(width, height, label) {
     const svg = document.createElementNS("http://www.w3.org/2000/svg", "svg");
     svg.setAttribute("viewBox", `0 0 ${width} ${height}`);
     svg.setAttribute("role", "img");
@@ -48,9 +49,17 @@ function canvas(width, height, label) {
     return { svg, drawing: select(svg) };
 }
 
+/** @typedef {{ x: number, y: number, width: number, height: number, fill: string, labels: string[], title: string }} Box with the labels that it may have */
+
+/**
+ * The first of a box's labels that fits into it.
+ * @param {Box} box
+ */
+const labelOf = ({ width, height, labels }) => (height < 15 ? undefined : labels.find((it) => width >= 8 * it.length + 4));
+
 /**
  * @param {any} drawing
- * @param {{ x: number, y: number, width: number, height: number, fill: string, label: string, title: string, name?: string }[]} boxes
+ * @param {Box[]} boxes
  */
 function addBoxes(drawing, boxes) {
     const all = drawing.append("g").selectAll("g").data(boxes).enter().append("g");
@@ -58,18 +67,18 @@ function addBoxes(drawing, boxes) {
         .attr("width", (/** @type {any} */ it) => Math.max(it.width, 0.5)).attr("height", (/** @type {any} */ it) => Math.max(it.height, 0.5))
         .attr("fill", (/** @type {any} */ it) => it.fill).attr("class", "box");
     all.append("title").text((/** @type {any} */ it) => it.title);
-    all.filter((/** @type {any} */ it) => it.height >= 15 && it.width >= 9 * it.label.length).append("text")
+    all.filter((/** @type {Box} */ it) => labelOf(it) !== undefined).append("text")
         .attr("x", (/** @type {any} */ it) => it.x + it.width / 2).attr("y", (/** @type {any} */ it) => it.y + it.height / 2)
-        .attr("class", "box-label").style("fill", (/** @type {any} */ it) => (isLight(it.fill) ? "#000000" : "#ffffff")).text((/** @type {any} */ it) => it.label);
+        .attr("class", "box-label").style("fill", (/** @type {any} */ it) => (isLight(it.fill) ? "#000000" : "#ffffff")).text(labelOf);
 }
 
 /**
  * @param {any} drawing
- * @param {{ x: number, y: number, text: string, anchor?: string, isStrong?: boolean }[]} labels
+ * @param {{ x: number, y: number, text: string, anchor?: string, isStrong?: boolean, isSoft?: boolean }[]} labels
  */
-function addLabels(drawing, labels) {
+export function addLabels(drawing, labels) {
     drawing.append("g").selectAll("text").data(labels).enter().append("text").attr("x", (/** @type {any} */ it) => it.x)
-        .attr("y", (/** @type {any} */ it) => it.y).attr("class", (/** @type {any} */ it) => (it.isStrong ? "label strong" : "label"))
+        .attr("y", (/** @type {any} */ it) => it.y).attr("class", (/** @type {any} */ it) => (it.isStrong ? "label strong" : it.isSoft ? "label soft" : "label"))
         .attr("text-anchor", (/** @type {any} */ it) => it.anchor || "middle").text((/** @type {any} */ it) => it.text);
 }
 
@@ -77,7 +86,7 @@ function addLabels(drawing, labels) {
  * A colour for each value.
  * @param {string[]} values
  */
-function coloursOf(values) {
+export function coloursOf(values) {
     const colour = (/** @type {number} */ index) => (values.length <= FEW.length ? FEW[index] : interpolateCividis(index / (values.length - 1)));
     return new Map(values.map((value, index) => [value, colour(index)]));
 }
@@ -111,7 +120,7 @@ export function hyperPicture(hyper) {
         for (const { value, share } of shares) {
             const next = bottom + size(share);
             const title = `${name}: ${value} with probability ${share}`;
-            drawn.push({ x: from, y: y(bottom), width, height: y(next) - y(bottom) - 1, fill: colours.get(value), label: value, title });
+            drawn.push({ x: from, y: y(bottom), width, height: y(next) - y(bottom) - 1, fill: colours.get(value), labels: [`${value}: ${share}`, value], title });
             bottom = next;
         }
     };
@@ -156,7 +165,7 @@ export function heatMap(cells, rows, columns, label) {
     const height = Math.max(Math.min(44, 560 / rows.length), 3);
     const drawn = cells.flatMap((row, i) => row.map((cell, j) => ({
         x: left + j * width, y: 28 + i * height, width: width - 1, height: height - 1,
-        fill: interpolateBlues(size(cell)), label: cell, title: `${rows[i]}, ${columns[j]}: ${cell}`,
+        fill: interpolateBlues(size(cell)), labels: [cell], title: `${rows[i]}, ${columns[j]}: ${cell}`,
     })));
     const shorter = (/** @type {string} */ text, /** @type {number} */ length) => (text.length > length ? `${text.slice(0, length - 1)}…` : text);
     const heads = columns.map((text, j) => ({ x: left + (j + 0.5) * width, y: 18, text: shorter(text, Math.floor(width / 8)) })).filter(() => width >= 20);
@@ -230,7 +239,7 @@ export function flowPicture(outers, letters, matrix) {
     ];
     sides.forEach(({ bars, letter, x, beside, anchor }, side) => {
         addBoxes(drawing, bars.map(({ top, height, outer }, i) => ({
-            x, y: top, width: FLOW.bar, height, fill: side === 0 ? FEW[i % FEW.length] : "#777777", label: "", title: `inner ${i} of ${letter}, outer ${outer}`,
+            x, y: top, width: FLOW.bar, height, fill: side === 0 ? FEW[i % FEW.length] : "#777777", labels: [], title: `inner ${i} of ${letter}, outer ${outer}`,
         })));
         const names = bars.map(({ top, height, outer }, i) => ({ x: beside, y: top + height / 2 + 5, text: `${i}: ${outer}`, anchor }));
         addLabels(drawing, [{ x: beside, y: 18, text: `inners of ${letter}`, anchor, isStrong: true }, ...names.filter(() => bars.length <= 25)]);

@@ -8,6 +8,7 @@ export const VIEWS = /** @type {const} */ ([
     { name: "hyper", tab: "hyper", title: "Hyper", commands: ["hyper"] },
     { name: "channel", tab: "channel", title: "Channel", commands: ["channel"] },
     { name: "leak", tab: "leak", title: "Vulnerability", commands: ["leak"] },
+    { name: "priors", tab: "priors", title: "Priors", commands: [] },
     { name: "traces", tab: "traces", title: "Traces", commands: ["traces"] },
     { name: "lines", tab: "lines", title: "Lines", commands: ["lines", "blame", "trail"] },
     { name: "refine", tab: "refine", title: "Two texts", commands: ["refine"] },
@@ -22,8 +23,8 @@ export const MOST_TURNS = 65535;
 
 /**
  * What the page asks: two texts (the second one may be missing), which view, about which of the two, a gain table, the gain under which lines are
- * compared, words typed by hand, a lesson, study or page that is open, how many turns a loop may have, and files that the words name and that are
- * none of the repository's, such as a certificate that was kept.
+ * compared, weights of a prior that is looked at beside the declared one, words typed by hand, a lesson, study or page that is open, how many turns a
+ * loop may have, and files that the words name and that are none of the repository's, such as a certificate that was kept.
  * @typedef {object} State
  * @property {string} a
  * @property {string | null} b
@@ -31,6 +32,7 @@ export const MOST_TURNS = 65535;
  * @property {string} of
  * @property {string | null} gain
  * @property {string} measure
+ * @property {string | null} prior
  * @property {string | null} words
  * @property {string | null} page
  * @property {number} turns
@@ -56,13 +58,27 @@ export function turnsIn(text) {
     return turns >= 1 && turns <= MOST_TURNS ? turns : null;
 }
 
+/** The most of a weight of a prior that is looked at. */
+export const MOST_WEIGHT = 60;
+
+/**
+ * The weights that a text has, of two or three values, or null where it has none.
+ * @param {string} text
+ */
+export function weightsIn(text) {
+    const weights = /^\d{1,2}(?: \d{1,2}){1,2}$/.test(text) ? text.split(" ").map(Number) : [];
+    return weights.some((weight) => weight > 0) && weights.every((weight) => weight <= MOST_WEIGHT) ? weights : null;
+}
+
 /**
  * The parts of a state that change where another program is opened: the gain table was about the values of the one before.
  * @param {State} state
  * @param {string} text
  * @returns {Partial<State>}
  */
-export const opened = (state, text) => ({ a: text, of: "a", ...(text === state.a ? {} : { gain: null, measure: state.measure === "table" ? "bayes" : state.measure }) });
+export const opened = (state, text) => ({
+    a: text, of: "a", ...(text === state.a ? {} : { gain: null, prior: null, measure: state.measure === "table" ? "bayes" : state.measure }),
+});
 
 /**
  * The tab that a view stands in.

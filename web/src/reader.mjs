@@ -135,7 +135,7 @@ function lessonOf(place, number) {
     const lesson = place.library.lessons[number - 1];
     const step = (/** @type {number} */ to, /** @type {string} */ text) => to >= 1 && to <= place.library.lessons.length && button(text, () => place.host.show(`lesson/${to}`, ""));
     return [element("h2", {}, `Lesson ${lesson.title}`), ...blocksOf(place, lesson.blocks), element("h3", {}, "Exercises"),
-        element("p", {}, "Work the numbers out by hand. The program checks them, or compares what it answers of your program with what it answers of the solution."),
+        element("p", {}, "Work out the numbers by hand, and the program checks them. Or write a program: the page asks it what it asks the solution, and compares the answers."),
         ...lesson.exercises.map((exercise, index) => exerciseOf({ ...place, path: `course/exercises/${number}.md` }, exercise, index + 1)),
         element("p", { class: "steps" }, step(number - 1, "← Lesson before"), " ", step(number + 1, "Next lesson →"))];
 }

@@ -2,12 +2,14 @@
 import { button, element, fill, table } from "./elements.mjs";
 import { MOST, hyperOf, priorOf, reportOf, verdictOf } from "./answers.mjs";
 import { shown } from "./fractions.mjs";
+import { figureOf } from "./figures.mjs";
 import { flowPicture, heatMap } from "./pictures.mjs";
+import { repairNote } from "./repairs.mjs";
 import { targetSize } from "./programs.mjs";
 import { gainTable, meaningOf, priorsOf } from "./verdicts.mjs";
 import { tooMany } from "./views.mjs";
 
-/** @typedef {import("./views.mjs").Context} Context */
+/** @typedef {import("./context.mjs").Context} Context */
 /** @typedef {import("./answers.mjs").Verdict} Verdict */
 /** @typedef {import("./answers.mjs").Groups} Groups */
 /**
@@ -32,20 +34,21 @@ function priorsApart(hypers) {
 }
 
 /**
+ * @param {Context} context
  * @param {string[][]} matrix
  * @param {Direction} direction
  */
-function matrixOf(matrix, { letters: [first, second], hypers }) {
+function matrixOf(context, matrix, { letters: [first, second], hypers }) {
     const rows = matrix.map((_, index) => `${first} ${index}`);
     const columns = matrix[0].map((_, index) => `${second} ${index}`);
     const isSmall = rows.length <= MOST && columns.length <= MOST;
     const isWhole = hypers !== null && hypers.every((it) => it.isWhole);
-    const flow = isWhole && flowPicture(hypers.map((it) => it.groups.map(({ weight }) => weight)), [first, second], matrix);
-    const map = isSmall && heatMap(matrix, rows, columns, `Heat map of the matrix, ${rows.length} by ${columns.length}`);
+    const flow = !isWhole ? null : flowPicture(hypers.map((it) => it.groups.map(({ weight }) => weight)), [first, second], matrix);
+    const picture = flow !== null || !isSmall ? flow : heatMap(matrix, rows, columns, `Heat map of the matrix, ${rows.length} by ${columns.length}`);
     const cells = matrix.slice(0, MOST).map((row, index) => [rows[index], ...row.slice(0, MOST).map(shown)]);
     return [
-        element("p", {}, `The matrix makes the hyper of ${second} of that of ${first}: a row for each inner of ${first}, a column for each inner of ${second}.`),
-        flow || map || tooMany(Math.max(rows.length, columns.length), "rows or columns"),
+        element("p", {}, `The matrix turns the hyper of ${first} into that of ${second}. It has a row for each inner of ${first} and a column for each inner of ${second}.`),
+        picture === null ? tooMany(Math.max(rows.length, columns.length), "rows or columns") : figureOf(picture, `matrix-${first}-${second}`, context.hand),
         table(`Matrix from ${first} to ${second}`, ["inner", ...columns.slice(0, MOST)], cells),
     ];
 }
@@ -89,7 +92,7 @@ async function sectionOf(context, direction) {
         return element("section", {}, element("h3", {}, question, element("strong", {}, "No verdict")), element("pre", { class: "terminal" }, direction.refusal));
     }
     const answer = element("strong", { class: verdict.isYes ? "yes" : "no" }, verdict.isYes ? "Yes" : "No");
-    const proof = verdict.isYes ? matrixOf(verdict.matrix, direction) : await separationOf(context, verdict, direction);
+    const proof = verdict.isYes ? matrixOf(context, verdict.matrix, direction) : await separationOf(context, verdict, direction);
     const keep = hypers !== null && button("Keep the certificate", async () => {
         const outcome = await context.tryTo(["refine", ...names, "--json"]);
         if (outcome.kind === "answer") {
@@ -117,8 +120,8 @@ async function directionOf(context, command, names, letters, hypers) {
     return { verdict: verdictOf(outcome.out), refusal: "", names, letters, hypers };
 }
 
-const ABOUT_ALL = "Here every variable is a secret, keys, coins and counters too, and so is what each becomes: a no may be about those. "
-    + "Whether B leaks no more than A about the secret alone, for every prior on it, is the other question, for a target that is old.";
+const ABOUT_ALL = "Here every variable is a secret, keys, coins and counters too, with what it becomes, and a no may be about those. "
+    + "The other question is about the secret alone: for a target that is old, its yes holds for every prior on the secret.";
 
 /**
  * @param {Context} context
@@ -127,10 +130,10 @@ const ABOUT_ALL = "Here every variable is a secret, keys, coins and counters too
 export async function refineView(context, command) {
     const isForEvery = command === "covers";
     const choice = element("p", { role: "group", "aria-label": "What the question is about" },
-        button("About the secret", () => context.setView("refine"), { "aria-pressed": String(!isForEvery) }), " ",
-        button("About all variables, first and last (covers)", () => context.setView("covers"), { "aria-pressed": String(isForEvery) }));
-    if (!context.hasSecond) {
-        return [choice, element("p", {}, "A second text is wanted. ", button("Compare with a second text", context.addSecond))];
+        button("About the secret", () => context.take({ view: "refine" }), { "aria-pressed": String(!isForEvery) }), " ",
+        button("About all variables, first and last (covers)", () => context.take({ view: "covers" }), { "aria-pressed": String(isForEvery) }));
+    if (context.b === null) {
+        return [choice, element("p", {}, "This view compares two texts. ", button("Compare with a second text", context.addSecond))];
     }
     const hypers = isForEvery ? null : [hyperOf(await context.ask(["hyper", "a.kf"])), hyperOf(await context.ask(["hyper", "b.kf"]))];
     const there = await directionOf(context, command, ["a.kf", "b.kf"], ["A", "B"], hypers);
@@ -140,7 +143,7 @@ export async function refineView(context, command) {
         await context.ask([command, "a.kf", "b.kf"]);
     }
     return [
-        choice, element("p", { class: "meaning" }, meaningOf(there.verdict, back.verdict, isForEvery)),
+        choice, repairNote(context.a, context.b), element("p", { class: "meaning" }, meaningOf(there.verdict, back.verdict, isForEvery)),
         element("p", { class: "note priors" }, hypers === null ? ABOUT_ALL : priorsOf(hypers, targetSize(context.text || ""))), priorsApart(hypers),
         await sectionOf(context, there), await sectionOf(context, back),
     ];

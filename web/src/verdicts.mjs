@@ -45,9 +45,9 @@ export function priorsOf(hypers, size) {
         return `The verdicts are for the ${first === second ? "prior" : "priors"} that the texts declare.`;
     }
     return priors[0].length === size
-        ? "A yes holds for every prior on the secret; a no for every prior under which every value is possible. All else is drawn, given the secret, as it is declared."
+        ? "A yes holds for every prior on the secret; a no for every prior under which every value is possible. Everything else is drawn as it is declared."
         : `As declared, ${priors[0].length} of the ${size} values of the secret are possible. A yes holds for every prior under which no others are; `
-            + "a no for every prior under which just these are. All else is drawn, given the secret, as it is declared.";
+            + "a no for every prior under which just these are. Everything else is drawn as it is declared.";
 }
 
 /**

@@ -56,7 +56,7 @@ def forgets_what_is_not_taken(page: Page, cell: str, label: str) -> None:
     has(page.answer(), "the table below\t5/8")
     page.press("Add an action")
     page.wait(lambda: page.driver.find_elements("css selector", "input[aria-label='gain of action_4 at 3']"), "another action")
-    page.press("Begin anew")
+    page.press("Start over")
     page.wait(lambda: "the table below\t1/4 = 0.25\t1/2" in page.answer() and page.script(cell + ".value") == "1", "the first table")
     page.choose("#open", "course/witness.kf")
     page.wait(lambda: page.text() == example("course/witness.kf"), "another program")
@@ -116,7 +116,7 @@ def goes_back(page: Page) -> None:
 
 def restores_each_view(page: Page) -> None:
     """A link that is made in a view opens that view, with its answer. (A unit test makes one for each view, too.)"""
-    expect(len(VIEWS) == 8, f"the list of views has {VIEWS}")
+    expect(len(VIEWS) == 9, f"the list of views has {VIEWS}")
     page.open()
     page.write(example("course/witness.kf"))
     page.click("#compare")
@@ -269,7 +269,25 @@ def shows_its_age(page: Page) -> None:
     page.wait(lambda: "The run was stopped" in page.answer(), "a run that is stopped")
 
 
+def survives_a_reload(page: Page) -> None:
+    """A reload finds texts and question as they were, also under the address of a link; somebody who opens the page anew finds its own text."""
+    page.open()
+    first = page.text()
+    for start in ("", state_link(page, OLD), "#lesson/2"):
+        page.open(start)
+        type_at_end(page, "# mine\n")
+        page.view("leak")
+        mine = page.text()
+        page.driver.refresh()
+        page.settle()
+        expect(page.text() == mine and mine.endswith("# mine\n"), f"a reload of {start[:20]!r} loses the text")
+        expect(page.find("#tab-leak").get_attribute("aria-selected") == "true", f"a reload of {start[:20]!r} loses the question")
+        expect(page.find("#reader").is_displayed() == start.startswith("#lesson"), f"a reload of {start[:20]!r} loses the lesson")
+    page.open()
+    expect(page.text() == first, "a page that is opened anew has an older text")
+
+
 TRIALS = [
-    takes_exact_gains, keeps_the_text, goes_back, restores_each_view, restores_turns, restores_commands, says_for_which_priors, bears_long_texts,
+    takes_exact_gains, survives_a_reload, keeps_the_text, goes_back, restores_each_view, restores_turns, restores_commands, says_for_which_priors, bears_long_texts,
     stops_long_texts, shows_its_age,
 ]

@@ -11,6 +11,7 @@ from __future__ import annotations
 import argparse
 import base64
 import gzip
+import hashlib
 import json
 import os
 import re
@@ -28,6 +29,7 @@ from selenium.webdriver.common.keys import Keys
 import commands
 import keeping
 import lecture
+import seeing
 from browser import Page, Server, chromium
 from commands import Command
 from trials import EVERY, LONG, OLD, TOP, changed, example, expect, has, put, state_link
@@ -215,6 +217,12 @@ def cuts_what_is_large(page: Page) -> None:
     has(page.answer(), "An observer sees one of 300 traces", "There are 300 traces, too many for a picture")
 
 
+def close_when_kept(page: Page, server: Server) -> None:
+    """Closes a server once the browser has the page's files, for which it asks after the first answer."""
+    page.driver.execute_async_script("const done = arguments[0]; navigator.serviceWorker.ready.then(() => done(true))")
+    server.close()
+
+
 # Runs that don't come to an answer.
 
 
@@ -254,7 +262,7 @@ def tells_a_trap(page: Page) -> None:
         other.open()
         has(other.answer(), "A trap", "The engine of the browser ended the run", "unreachable", "That is no answer")
         expect("inner" not in other.answer(), "a trap has an answer")
-        server.close()
+        close_when_kept(page, server)
 
 
 def takes_both_modules(page: Page) -> None:
@@ -269,7 +277,7 @@ def takes_both_modules(page: Page) -> None:
     other = Page(page.driver, server.address)
     other.open()
     expect(other.answer() == given, "a server that doesn't know what a module is has another answer")
-    server.close()
+    close_when_kept(page, server)
 
 
 # Links, and texts that mean no good.
@@ -338,15 +346,41 @@ def check_clean(page: Page) -> None:
 
 
 def fetches_nothing_else(page: Page) -> None:
+    """All that is fetched is the page's own; what is kept are its files and, in this tab, what is asked. About says so, and which module runs."""
     page.open()
     page.open("#lesson/3")
     page.find("#about-button").click()
     page.wait(lambda: "Libraries" in page.find("#about").text, "what the page says of itself")
-    has(page.find("#about").text, "codemirror 5", "d3-scale", "nothing is fetched from elsewhere")
+    has(page.find("#about").text, "codemirror 5", "d3-scale", "fetches nothing from elsewhere", "This tab keeps the texts", "nothing that you type is among them")
+    module = f"kuifje{page.script('return kuifje.kind()')}.wasm"
+    has(page.find("#about").text, module, hashlib.sha256((FOLDER / module).read_bytes()).hexdigest())
     names = page.script("return performance.getEntriesByType('resource').map((it) => it.name)")
     expect(names and all(name.startswith(page.address) for name in names), f"the page fetched {names}")
-    expect(page.script("return localStorage.length + sessionStorage.length + document.cookie.length") == 0, "the page keeps something")
+    expect(page.script("return localStorage.length + document.cookie.length") == 0, "the page keeps more than it says")
+    expect(page.script("return Object.keys(sessionStorage)") == ["kuifje"], "the tab keeps more than it says")
+    expect(page.script("return Object.keys(JSON.parse(sessionStorage.kuifje)).sort()") == ["hash", "state"], "the tab keeps other things")
+    state = page.script("return Object.keys(JSON.parse(sessionStorage.kuifje).state).sort()")
+    expect(state == ["a", "b", "gain", "kept", "measure", "of", "page", "prior", "turns", "view", "words"], f"the tab keeps {state}")
+    stored = page.driver.execute_async_script("""const done = arguments[0]; (async () => { await navigator.serviceWorker.ready;
+        const stores = await caches.keys(); done([stores, (await (await caches.open(stores[0])).keys()).map((it) => it.url)]); })();""")
+    expect(len(stored[0]) == 1 and stored[0][0].startswith("kuifje-"), f"the browser has stores {stored[0]}")
+    files = {str(it.relative_to(FOLDER)) for it in FOLDER.rglob("*") if it.is_file()} | {""}
+    expect(all(url.startswith(page.address) and url[len(page.address):] in files for url in stored[1]), f"the browser keeps {stored[1]}")
+    manifest = page.driver.execute_cdp_cmd("Page.getAppManifest", {})
+    expect(not manifest["errors"] and "kuifje" in manifest["data"].lower(), f"the page's manifest has {manifest['errors']}")
     expect(page.driver.execute_async_script("const done = arguments[0]; indexedDB.databases().then((it) => done(it.length))") == 0, "the page keeps a database")
+
+
+def opens_without_a_network(page: Page) -> None:
+    """Once it was there, the page opens and answers where its server is gone."""
+    server = Server(FOLDER)
+    other = Page(page.driver, server.address)
+    other.open()
+    close_when_kept(page, server)
+    other.open("#lesson/2")
+    has(other.answer(), "one of 2 posteriors")
+    has(other.find("#reader-text").text, "2. Hyper-distributions")
+    page.log()
 
 
 # Gallery, course, hands and eyes.
@@ -460,7 +494,8 @@ def fits_a_telephone(page: Page) -> None:
     for width in (360,) if QUICK else (360, 768, 1500):
         page.driver.execute_cdp_cmd("Emulation.setDeviceMetricsOverride", {"width": width, "height": 780, "deviceScaleFactor": 1, "mobile": width < 700})
         page.open()
-        for view in ("hyper", "channel", "leak", "lines", "command"):
+        page.write(example("course/witness.kf"))
+        for view in ("hyper", "channel", "leak", "priors", "traces", "lines", "command"):
             page.view(view)
             over = page.script("return document.documentElement.scrollWidth - window.innerWidth")
             expect(over <= 0, f"{view} is {over} wider than {width}")
@@ -556,8 +591,8 @@ def every_program(page: Page) -> None:
 
 TESTS: list[Callable[[Page], None]] = [
     is_small, answers_at_once, page_commands, shows_views, colours_lines, says_what_is_asked, shows_a_refusal_at_its_place, compares_two_texts, edits_gains,
-    cuts_what_is_large, is_stopped, wants_memory, tells_a_trap, takes_both_modules, keeps_a_link, *keeping.TRIALS, refuses_links, takes_no_markup,
-    fetches_nothing_else, opens_the_gallery, teaches, holds_the_lecture, goes_by_keyboard, fits_a_telephone, can_be_read, knows_the_words,
+    cuts_what_is_large, is_stopped, wants_memory, tells_a_trap, takes_both_modules, keeps_a_link, *keeping.TRIALS, *seeing.TRIALS, refuses_links, takes_no_markup,
+    fetches_nothing_else, opens_without_a_network, opens_the_gallery, teaches, holds_the_lecture, goes_by_keyboard, fits_a_telephone, can_be_read, knows_the_words,
     gallery_hypers,
 ]
 LONG_TESTS: list[Callable[[Page], None]] = [asks_every_command, every_program]

@@ -1,5 +1,5 @@
 #!/usr/bin/env python3
-"""Takes the five pictures of docs/PAGE.md anew: a refusal, a hyper over three values, lines by what they leak, a refinement, and a lesson.
+"""Takes the pictures of docs/PAGE.md anew: a refusal, a hyper and priors over three values, lines by what they leak, a fix, a refinement, and a lesson.
 
     web/tests/screenshots.py [FOLDER]
 
@@ -60,6 +60,22 @@ def lines(page: Page) -> None:
     page.wait(lambda: page.driver.find_elements("css selector", ".blamed"), "the margin")
 
 
+def priors(page: Page) -> None:
+    page.open()
+    page.write(FORECAST)
+    page.view("priors")
+
+
+def fix(page: Page) -> None:
+    page.open()
+    page.write(example("examples/password/early.kf"))
+    page.view("lines")
+    page.press("Look for a fix")
+    page.wait(lambda: "B is A with" in page.answer(), "a fix")
+    page.settle()
+    page.script("window.scrollTo(0, 0)")
+
+
 def refinement(page: Page) -> None:
     page.open()
     page.write(example("examples/pin.kf"))
@@ -86,7 +102,7 @@ def main() -> None:
     folder = Path(sys.argv[1]) if len(sys.argv) > 1 else TOP / "docs"
     server, driver = Server(TOP / "dist" / "page"), chromium(1240, 900)
     page = Page(driver, server.address)
-    for take, height in ((refusal, 420), (hyper, 760), (lines, 760), (refinement, 900), (lesson, 900)):
+    for take, height in ((refusal, 420), (hyper, 760), (priors, 860), (lines, 760), (fix, 900), (refinement, 900), (lesson, 900)):
         driver.execute_cdp_cmd("Emulation.setDeviceMetricsOverride", {"width": 1240, "height": height, "deviceScaleFactor": 1, "mobile": False})
         take(page)
         time.sleep(1)

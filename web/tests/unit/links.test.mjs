@@ -6,7 +6,9 @@ import { deflateRawSync } from "node:zlib";
 import { LONGEST, linkFrom, linkOf } from "../../src/links.mjs";
 import { MOST_TURNS, SETTINGS, VIEWS, opened, tabOf, turnsIn } from "../../src/questions.mjs";
 
-const STATE = { a: "var x : 0..1 := 0;", b: "var y : bool := true;", view: "hyper", of: "a", gain: null, measure: "bayes", words: null, page: null, turns: 1024, kept: {} };
+const STATE = {
+    a: "var x : 0..1 := 0;", b: "var y : bool := true;", view: "hyper", of: "a", gain: null, measure: "bayes", prior: null, words: null, page: null, turns: 1024, kept: {},
+};
 const packed = (state) => `#kf1.${deflateRawSync(JSON.stringify(state)).toString("base64url")}`;
 
 async function restored(state) {
@@ -47,7 +49,7 @@ test("the list of settings is that of the page", () => {
 
 test("a link restores gains, words and files that were kept", async () => {
     const state = {
-        ...STATE, view: "command", of: "b", gain: "{\"over\":9007199254740993}", measure: "table", words: "check certificate-A-B.json a.kf b.kf", page: "lesson/2",
+        ...STATE, view: "command", of: "b", gain: "{\"over\":9007199254740993}", measure: "table", prior: "0 1 60", words: "check certificate-A-B.json a.kf b.kf", page: "lesson/2",
         kept: { "certificate-A-B.json": "{\"verdict\":\"yes\"}" },
     };
     assert.deepEqual(await restored(state), { kind: "state", state });
@@ -65,16 +67,18 @@ test("what is too long for an address is left out, and said", async () => {
 });
 
 test("links of older versions still open", async () => {
-    const { measure, turns, kept, ...first } = STATE;
+    const { measure, turns, kept, prior, ...first } = STATE;
     assert.deepEqual(await linkFrom(packed(first)), { kind: "state", state: STATE });
     assert.deepEqual(await linkFrom(packed({ ...first, measure: "guessing" })), { kind: "state", state: { ...STATE, measure: "guessing" } });
-    assert.deepEqual([measure, turns, kept], ["bayes", 1024, {}]);
+    assert.deepEqual([measure, turns, kept, prior], ["bayes", 1024, {}, null]);
 });
 
 test("a link that means no good is refused", async () => {
     const odd = [
         {}, [], null, "x", { ...STATE, more: 1 }, { ...STATE, view: "__proto__" }, { ...STATE, view: "constructor" }, { ...STATE, a: 5 }, { ...STATE, of: "b", b: null },
         { ...STATE, page: "../x" }, { ...STATE, measure: "table" }, { ...STATE, measure: "tries:5" }, { ...STATE, turns: 0 }, { ...STATE, turns: MOST_TURNS + 1 },
+        { ...STATE, prior: "1" },
+        { ...STATE, prior: "0 0" }, { ...STATE, prior: "1 61" }, { ...STATE, prior: "1 2 3 4" }, { ...STATE, prior: 5 },
         { ...STATE, turns: "7" }, { ...STATE, turns: 1.5 }, { ...STATE, kept: [] }, { ...STATE, kept: null }, { ...STATE, kept: { "a.kf": "" } },
         { ...STATE, kept: { "x.json": 5 } }, { ...STATE, kept: { "x y": "" } }, { ...STATE, kept: { "../x": "" } },
     ];
@@ -105,7 +109,7 @@ test("turns are whole numbers that the program takes", () => {
 });
 
 test("another program has no gain table of the one before", () => {
-    const state = { ...STATE, gain: "{}", measure: "table" };
+    const state = { ...STATE, gain: "{}", measure: "table", prior: "1 2" };
     assert.deepEqual({ ...state, ...opened(state, "var z : bool := true;") }, { ...STATE, a: "var z : bool := true;" });
     assert.deepEqual({ ...state, ...opened(state, state.a) }, state);
 });

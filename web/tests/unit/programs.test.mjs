@@ -7,23 +7,31 @@ test("a nested statement is cut at its own end", () => {
     const text = "var a : bool := flip 1/2;\nif a { observe a; } else { skip; } # why\n"
         + "while a { a := false; } observe not a;\nif a {\n  while a { a := false; } } else { skip; }\n";
     const statement = statementsOf(text);
-    assert.equal(statement(1, 1), "if a { observe a; } else { skip; }");
-    assert.equal(statement(1, 8), "observe a;");
-    assert.equal(statement(2, 1), "while a { a := false; }");
-    assert.equal(statement(2, 25), "observe not a;");
-    assert.equal(statement(3, 1), "if a {");
-    assert.equal(statement(4, 3), "while a { a := false; }");
+    assert.equal(statement(2, 1), "if a { observe a; } else { skip; }");
+    assert.equal(statement(2, 8), "observe a;");
+    assert.equal(statement(3, 1), "while a { a := false; }");
+    assert.equal(statement(3, 25), "observe not a;");
+    assert.equal(statement(4, 1), "if a {");
+    assert.equal(statement(5, 3), "while a { a := false; }");
+});
+
+test("a guard may end with braces, and a statement may begin in the line in which one ends", () => {
+    const text = "var s : 0..2 := 0;\nif s in {0, 1} { skip; } else { while s in {2} { s := 0; } } s := 1;\n";
+    const statement = statementsOf(text);
+    assert.equal(statement(2, 1), "if s in {0, 1} { skip; } else { while s in {2} { s := 0; } }");
+    assert.equal(statement(2, 33), "while s in {2} { s := 0; }");
+    assert.equal(statement(2, 62), "s := 1;");
 });
 
 test("columns count bytes", () => {
-    assert.equal(statementsOf("var a : 0..1 := 0; observe a; # é\n# é\n")(0, 20), "observe a;");
+    assert.equal(statementsOf("var a : 0..1 := 0; observe a; # é\n# é\n")(1, 20), "observe a;");
 });
 
 test("the target is found among the declarations", () => {
     const text = "var x : 0..1 := 0; # about old y;\nvis y : bool := true;\nabout old x, y;\nobserve x;\n";
     assert.deepEqual(targetOf(text), [{ name: "x", isOld: true }, { name: "y", isOld: false }]);
     assert.deepEqual(targetOf("var x : 0..1 := 0;\nvis y : bool := true;\nx := 1;\n"), [{ name: "x", isOld: false }, { name: "y", isOld: false }]);
-    assert.deepEqual(statementLines("var x : 0..1 := 0;\nx := 1;\nwhile x in {0, 1} { x := 2; }\nskip;\n"), [1, 2, 3]);
+    assert.deepEqual(statementLines("var x : 0..1 := 0;\nx := 1;\nwhile x in {0, 1} { x := 2; }\nskip;\n"), [2, 3, 4]);
 });
 
 test("a long text's target is found without its statements", () => {

@@ -14,7 +14,7 @@ export function contents(kind, of, read) {
         } }, text), note === "" ? "" : ` ${note}`);
     if (kind === "course") {
         const lessons = of.lessons.map((lesson, index) => item(`lesson/${index + 1}`, lesson.title, ""));
-        return [element("h2", {}, "A course in eleven lessons"), element("ol", { class: "plain" }, ...lessons)];
+        return [element("h2", {}, "A course in fourteen lessons"), element("ol", { class: "plain" }, ...lessons)];
     }
     if (kind === "pages") {
         const names = Object.keys(of.pages);

@@ -6,8 +6,8 @@ One HTML file that loads nothing, with a slide on each page when it is printed, 
 introduces, its programs, its commands with their answers and pictures, its bold facts, and some questions of the quiz, each with its answer on the
 next slide. The program is asked as the slides are built, and every number on them is what it answers then, but for those that it is asked about: of
 programs, commands and questions. So sentences of the lessons with numbers are left out. Wants markdown-it, and Jinja2 and matplotlib for the pictures
-(Debian: python3-markdown-it, python3-jinja2, python3-matplotlib). Ends with 2 where a word can't be understood, a file can't be read, or an answer of
-the quiz isn't what the program prints.
+(Debian: python3-markdown-it, python3-jinja2, python3-matplotlib). Ends with 2 where a word can't be understood, a file can't be read, one of these
+isn't there, or an answer of the quiz isn't what the program prints.
 """
 
 from __future__ import annotations
@@ -30,6 +30,7 @@ from markdown_it import MarkdownIt
 from markdown_it.token import Token
 
 TOP = Path(__file__).resolve().parents[2]
+QUIZ = TOP / "course" / "quiz"
 sys.path.insert(0, str(TOP / "python" / "src"))
 
 LECTURE = (1, 2, 3, 4, 6, 8)  # for 90 minutes: some two minutes a slide
@@ -48,6 +49,7 @@ NAME_ABOVE = re.compile(r"`([\w./-]+)`:$")
 SENTENCE = re.compile(r"(?:(?<=[.?!])|(?<=[.?!]\*\*))\s+(?=[A-Z`*(])")
 LEAD = re.compile(r"\*\*[^*]+\*\*")
 LINK = re.compile(r"\[([^\]]*)\]\([^)]*\)")
+PROGRAM_LINK = re.compile(r"\]\(([^)]+\.kf)\)")
 CODE = re.compile(r"`[^`]*`")
 
 parser = MarkdownIt("commonmark").enable("table")
@@ -158,7 +160,7 @@ def bold_sentences(text: str) -> Iterator[str]:
     """The sentences of a paragraph that introduce a word, and have no number."""
     for sentence in SENTENCE.split(without_links(text)):
         if "**" in sentence and not has_number(sentence):
-            yield sentence
+            yield re.sub(":$", ".", sentence)
 
 
 def fact_of(text: str) -> str | None:
@@ -305,7 +307,8 @@ def slides_of(lesson: Lesson, quiz: Sequence[Question], asker: Asker) -> Iterato
     for number in ASKED:
         question = quiz[number - 1]
         asked = f'<p class="given">{line_of(without_links(question.asked))}</p>'
-        yield Slide("A question", asked, "quiz")
+        programs = [(QUIZ / name).read_text(encoding="utf-8") for name in PROGRAM_LINK.findall(question.asked)]
+        yield Slide("A question", asked + "".join(map(asked_of, programs)), "quiz")
         printed = [(command, asker.ask(command)) for command in question.commands]
         if not is_printed(question.answer, " ".join(text for _, text in printed)):
             raise SlideError(f"lesson {lesson.number}, question {number}: {question.answer} isn't what the program prints")
@@ -324,7 +327,7 @@ section { position: relative; overflow: hidden; break-after: page; }
 h2 { margin: 0 0 6mm; font-size: 11mm; line-height: 1.15; border-bottom: 1mm solid #0072B2; }
 section.lesson { background: #eef4fa; padding-top: 55mm; }
 section.lesson h2, section.contents h2 { font-size: 16mm; }
-section.contents ul { columns: 2; }
+section.contents ul { columns: 2; column-gap: 14mm; }
 section.quiz h2 { border-color: #D55E00; }
 p.given { font-size: 10mm; }
 li { margin: 0 0 3mm; }
@@ -364,7 +367,7 @@ def build(numbers: Sequence[int], program: Path) -> str:
     with tempfile.TemporaryDirectory() as scratch:
         asker = Asker(program, Path(scratch))
         for lesson in chosen:
-            slides += slides_of(lesson, quiz_of(TOP / "course" / "quiz" / f"{lesson.number}.md"), asker)
+            slides += slides_of(lesson, quiz_of(QUIZ / f"{lesson.number}.md"), asker)
     return page_of(slides, "What programs leak")
 
 
@@ -389,7 +392,7 @@ def main(words: Sequence[str] | None = None) -> None:
         page = build(asked.lessons, program)
         asked.out.parent.mkdir(parents=True, exist_ok=True)
         asked.out.write_text(page, encoding="utf-8")
-    except (SlideError, OSError, subprocess.TimeoutExpired) as cause:
+    except (SlideError, ImportError, OSError, subprocess.TimeoutExpired) as cause:
         reader.exit(2, f"slides: {cause}\n")
 
 

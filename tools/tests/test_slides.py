@@ -120,8 +120,8 @@ def test_each_quiz_has_ten_questions_whose_numbers_the_page_shows(path: Path) ->
 
 
 def test_sentences_with_numbers_are_left_out() -> None:
-    text = "A **prior** is what is known. It sums to 1, the **sum**. In `x1` stands\nthe **name** of [it](there.md). Nothing is bold here."
-    assert list(slides.bold_sentences(text)) == ["A **prior** is what is known.", "In `x1` stands the **name** of it."]
+    text = "A **prior** is what is known. It sums to 1, the **sum**. In `x1` stands\nthe **name** of [it](there.md). Nothing is bold. Look **there**:"
+    assert list(slides.bold_sentences(text)) == ["A **prior** is what is known.", "In `x1` stands the **name** of it.", "Look **there**."]
     assert slides.fact_of("**It stays.** So it is. And 2 is 2. The end.") == "**It stays.** So it is."
     assert slides.fact_of("**It bounds**: at 3.") == "**It bounds**"
     assert slides.fact_of("**At 1** it ends.") is None and slides.fact_of("It is **bold**.") is None
@@ -203,6 +203,15 @@ def test_without_a_program_nothing_is_built(tmp_path: Path, capsys: pytest.Captu
     with pytest.raises(SystemExit) as ended:
         slides.main(["--program", str(tmp_path / "none"), str(tmp_path / "out.html")])
     assert ended.value.code == 2 and "build the program first" in capsys.readouterr().err
+
+
+@needs_program
+def test_a_question_shows_its_program_and_the_answer_what_is_printed(tmp_path: Path) -> None:
+    quiz = [slides.Question("How many has [it](../witness.kf)?", "2", "so.", ("kuifje hyper course/witness.kf | sed -n 3p",), "inners 2")] * 10
+    lesson = slides.Lesson(1, "One", "Aim.", (), (), ())
+    _, question, answer, *_ = slides.slides_of(lesson, quiz, slides.Asker(PROGRAM, tmp_path))
+    assert "How many has it?" in question.body and (TOP / "course" / "witness.kf").read_text().splitlines()[1] in question.body
+    assert '<strong class="made">2</strong>' in answer.body and "inners 2" in answer.body and "inners 2" not in question.body
 
 
 @needs_program

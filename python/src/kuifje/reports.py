@@ -35,7 +35,7 @@ GAINS = ("bayes", "tries:2", "tries:3", "guessing")
 CELLS = 150  # of a channel that is drawn, at most
 BARS = 40  # inners of a hyper that is drawn, at most
 LINES = 60  # of an attack that is shown, at most
-FOLDED = 12  # rows or lines from which on they are folded
+FOLDED = 12  # rows or lines above which they are folded
 PRINTED = 400  # lines of what the program printed that are shown, at most
 
 

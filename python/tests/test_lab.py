@@ -70,7 +70,7 @@ def test_a_report_of_a_model(tmp_path):
     pytest.importorskip("jinja2")
     (tmp_path / "parity.py").write_text(MODEL)
     found = lab("report", f"{tmp_path / 'parity.py'}:half", "-o", tmp_path / "report.html")
-    assert found.exit_code == 0 and "line 5 of parity.py, <code>observe(x % 2)</code>" in (tmp_path / "report.html").read_text()
+    assert found.exit_code == 0 and "line 5 of parity.py (<code>observe(x % 2)</code>)" in (tmp_path / "report.html").read_text()
 
 
 @pytest.mark.parametrize(

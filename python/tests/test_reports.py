@@ -100,7 +100,7 @@ def test_the_summary_by_hand(pins):
     text = " ".join(Page(pins).text.split())
     assert "About old first, old second." in text
     assert "before (prior vulnerability), and 1/3 (0.3333) after (posterior vulnerability): multiplicative leakage 3, which is 1.585 bits" in text
-    assert "Worst line line 5, if first = 1 { observe second = 1; } else { skip; }: if it showed nothing, one guess would be right with" in text
+    assert "Worst line line 5 (if first = 1 { observe second = 1; } else { skip; }): if it showed nothing, one guess would be right with" in text
     assert "with probability 1/9 (0.1111). Best guess at its surest, which comes with probability 1/9 (0.1111), is (1, 1), right with probability 1." in text
     assert text.index("Worst line") < text.index("Vulnerabilities and leakages")
 
@@ -129,7 +129,7 @@ def test_a_model_is_shown_in_python(tmp_path):
     page = Page(report([model_of(tmp_path / "door.py", "early").program()]))
     assert ["5", "−2/9 (0.2222), −1/9 (0.1111) ▮▮▮▮", "        if pin[i] != 0:"] in page.rows
     assert ["2", "", "@model"] in page.rows and ["9", "0 ▯▯▯▯", "        observe(True)"] in page.rows
-    assert "line 5 of door.py, if pin[i] != 0:" in " ".join(page.text.split())
+    assert "line 5 of door.py (if pin[i] != 0:): if it showed nothing" in " ".join(page.text.split())
     assert "The model as a text in the language" in page.text and any(row[-1:] == ["if pin_0 != 0 {  # 5"] for row in page.rows)
 
 

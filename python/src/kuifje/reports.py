@@ -205,7 +205,7 @@ def _worst_line(program: Program, lines: Lines) -> Markup:
         place = _own(program.expansion.place(line))
         where, text = f"line {place.line} of {Path(place.file).name}", place.source
     least = min(silent.posterior for silent in lines.without)
-    said = Markup("{}, <code>{}</code>: if it showed nothing, one guess would be right with probability {}")
+    said = Markup("{} (<code>{}</code>): if it showed nothing, one guess would be right with probability {}")
     return said.format(where, text.strip(), format_number(least))
 
 

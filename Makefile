@@ -1,6 +1,6 @@
 # `make` shows the first example's answer, proves and builds the program, and leaves it as bin/kuifje. docs/BUILDING.md says what each
 # command does and how long it takes.
-.PHONY: first try lib page install uninstall dist test audit hostile bench confirm
+.PHONY: first try lib page slides install uninstall dist test audit hostile bench confirm
 
 PREFIX ?= /usr/local
 LIBDIR ?= $(PREFIX)/lib
@@ -27,6 +27,11 @@ page: web/out/kuifje64.wasm
 
 web/out/kuifje64.wasm: lib/libkuifje.so.0 $(wildcard web/module/*)
 	@web/module/build
+
+# Slides for a lecture of 90 minutes, in dist/slides.html, made of the course: a browser shows them, and prints them to PDF. The program is asked as
+# they are built. LESSONS=2,8 takes other lessons.
+slides: bin/kuifje
+	@/usr/bin/python3 tools/gate/slides.py $(if $(LESSONS),--lessons $(LESSONS)) dist/slides.html && echo dist/slides.html
 
 # The program and the library, the manual page, and what shells and editors know of the program: share/README.md says where each file goes.
 # Built is what isn't there or is older than its sources. `make uninstall`, with the same words, removes just these files again.

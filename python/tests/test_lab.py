@@ -36,6 +36,61 @@ def lock(tmp_path):
     return tmp_path / "lock.kf.j2"
 
 
+MODEL = """from kuifje.model import Public, Secret, model, observe, one_of, uniform
+
+@model
+def half(x: Secret = uniform(range(4))):
+    observe(x % 2)
+
+@model
+def asked(x: Secret = uniform(range(4)), guess: Public = one_of([0, 1])):
+    observe(x == guess)
+
+other = 3
+"""
+
+
+def test_a_leakage_in_the_book_s_words(tmp_path):
+    """Of 9 PINs one guess is right for 3 after the door, log2 3 = 1.585; a parity leaves 2 of 4 values."""
+    found = lab("leak", PIN)
+    assert found.exit_code == 0 and [line.split() for line in found.output.splitlines()] == [
+        ["gain", "bayes", "bits", "of", "min-entropy,", "rounded"],
+        ["prior", "vulnerability", "1/9", "(0.1111)", "3.170"],
+        ["posterior", "vulnerability", "1/3", "(0.3333)", "1.585"],
+        ["multiplicative", "leakage", "3", "1.585"],
+        ["additive", "leakage", "2/9", "(0.2222)"],
+    ]
+    assert lab("leak", PIN, "--printed").output == "gain bayes\nprior 1/9\nposterior 1/3\nquotient 3\ndifference 2/9\n"
+    (tmp_path / "parity.py").write_text(MODEL)
+    assert lab("leak", f"{tmp_path / 'parity.py'}:half", "--gain", "tries:2", "--printed").output.splitlines()[2] == "posterior 1"
+
+
+def test_a_report_of_a_model(tmp_path):
+    pytest.importorskip("matplotlib")
+    pytest.importorskip("jinja2")
+    (tmp_path / "parity.py").write_text(MODEL)
+    found = lab("report", f"{tmp_path / 'parity.py'}:half", "-o", tmp_path / "report.html")
+    assert found.exit_code == 0 and "line 5 of parity.py (<code>observe(x % 2)</code>)" in (tmp_path / "report.html").read_text()
+
+
+@pytest.mark.parametrize(
+    "text, name, said",
+    [
+        (MODEL, "none", "has no model none"),
+        (MODEL, "other", "has no model other"),
+        (MODEL, "asked", "has a program for each of its public inputs"),
+        ("1 / 0", "half", "can't be run: ZeroDivisionError"),
+        ("def", "half", "can't be run: SyntaxError"),
+        (None, "half", "No such file or directory"),
+    ],
+)
+def test_no_such_model_ends_with_2(tmp_path, text, name, said):
+    if text is not None:
+        (tmp_path / "parity.py").write_text(text)
+    found = lab("leak", f"{tmp_path / 'parity.py'}:{name}")
+    assert found.exit_code == 2 and said in found.stderr and found.stderr.count("\n") == 1 and found.output == ""
+
+
 def test_an_order_is_printed_and_drawn(tmp_path):
     pytest.importorskip("matplotlib")
     found = lab("order", PIN, WHOLE, "-o", tmp_path / "order.svg")

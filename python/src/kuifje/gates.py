@@ -235,15 +235,20 @@ def _bound(key: str, found: object) -> Fraction:
 
 
 def _worst_line(program: Program, gain: Gain, timeout: float | None) -> int | None:
-    """The line, from 1, of the statement without which most is lost under a gain; none where none loses anything, or there is no answer.
-
-    Of statements that lose as much it is the first one, and of those in each other the inner one.
-    """
+    """The line of the statement without which most is lost under a gain; none where none loses anything, or there is no answer."""
     try:
         lines = program.lines(gain, timeout)
     except KuifjeError:
         return None
-    losses = _losses(lines, isinstance(gain, str) and less_is_worse(gain))
+    return worst_line(program, lines, isinstance(gain, str) and less_is_worse(gain))
+
+
+def worst_line(program: Program, lines: Lines, guesses: bool = False) -> int | None:
+    """The line, from 1, of the statement without which most is lost, by an answer of ``lines``; none where none loses anything.
+
+    Of statements that lose as much it is the first one, and of those in each other the inner one. ``guesses`` says that the answer counts guesses.
+    """
+    losses = _losses(lines, guesses)
     greatest = max(losses.values(), default=Fraction(0))
     places = [place for place, loss in losses.items() if loss == greatest]
     source = _source(program)

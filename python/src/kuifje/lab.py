@@ -1,4 +1,4 @@
-"""The command ``kuifje-lab``: reports, orders, pictures, attack plans, hints, sweeps, templates, floors and repairs, and a check for pipelines.
+"""The command ``kuifje-lab``: reports, leakage, orders, pictures, attack plans, hints, sweeps, templates, floors and repairs; a check for pipelines.
 
 Each command ends with 0, or with 2 and a line on standard error where it can't be done, which a refusal of a program is, too. ``gate`` ends with 1 as
 well, where a rule doesn't hold, and so do ``decide`` for a no, ``lint`` where it has a hint, ``floor`` where more leaks than what is kept, and
@@ -13,6 +13,7 @@ import warnings
 from collections.abc import Callable
 from concurrent.futures import ProcessPoolExecutor
 from fractions import Fraction
+from importlib.util import module_from_spec, spec_from_file_location
 from pathlib import Path
 from typing import Any
 
@@ -24,10 +25,11 @@ from .observations import plan
 from .lints import SLOW, lint
 from .measured.command import measure
 from .orders import order
-from .program import Program
+from .program import Program, program_of
 from .questions import AsItIsLeft
 from .repair.commands import floor_command, repair_command
 from .values import parse_value
+from .wording import leakage_lines
 
 FILE = click.Path(path_type=Path)
 F = Callable[..., None]
@@ -78,16 +80,53 @@ def _write(text: str, output: Path | None) -> None:
         raise OSError(f"{output or 'standard output'}: {cause.strerror}") from None
 
 
+def _program(file: Path, turns: int) -> Program:
+    """The program in a file, or of a model in a Python file, ``FILE.py:NAME``, which is run. Raises ``ValueError`` where there is no such model."""
+    name, is_model, function = str(file).rpartition(":")
+    if not (is_model and name.endswith(".py")):
+        return Program.from_file(file, turns=turns)
+    from .model import Model
+
+    spec = spec_from_file_location(Path(name).stem, name)
+    assert spec is not None and spec.loader is not None  # of a file that ends with .py
+    module = module_from_spec(spec)
+    try:
+        spec.loader.exec_module(module)
+    except OSError as cause:
+        raise OSError(f"{name}: {cause.strerror}") from None
+    except Exception as cause:
+        raise ValueError(f"{name} can't be run: {type(cause).__name__}: {cause}") from None
+    found = getattr(module, function, None)
+    if not isinstance(found, Model):
+        raise ValueError(f"{name} has no model {function}")
+    try:
+        return program_of(function, found)
+    except TypeError as cause:
+        raise ValueError(f"{name}: {cause}") from None
+
+
 @main.command()
 @click.argument("files", type=FILE, nargs=-1, required=True)
 @click.option("--title", default="What programs leak", show_default=True, help="The report's title.")
 @_output
 @_asking
 def report(files: tuple[Path, ...], title: str, output: Path | None, turns: int, timeout: float | None) -> None:
-    """Writes all that is found about programs as one HTML file that opens anywhere."""
+    """Writes all that is found about programs as one HTML file that opens anywhere. A file may be a model in Python, FILE.py:NAME, which is run."""
     from . import reports
 
-    _write(reports.report([Program.from_file(file, turns=turns) for file in files], title, timeout), output)
+    _write(reports.report([_program(file, turns) for file in files], title, timeout), output)
+
+
+@main.command("leak")
+@click.argument("file", type=FILE)
+@click.option("--gain", default="bayes", show_default=True, help='As for kuifje leak: bayes, "tries:3", guessing, or table:FILE.')
+@click.option("--printed", is_flag=True, help="Prints what kuifje leak prints, byte by byte.")
+@_asking
+def leak_(file: Path, gain: str, printed: bool, turns: int, timeout: float | None) -> None:
+    """Prints prior and posterior vulnerability, multiplicative and additive leakage; of one guess in bits, too, which are rounded. The file may be a
+    model in Python, FILE.py:NAME, which is run."""
+    found = _program(file, turns).leak(gain, timeout)
+    click.echo(str(found) if printed else leakage_lines(found), nl=False)
 
 
 @main.command("order")

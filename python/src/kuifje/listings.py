@@ -53,23 +53,23 @@ def _row(number: int, line: str, losses: Sequence[Fraction], greatest: Fraction,
     return f'<tr{_style(level)}><th scope="row">{number}</th><td style="white-space:nowrap;text-align:right;">{beside}</td>{text}</tr>'
 
 
-def listing(text: str, found: Lines | None = None, caption: str | None = None) -> str:
+def listing(text: str, found: Lines | None = None, caption: str | None = None, first: int = 1) -> str:
     """The text with what its lines leak, by an answer of ``lines`` about it; without one, the text alone.
 
     Beside a line stands by how much the posterior vulnerability would be less if the statement that begins there alone showed nothing (under
-    ``guessing`` how many more guesses would be expected), for each statement that begins there. Raises ``ValueError`` where the answer has a line
-    that the text hasn't.
+    ``guessing`` how many more guesses would be expected), for each statement that begins there. ``first`` is the number of the text's first line, if
+    it is a part of a file. Raises ``ValueError`` where the answer has a line that the text hasn't.
     """
     lines = text.removesuffix("\n").split("\n")
     losses: dict[int, list[Fraction]] = {}
     for silent in found.without if found else ():
-        if silent.line > len(lines):
+        if not first <= silent.line < first + len(lines):
             raise ValueError(f"the text has no line {silent.line}")
         losses.setdefault(silent.line, []).append(found.all.posterior - silent.posterior if found else Fraction(0))
     more = any(loss < 0 for some in losses.values() for loss in some)
     sign, word, head = ("+", "more guesses", "so many more guesses without it") if more else ("−", "less", "so much less without it")
     greatest = max((abs(loss) for some in losses.values() for loss in some), default=Fraction(0))
-    rows = "".join(_row(i, line, [abs(loss) for loss in losses.get(i, ())], greatest, sign) for i, line in enumerate(lines[:MOST], 1))
+    rows = "".join(_row(i, line, [abs(loss) for loss in losses.get(i, ())], greatest, sign) for i, line in enumerate(lines[:MOST], first))
     rows += f'<tr><td colspan="3">.. and {len(lines) - MOST} more lines</td></tr>' if len(lines) > MOST else ""
     heads = "".join(f'<th scope="col">{name}</th>' for name in ("line", head if found else "", "text"))
     above = f"<caption>{html.escape(caption)}</caption>" if caption else ""

@@ -2,11 +2,13 @@
 
 from __future__ import annotations
 
+import ast
 import base64
 import warnings
 from collections.abc import Callable, Iterator, Sequence
-from dataclasses import dataclass, field
+from dataclasses import dataclass, field, replace
 from importlib.resources import files as resources
+from pathlib import Path
 from typing import Any
 
 from jinja2 import Environment, StrictUndefined
@@ -16,12 +18,16 @@ from . import measures
 from .channels import Channel
 from .engine import default_engine
 from .errors import KuifjeError
+from .gates import worst_line
 from .listings import listing
+from .model.errors import Place
+from .model.write import Translation
 from .observations import plan
 from .orders import Order, order
 from .program import Program
-from .questions import AsItIsLeft, warning_of
-from .texts import Hyper, html_table
+from .questions import AsItIsLeft, target_of, warning_of
+from .texts import Attack, Hyper, Leakage, Lines, Move, Printed, format_number, html_table
+from .wording import bits, leakage_rows
 
 __all__ = ["report"]
 
@@ -29,6 +35,8 @@ GAINS = ("bayes", "tries:2", "tries:3", "guessing")
 CELLS = 150  # of a channel that is drawn, at most
 BARS = 40  # inners of a hyper that is drawn, at most
 LINES = 60  # of an attack that is shown, at most
+FOLDED = 12  # rows or lines above which they are folded
+PRINTED = 400  # lines of what the program printed that are shown, at most
 
 
 @dataclass
@@ -40,17 +48,20 @@ class Part:
     table: Markup | None = None
     pictures: list[Markup] = field(default_factory=list)
     missing: str | None = None
+    printed: list[Markup] = field(default_factory=list)
 
 
 @dataclass
 class Section:
-    """What a report has of one program."""
+    """What a report has of one program. ``text`` is that of a model, which is shown as it stands in Python."""
 
     name: str
     question: str
     warning: str | None
     listing: Markup
+    text: Markup | None = None
     refusal: str | None = None
+    summary: list[tuple[str, Markup]] = field(default_factory=list)
     parts: list[Part] = field(default_factory=list)
 
 
@@ -62,8 +73,25 @@ def picture(draw: Callable[[Any], Any], alt: str) -> Markup:
     return Markup('<img alt="{}" src="data:image/svg+xml;base64,{}">').format(alt, source)
 
 
+def _folded(count: int, what: str, shown: Markup) -> Markup:
+    """Something with so many rows or lines, folded where these are many."""
+    return Markup("<details><summary>{} {}</summary>{}</details>").format(count, what, shown) if count > FOLDED else shown
+
+
 def _table(rows: Sequence[dict[str, object]]) -> Markup:
-    return Markup(html_table([{name.replace("_", " "): cell for name, cell in row.items()} for row in rows]))
+    shown = Markup(html_table([{name.replace("_", " "): cell for name, cell in row.items()} for row in rows]))
+    return _folded(len(rows), "rows", shown)
+
+
+def _lines(lines: Sequence[str], most: int) -> Markup:
+    """Lines of a text, the first ones where there are many, and how many more there are."""
+    more = [f".. and {len(lines) - most} more lines"] if len(lines) > most else []
+    return Markup("<pre>{}</pre>").format("\n".join([*lines[:most], *more]))
+
+
+def _printed(answer: Printed) -> Markup:
+    """What the program printed, as it is."""
+    return _lines(str(answer).splitlines(), PRINTED)
 
 
 def _part(title: str, proved: bool, fill: Callable[[Part], None]) -> Part:
@@ -76,31 +104,130 @@ def _part(title: str, proved: bool, fill: Callable[[Part], None]) -> Part:
     return part
 
 
+def _own(place: Place) -> Place:
+    """The place in a model's own function that a place is in, or that calls it."""
+    while place.caller is not None:
+        place = place.caller
+    return place
+
+
+def _function_of(translation: Translation) -> tuple[int, str] | None:
+    """The model's function as it stands in its file, and the number of its first line. None where the file can't be read any more."""
+    places = [_own(place) for place in translation.lines]
+    try:
+        source = Path(places[0].file).read_text(encoding="utf-8")
+        tree = ast.parse(source)
+    except (OSError, ValueError, SyntaxError, IndexError):
+        return None
+    for node in ast.walk(tree):
+        if isinstance(node, ast.FunctionDef) and node.lineno == places[0].line and node.end_lineno is not None:
+            first = min([node.lineno, *(decorator.lineno for decorator in node.decorator_list)])
+            if all(first <= place.line <= node.end_lineno for place in places):
+                return first, "\n".join(source.split("\n")[first - 1 : node.end_lineno])
+    return None
+
+
+def _listings(program: Program, found: Lines | None = None) -> tuple[Markup, Markup | None]:
+    """The program with its lines coloured; of a model its Python, and then its text, too."""
+    text = Markup(listing(program.text.decode(errors="replace"), found))
+    translation = program.expansion
+    function = _function_of(translation) if isinstance(translation, Translation) else None
+    if function is None or not isinstance(translation, Translation):
+        return text, None
+    first, source = function
+    if found is not None:
+        found = replace(found, without=tuple(replace(silent, line=_own(translation.place(silent.line)).line) for silent in found.without))
+    return Markup(listing(source, found, first=first)), text
+
+
 def _section(program: Program, timeout: float | None) -> Section:
     text = program.text.decode(errors="replace")
-    section = Section(program.name, program.question or "", warning_of(text), Markup(listing(text)))
+    shown, written = _listings(program)
+    section = Section(program.name, program.question or "", warning_of(text), shown, written)
     try:
         hyper = program.hyper(timeout)
     except KuifjeError as cause:
         section.refusal = str(cause)
         return section
+    leaking: list[Lines] = []
 
     def lines(part: Part) -> None:
-        section.listing = Markup(listing(text, program.lines(timeout=timeout)))
+        leaking.append(found := program.lines(timeout=timeout))
+        section.listing, section.text = _listings(program, found)
 
     coloured = _part("What each line leaks", True, lines)
+    section.summary = list(_summary(program, leaking[0] if leaking else None, timeout))
     section.parts = [*([coloured] if coloured.missing else []), *_parts(program, hyper, timeout)]
     return section
+
+
+def _summary(program: Program, lines: Lines | None, timeout: float | None) -> Iterator[tuple[str, Markup]]:
+    """What leaks, by how much, at which line, and the best guess: each with its head. What gets no answer is left out."""
+    target = target_of(program.text.decode(errors="replace"))
+    if target is not None:
+        yield "About", Markup("<code>{}</code>").format(target)
+    try:
+        leak, attack = program.leak("bayes", timeout), program.attack("bayes", timeout)
+    except KuifjeError:
+        return
+    yield "One guess", _how_much(leak)
+    if lines is not None:
+        yield "Worst line", _worst_line(program, lines)
+    yield "Best guess", _best_guess(attack)
+
+
+def _how_much(leak: Leakage) -> Markup:
+    """Prior and posterior vulnerability to one guess, and both leakages."""
+    if leak.additive_leakage == 0:
+        return Markup("is right with probability {} before and after: to one guess nothing leaks. Another adversary may gain").format(
+            format_number(leak.prior_vulnerability)
+        )
+    assert leak.multiplicative_leakage is not None  # some value has a probability above 0
+    return Markup(
+        "is right with probability {} before (prior vulnerability), and <strong>{}</strong> after (posterior vulnerability): "
+        "multiplicative leakage {}, which is {} bits of min-entropy, rounded; additive leakage {}"
+    ).format(
+        format_number(leak.prior_vulnerability),
+        format_number(leak.posterior_vulnerability),
+        format_number(leak.multiplicative_leakage),
+        bits(leak.multiplicative_leakage),
+        format_number(leak.additive_leakage),
+    )
+
+
+def _worst_line(program: Program, lines: Lines) -> Markup:
+    """The line without which one guess loses most."""
+    line = worst_line(program, lines)
+    if line is None:
+        return Markup("none: to one guess each line is worth nothing beside the others. Several may show the same")
+    where, text = f"line {line}", program.text.decode(errors="replace").split("\n")[line - 1]
+    if isinstance(program.expansion, Translation):
+        place = _own(program.expansion.place(line))
+        where, text = f"line {place.line} of {Path(place.file).name}", place.source
+    least = min(silent.posterior for silent in lines.without)
+    said = Markup("{} (<code>{}</code>): if it showed nothing, one guess would be right with probability {}")
+    return said.format(where, text.strip(), format_number(least))
+
+
+def _best_guess(attack: Attack) -> Markup:
+    """What to guess where one guess is surest, and how likely a run leaves that; of several the likeliest."""
+    best: Move = max(attack.moves, key=lambda move: (move.value, move.outer))
+    return Markup("at its surest, which comes with probability {}, is <code>{}</code>, right with probability {}").format(
+        format_number(best.outer), next(iter(best.actions)), format_number(best.value)
+    )
 
 
 def _parts(program: Program, hyper: Hyper, timeout: float | None) -> Iterator[Part]:
     """The parts of a program's section."""
 
     def vulnerabilities(part: Part) -> None:
-        part.table = _table([program.leak(gain, timeout).records()[0] for gain in GAINS])
+        found = [program.leak(gain, timeout) for gain in GAINS]
+        part.table = Markup("").join(Markup(html_table(leakage_rows(leak))) for leak in found)
+        part.printed = [_printed(leak) for leak in found]
 
     def posteriors(part: Part) -> None:
         part.table = _table(hyper.records())
+        part.printed = [_printed(hyper)]
         if len(hyper.prior) <= 3:
             part.pictures.append(picture(lambda p: p.triangle(hyper), "The posteriors in a triangle"))
         if len(hyper.inners) <= BARS and len(hyper.prior) <= 20:
@@ -108,12 +235,12 @@ def _parts(program: Program, hyper: Hyper, timeout: float | None) -> Iterator[Pa
 
     def attack(part: Part) -> None:
         lines = str(plan(program, timeout=timeout)).splitlines()
-        more = [f".. and {len(lines) - LINES} more lines"] if len(lines) > LINES else []
-        part.table = Markup("<pre>{}</pre>").format("\n".join(lines[:LINES] + more))
+        part.table = _folded(len(lines), "lines", _lines(lines, LINES))
 
     def trail(part: Part) -> None:
         found = program.trail(timeout)
         part.table = _table(found.records())
+        part.printed = [_printed(found)]
         part.pictures.append(picture(lambda p: p.trail(program, found), "How many posteriors there are after each statement"))
 
     yield _part("Vulnerabilities and leakages", True, vulnerabilities)
@@ -125,6 +252,7 @@ def _parts(program: Program, hyper: Hyper, timeout: float | None) -> Iterator[Pa
         channels.append(channel := program.channel(timeout))
         part.title += f"; its Bayes capacity is {program.capacity(timeout)}"
         part.table = _table(channel.records())
+        part.printed = [_printed(channel)]
         if len(channel.rows) * len(channel.columns) <= CELLS:
             part.pictures.append(picture(lambda p: p.channel(channel), "The channel as a heat map"))
 

@@ -388,6 +388,11 @@ class Leakage(Printed):
             f"quotient {quotient}\ndifference {self.additive_leakage}\n"
         )
 
+    def _repr_html_(self) -> str:
+        from .wording import leakage_rows
+
+        return html_table(leakage_rows(self), self.question)
+
 
 @dataclass(frozen=True)
 class Move:

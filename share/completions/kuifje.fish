@@ -1,4 +1,5 @@
-# Completions of kuifje for fish: commands, options, gains and files. .ci/words compares the words with the code.
+# Completions of kuifje for fish: commands, options, gains and files.
+# words: written by .ci/tables
 set -l commands \
     'hyper:each posterior that a run may leave, and how likely it is' \
     'traces:what can be shown, with the probability of each value beside it' \
@@ -18,9 +19,12 @@ set -l commands \
     'covers:whether B leaks no more than A, whatever all variables are at first' \
     'check:whether a certificate proves what it says' \
     'make:a summary of a large program that kuifje makes itself'
-set -l with_gain leak lines attack
+set -l with_gain leak attack lines
 set -l with_json refine
 set -l gains bayes tries: guessing table:
+set -l with_certificate check
+set -l with_program hyper traces channel trail leak attack reach lines blame quiet capacity cascade parallel choice refine covers check
+# to here
 
 # Folders, and the files whose names end in . and the first argument, each after the second one.
 function __kuifje_files
@@ -40,5 +44,5 @@ complete -c kuifje -l turns -x -d 'how many turns a loop may have, 1 to 65535'
 complete -c kuifje -n "__fish_seen_subcommand_from $with_gain" -l gain -x -a "$gains (__kuifje_files json table:)" \
     -d 'what the adversary does and gains'
 complete -c kuifje -n "__fish_seen_subcommand_from $with_json" -l json -d 'print the verdict as a certificate'
-complete -c kuifje -n '__fish_seen_subcommand_from check' -a '(__kuifje_files json)'
-complete -c kuifje -n "__fish_seen_subcommand_from $words; and not __fish_seen_subcommand_from make" -a '(__kuifje_files kf)'
+complete -c kuifje -n "__fish_seen_subcommand_from $with_certificate" -a '(__kuifje_files json)'
+complete -c kuifje -n "__fish_seen_subcommand_from $with_program" -a '(__kuifje_files kf)'

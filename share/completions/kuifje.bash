@@ -1,12 +1,12 @@
 # Completions of kuifje for bash: commands, options, gains and files.
 _kuifje() {
     # words: written by .ci/tables
-    local commands='hyper traces channel trail leak attack reach lines blame quiet capacity cascade parallel choice refine covers check make'
+    local commands='hyper traces leak attack reach lines blame quiet trail refine covers check channel capacity cascade parallel choice make'
     local with_gain='leak attack lines'
     local with_json='refine'
     local gains='bayes tries: guessing table:'
     local certificates='check/0'
-    local programs='hyper/0 traces/0 channel/0 trail/0 leak/0 attack/0 reach/0 lines/0 blame/0 quiet/0 capacity/0 cascade/0 cascade/1 parallel/0 parallel/1 choice/0 choice/1 refine/0 refine/1 covers/0 covers/1 check/1 check/2'
+    local programs='hyper/0 traces/0 leak/0 attack/0 reach/0 lines/0 blame/0 quiet/0 trail/0 refine/0 refine/1 covers/0 covers/1 check/1 check/2 channel/0 capacity/0 cascade/0 cascade/1 parallel/0 parallel/1 choice/0 choice/1'
     # to here
     local words word before command='' values=0 place
 

@@ -3,10 +3,11 @@
     .ci/tables            ends with 1 where a file has something else than the tables say, and says where
     .ci/tables --write    writes what is derived first
 
-The tables are share/commands.toml, share/keywords.toml and share/refusals.toml, the rows of crates/kf_ops, and for explanations of refusals the page
-docs/REFUSALS.md (`tables_rows`). What is derived stands between two lines of a file, or is a whole file (`tables_blocks`): tables of pages and parts of
-the manual page (`tables_pages`, `tables_manual`), completions, syntax files and the words of the Python package and of the page (`tables_words`). A part
-that isn't found is a fault. The code's own rows, and what else names commands, operators and refusals, are compared row by row (`tables_places`).
+The tables are share/commands.toml, share/keywords.toml and share/refusals.toml, the rows of crates/kf_ops, and for explanations of refusals the
+page docs/REFUSALS.md (`tables_rows`). What is derived stands between two lines of a file, or is a whole file (`tables_blocks`): tables of pages and
+parts of the manual page (`tables_pages`, `tables_manual`), completions, syntax files and the words of the Python package and of the page
+(`tables_words`). A part that isn't found is a fault. The code's own rows, and what else names commands, operators and refusals, are compared row by
+row (`tables_places`).
 """
 
 from __future__ import annotations

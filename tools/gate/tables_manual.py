@@ -9,7 +9,7 @@ from collections.abc import Iterator
 from .tables_rows import Case, Command, Fault, Tables
 
 LINKS = re.compile(r" \(\[[^]]+\]\([^)]+\)(?:, \[[^]]+\]\([^)]+\))*\)")
-NAMED = re.compile(r"(`[^`]+`[,.;:]*|(?<![\w./^-])(?:FILE|CERT|NAME|N/D|[ABNGCP])(?![\w/'])[,.;:]*)(?: |$)")
+NAMED = re.compile(r"(`[^`]+`[,.;:]*|(?<![\w./^-])(?!^A )(?:FILE|CERT|NAME|N/D|[ABNGCP])(?![\w/'])[,.;:]*)(?: |$)")
 
 
 def mdoc(text: str, commands: list[str]) -> Iterator[str]:

@@ -9,7 +9,7 @@ from itertools import groupby
 
 from . import tables_manual as manual
 from .tables_blocks import Block, code, marked, table
-from .tables_rows import MINUS, Case, Fault, Operator, Tables
+from .tables_rows import MINUS, USAGE, Case, Fault, Operator, Tables
 
 EXPLAINED = "docs/REFUSALS.md"
 NAME = re.compile(r"(?=\*\*`?[A-Z][A-Za-z0-9]*`?\*\*|\*\*`[^`]*`\*\*|\*\*The usage line)")  # where that of a refusal begins there
@@ -122,12 +122,17 @@ def explanation(ending: str, below: list[str]) -> str:
     return re.sub(r":$", ".", text)
 
 
+def ending_cell(words: list[str]) -> str:
+    """How lines end; the usage line, which isn't quoted on the page, by that name."""
+    return "the usage line" if words == [USAGE] else code(words)
+
+
 def refusals(tables: Tables) -> Iterator[Block]:
     """The tables of statuses and refusals, and the explanations for the Python package."""
     page, found = tables.text(EXPLAINED), tables.endings
     cases = (case_cells(status.number, case) for status in tables.statuses for case in status.case)
     yield table("docs/COMMANDS.md", "| Status | Comes where | `out` | Line on `err` |", cases)
-    rows = ([code(words), str(number), f"[{section}](#{anchor(section)})"] for (number, section), words in found.items())
+    rows = ([ending_cell(words), str(number), f"[{section}](#{anchor(section)})"] for (number, section), words in found.items())
     yield table(EXPLAINED, "| Ends with | Status | See |", rows)
     explained = {
         f"{number} {word}": {"section": anchor(section), "text": explanation(word, paragraphs(page, section))}

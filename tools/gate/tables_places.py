@@ -1,7 +1,7 @@
 """What isn't written from the tables, and is compared with them: the code's own rows, and every other place that names a row.
 
-Rows of the code are read by the texts in them, whatever the rest of a row looks like, and counted a second way, by something else that each row has: a
-row that can't be read is a fault, and is never passed over. Everywhere else each row of a table is looked for by its name alone.
+Rows of the code are read by the texts in them, whatever the rest of a row looks like, and counted a second way, by something else that each row has:
+a row that can't be read is a fault, and is never passed over. Everywhere else each row of a table is looked for by its name alone.
 """
 
 from __future__ import annotations
@@ -9,7 +9,7 @@ from __future__ import annotations
 import re
 from collections.abc import Iterable, Iterator
 
-from .tables_rows import COMMANDS, KEYWORDS, LEXER, MINUS, REFUSALS, Command, Fault, Operator, Tables, part
+from .tables_rows import COMMANDS, KEYWORDS, LEXER, REFUSALS, USAGE, Command, Fault, Tables, part
 
 ALWAYS = (0, 4, 12)  # how each command may end, whatever it reads
 NAMED = r"(?<![\w-])WORD(?![\w-])"
@@ -22,14 +22,14 @@ WRITTEN_COMMANDS = [  # these are written from the table; that no row is lost on
     "share/completions/kuifje.bash",
     "share/completions/_kuifje",
     "share/completions/kuifje.fish",
-    "python/src/kuifje/tables.py",
+    "python/src/kuifje/vocabulary.py",
     "web/src/words.mjs",
 ]
 WRITTEN_WORDS = [
     "docs/LANGUAGE.md",
     "share/vim/syntax/kuifje.vim",
     "share/textmate/kuifje.tmLanguage.json",
-    "python/src/kuifje/tables.py",
+    "python/src/kuifje/vocabulary.py",
     "web/src/words.mjs",
 ]
 
@@ -220,7 +220,7 @@ def of_refusals(tables: Tables) -> Iterator[str]:
     for name in ("docs/COMMANDS.md", "share/man/kuifje.1"):
         yield from missing("the line", lines, tables, "WORD", name)
     for name in ("docs/REFUSALS.md", "share/man/kuifje.1", "hostile/program.py", "python/src/kuifje/refusals.json"):
-        yield from missing("the refusal", [text for text in texts if text != "usage line"], tables, r"(?<!\w)WORD(?!\w)", name)
+        yield from missing("the refusal", [text for text in texts if text != USAGE], tables, r"(?<!\w)WORD(?!\w)", name)
 
 
 def faults_of_places(tables: Tables) -> Iterator[str]:

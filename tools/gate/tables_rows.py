@@ -13,6 +13,7 @@ from typing import Any, TypeVar
 COMMANDS, KEYWORDS, REFUSALS = "share/commands.toml", "share/keywords.toml", "share/refusals.toml"
 OPERATORS, LEXER = "crates/kf_ops/src/table.rt", "crates/kf_lex/src/words.rt"
 CALL = 8  # the level of operators that are written before brackets
+USAGE = "usage line"  # what docs/REFUSALS.md calls that line
 MINUS = 7  # and of the minus before a number, whose word in the code is ~
 Row = TypeVar("Row")
 
@@ -88,7 +89,7 @@ class Case:
     @property
     def endings(self) -> tuple[tuple[str, tuple[str, ...]], ...]:
         """How its line may end, by the heading of docs/REFUSALS.md that explains it."""
-        ending = "usage line" if "usage" in self.line else re.sub("^kuifje: (NAME: )?", "", self.line)
+        ending = USAGE if "usage" in self.line else re.sub("^kuifje: (NAME: )?", "", self.line)
         return self.words or (((self.section, (ending,)),) if self.section else ())
 
 

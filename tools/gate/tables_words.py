@@ -102,14 +102,11 @@ def in_textmate(tables: Tables) -> Block:
         "keyword.operator": "|".join(re.escape(sign) for sign in tables.by_length if sign not in PUNCTUATION),
         "punctuation": "|".join(re.escape(sign) for sign in tables.by_length if sign in PUNCTUATION),
     }
-    grammar = {
-        "name": "Kuifje",
-        "scopeName": "source.kuifje",
-        "comment": WRITTEN,
-        "fileTypes": ["kf"],
-        "patterns": [{"name": f"{name}.kuifje", "match": pattern} for name, pattern in patterns.items()],
-    }
-    return Block("share/textmate/kuifje.tmLanguage.json", tuple(json.dumps(grammar, indent=2).split("\n")))
+    head = {"name": "Kuifje", "scopeName": "source.kuifje", "comment": WRITTEN, "fileTypes": ["kf"]}
+    listed = [json.dumps({"name": f"{name}.kuifje", "match": pattern}) for name, pattern in patterns.items()]
+    lines = ["{", *(f"  {quoted([name])}: {json.dumps(value)}," for name, value in head.items()), '  "patterns": [']
+    lines += [*(f"    {line}," for line in listed[:-1]), f"    {listed[-1]}", "  ]", "}"]
+    return Block("share/textmate/kuifje.tmLanguage.json", tuple(lines))
 
 
 def in_python(tables: Tables) -> Block:
@@ -117,7 +114,7 @@ def in_python(tables: Tables) -> Block:
     lines = (
         f'"""Commands, operators, reserved words and signs: {WRITTEN}."""',
         "",
-        "COMMANDS: dict[str, tuple[int, str, str]] = {  # how many files each names, what stands after them, and whether it has a gain: no, may, needs",
+        "COMMANDS: dict[str, tuple[int, str, str]] = {  # how many files each names, what stands after them, and whether it has a gain",
         *(f"    {quoted([row.word])}: ({len(row.files)}, {quoted([row.value, row.gain])})," for row in tables.commands),
         "}",
         "LEVELS: tuple[tuple[str, ...], ...] = (  # of operators, from the loosest to the tightest, without the minus before a number",
@@ -130,7 +127,7 @@ def in_python(tables: Tables) -> Block:
         ")",
         f"SIGNS = ({quoted(tables.by_length)})",
     )
-    return Block("python/src/kuifje/tables.py", lines)
+    return Block("python/src/kuifje/vocabulary.py", lines)
 
 
 def on_the_page(tables: Tables) -> Block:

@@ -1,18 +1,13 @@
 // What the page has to know of a program's text itself: the words that the editor colours, and where the top-level statements stand.
+import { SIGNS, WORDS } from "./words.mjs";
 
-export const WORDS = {
-    declaration: ["var", "vis", "about", "old"],
-    type: ["bool", "set", "of"],
-    statement: ["skip", "observe", "if", "else", "while"],
-    distribution: ["uniform", "choose", "flip"],
-    constant: ["true", "false"],
-    operator: ["or", "and", "not", "in", "union", "less", "div", "mod", "inter", "xor", "implies", "subset"],
-    function: ["size", "cond", "min", "max", "abs"],
-};
+export { WORDS };
+
 /** Texts of more characters, or with a longer line, are shown without colours and marks, and so at once. */
 const MOST_MARKED = 1 << 16;
 const LONGEST_MARKED = 5000;
-const TOKEN = /#[^\n]*|[A-Za-z_][A-Za-z0-9_]*|[0-9]+|:=|\.\.|!=|<=|>=|\S/g;
+const LONG_SIGNS = SIGNS.filter((sign) => sign.length > 1).map((sign) => sign.replace(/\W/g, "\\$&"));
+const TOKEN = new RegExp(["#[^\\n]*", "[A-Za-z_][A-Za-z0-9_]*", "[0-9]+", ...LONG_SIGNS, "\\S"].join("|"), "g");
 const DECLARES = new Set(["var", "vis", "about"]);
 const BEGINS = new Set(["skip", "observe", "if", "while"]);
 const NO_NAMES = new Set(Object.values(WORDS).reduce((all, some) => all.concat(some), []));

@@ -43,32 +43,38 @@ def write(tables: Tables) -> Iterator[str]:
             yield name
 
 
-def faults(tables: Tables) -> Iterator[str]:
-    """Where a file differs from the tables."""
+def faults_of_blocks(tables: Tables) -> Iterator[str]:
+    """Where something else stands than what is written."""
     for block in written(tables):
         try:
             yield from block.differences(tables.text(block.name))
-        except (Fault, FileNotFoundError) as error:
+        except FileNotFoundError:
+            yield f"{block.name}: there is no such file"
+        except Fault as error:
             yield str(error)
-    yield from faults_of_places(tables)
 
 
-def main(words_given: list[str]) -> int:
+def run(top: Path, is_written: bool) -> tuple[list[str], list[str]]:
+    """The files that were written, and where a file differs from the tables."""
+    try:
+        tables = Tables(top)
+        names = list(write(tables)) if is_written else []
+        return names, [*faults_of_blocks(tables), *faults_of_places(tables)]
+    except Fault as error:
+        return [], [str(error)]
+
+
+def main(given: list[str]) -> int:
     """Compares, or writes and compares. Returns the status to end with."""
-    if words_given not in ([], ["--write"]):
+    if given not in ([], ["--write"]):
         print("tables: it takes no word but --write", file=sys.stderr)
         return 2
-    try:
-        tables = Tables(TOP)
-        if words_given:
-            for name in write(tables):
-                print(f"tables: {name} is written")
-        found = list(faults(tables))
-    except Fault as error:
-        found = [str(error)]
-    for fault in found:
+    names, faults = run(TOP, bool(given))
+    for name in names:
+        print(f"tables: {name} is written")
+    for fault in faults:
         print(f"tables: {fault}", file=sys.stderr)
-    return 1 if found else 0
+    return 1 if faults else 0
 
 
 if __name__ == "__main__":

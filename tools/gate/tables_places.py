@@ -13,6 +13,9 @@ from .tables_rows import COMMANDS, KEYWORDS, LEXER, REFUSALS, USAGE, Command, Fa
 
 ALWAYS = (0, 4, 12)  # how each command may end, whatever it reads
 NAMED = r"(?<![\w-])WORD(?![\w-])"
+HOSTILE = "hostile/*.py", "tools/gate/hostile/*.py"  # stress tests, and what they allow the program to say
+BESIDE = ".ci/beside", ".ci/ways", "tools/gate/beside.py", "tools/gate/ways.py"  # plain programs that work answers out another way
+PLAIN = ".ci/plain.py", "tools/gate/plain.py"
 WRITTEN_COMMANDS = [  # these are written from the table; that no row is lost on the way is seen here
     "README.md",
     "docs/COMMANDS.md",
@@ -47,7 +50,8 @@ def rows(place: str, found: Iterable[str], wanted: Iterable[str], table: str, **
 
 def missing(what: str, words: Iterable[str], tables: Tables, form: str, *patterns: str) -> Iterator[str]:
     """The words that none of these files has in this form, in which WORD stands for it."""
-    text, place = tables.texts(*patterns), " or ".join(patterns)
+    text = tables.texts(*patterns)
+    place = " or ".join([pattern for pattern in patterns if any(tables.top.glob(pattern))] or patterns)
     absent = [word for word in words if not re.search(form.replace("WORD", re.escape(word)), text, re.MULTILINE)]
     if absent:
         yield f"{place}: {what} {', '.join(absent)} is missing there"
@@ -123,8 +127,8 @@ def of_commands(tables: Tables) -> Iterator[str]:
     yield from missing("the command", tables.words, tables, r"^words kuifje (?:.* )?WORD(?: |$)", "crates/kf_cases/data/*.cases")
     for name in ("docs/FORMATS.md", "docs/COSTS.md", "CHANGELOG.md"):
         yield from missing("the command", tables.words, tables, "`(?:kuifje )?WORD[` ]|kuifje WORD ", name)
-    yield from missing("the command", tables.words, tables, NAMED, "hostile/*.py")
-    yield from missing("the command", read, tables, NAMED, ".ci/beside", ".ci/ways", "tools/gate/beside.py", "tools/gate/ways.py")
+    yield from missing("the command", tables.words, tables, NAMED, *HOSTILE)
+    yield from missing("the command", read, tables, NAMED, *BESIDE)
     functions = [word.replace("-", "_") for word in read]
     yield from missing("the function", functions, tables, r"^(?:    )?def WORD\(", "python/src/kuifje/program.py")
 
@@ -158,7 +162,7 @@ def of_operators(tables: Tables) -> Iterator[str]:
     grammar = part(tables.text(page), "\nprogram = ", "```", page)
     yield from rows(f"{page}, the grammar", sorted(set(re.findall(r'"([^"]+)"', grammar))), reserved + tables.signs, "the tables")
     yield from missing("the operator", sorted(text), tables, r"(?<!\w)WORD(?!\w)", "crates/kf_cases/data/expressions.cases")
-    yield from missing("the operator", sorted(text), tables, '"WORD"', ".ci/plain.py", "tools/gate/plain.py")
+    yield from missing("the operator", sorted(text), tables, '"WORD"', *PLAIN)
     yield from missing("the operator", sorted(text - {"-"}), tables, '"WORD"', "crates/kf_layer_tests/src/tests/operators.rt")
     for row in tables.operators:
         yield from missing("the operator", [row.text], tables, rf'\({row.level}, "WORD", ', "audit/coq/definitions/Language.v")
@@ -215,12 +219,13 @@ def of_refusals(tables: Tables) -> Iterator[str]:
     for number, name in ((5, "docs/LANGUAGE.md"), (6, "docs/COMMANDS.md")):
         words = [word for (each, _), some in tables.endings.items() if each == number for word in some]
         yield from missing("the refusal", words, tables, "`WORD`", name)
-    texts = [max(re.findall(r"[A-Z]\w+|[a-z][a-z ]*[a-z]", word), key=len) for words in tables.endings.values() for word in words]
     lines = [case.line for status in tables.statuses for case in status.case if case.line]
     for name in ("docs/COMMANDS.md", "share/man/kuifje.1"):
         yield from missing("the line", lines, tables, "WORD", name)
-    for name in ("docs/REFUSALS.md", "share/man/kuifje.1", "hostile/program.py", "python/src/kuifje/refusals.json"):
-        yield from missing("the refusal", [text for text in texts if text != USAGE], tables, r"(?<!\w)WORD(?!\w)", name)
+    endings = [word for words in tables.endings.values() for word in words if word != USAGE]
+    texts = [max(re.findall(r"[A-Z]\w+|[a-z][a-z ]*[a-z]", ending), key=len) for ending in endings]
+    for place in (["docs/REFUSALS.md"], ["share/man/kuifje.1"], ["python/src/kuifje/refusals.json"], HOSTILE):
+        yield from missing("the refusal", texts, tables, r"(?<!\w)WORD(?!\w)", *place)
 
 
 def faults_of_places(tables: Tables) -> Iterator[str]:

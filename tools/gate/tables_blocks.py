@@ -29,7 +29,7 @@ class Block:
     def bounds(self, lines: list[str]) -> tuple[int, int]:
         """The places in a file's lines between which these stand. Raises ``Fault`` where there is no such part, or more than one."""
         if not self.begin:
-            return 0, len(lines) - 1
+            return 0, len(lines)
         if lines.count(self.begin) != 1:
             raise Fault(f"{self.name}: the line {self.begin.strip()!r} stands there {lines.count(self.begin)} times, and not once")
         first = lines.index(self.begin) + 1
@@ -39,20 +39,21 @@ class Block:
 
     def into(self, text: str) -> str:
         """The file's text with these lines in it."""
+        if not self.begin:
+            return "\n".join(self.lines) + "\n"
         lines = text.split("\n")
         first, last = self.bounds(lines)
         return "\n".join([*lines[:first], *self.lines, *lines[last:]])
 
     def differences(self, text: str) -> Iterator[str]:
-        """What the file's text has in the place of these lines."""
-        lines = text.split("\n")
-        first, last = self.bounds(lines)
-        found = lines[first:last]
-        if tuple(found) == self.lines:
+        """What the file's text has in the place of these lines, where it isn't these."""
+        if self.into(text) == text:
             return
+        lines = text.split("\n")
+        found = lines[slice(*self.bounds(lines))]
         yield f"{self.place}: it isn't what the tables say, which .ci/tables --write writes"
         yield from (f"{self.place}: it lacks {shortened(line)}" for line in self.lines if line not in found)
-        yield from (f"{self.place}: it has {shortened(line)}" for line in found if line not in self.lines)
+        yield from (f"{self.place}: it has {shortened(line)}" for line in found if line and line not in self.lines)
 
 
 def shortened(line: str) -> str:

@@ -48,17 +48,15 @@ def faults_of_blocks(tables: Tables) -> Iterator[str]:
     for block in written(tables):
         try:
             yield from block.differences(tables.text(block.name))
-        except FileNotFoundError:
-            yield f"{block.name}: there is no such file"
         except Fault as error:
             yield str(error)
 
 
-def run(top: Path, is_written: bool) -> tuple[list[str], list[str]]:
+def run(top: Path, writes: bool) -> tuple[list[str], list[str]]:
     """The files that were written, and where a file differs from the tables."""
     try:
         tables = Tables(top)
-        names = list(write(tables)) if is_written else []
+        names = list(write(tables)) if writes else []
         return names, [*faults_of_blocks(tables), *faults_of_places(tables)]
     except Fault as error:
         return [], [str(error)]

@@ -68,8 +68,12 @@ def marked(name: str, sign: str, title: str, lines: Iterable[str], indent: str =
 
 def table(name: str, header: str, rows: Iterable[Iterable[str]]) -> Block:
     """A table of a page: it is found by its header, and ends where a line is empty."""
-    ruler = "|---" * (header.count("|") - 1) + "|"
-    return Block(name, (ruler, *(f"| {' | '.join(row)} |".replace("|  |", "| |") for row in rows)), header)
+    columns = header.count("|") - 1
+    lines = [f"| {' | '.join(row)} |".replace("|  |", "| |") for row in rows]
+    for line in lines:
+        if line.count("|") != columns + 1 or "\n" in line:
+            raise Fault(f"{name}: a row of a table can't have an upright stroke or a line's end: {line!r}")
+    return Block(name, ("|---" * columns + "|", *lines), header)
 
 
 def code(words: Iterable[str], between: str = ", ") -> str:

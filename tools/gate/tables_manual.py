@@ -45,7 +45,9 @@ def listed(words: list[str]) -> Iterator[str]:
     """Words one after the other, with commas and an and."""
     for word in words[:-2]:
         yield f".Ql {word} ,"
-    yield from (f".Ql {words[-2]}", "and", f".Ql {words[-1]} .")
+    if len(words) > 1:
+        yield from (f".Ql {words[-2]}", "and")
+    yield f".Ql {words[-1]} ."
 
 
 def ended(case: Case, tables: Tables) -> Iterator[str]:

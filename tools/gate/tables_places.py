@@ -64,7 +64,8 @@ def of_kf_words(tables: Tables) -> Iterator[str]:
     """The rows of the code, how many values each has, and whether it takes `--gain` and `--json`; and the rows of the definition."""
     code, definition = "crates/kf_words/src/commands.rt", "crates/kf_words/specs/Task.antt"
     table = part(tables.text(code), "const COMMANDS: ", "\n];", code)
-    declared, body = int((re.search(r"; (\d+)\]", table) or ["", "0"])[1]), table.split("= &[", 1)[-1]
+    kind, _, body = table.partition("= &[")
+    declared = sum(map(int, re.findall(r"; (\d+)\]", kind)))
     pieces = re.split(r'"([^"]*)"', body)
     by_word = dict(zip(pieces[1::2], pieces[2::2], strict=True))
     # Until `lines` is a row of kf_words: its call has it. Delete these two lines when it is one.
@@ -124,7 +125,7 @@ def of_commands(tables: Tables) -> Iterator[str]:
     read = [row.word for row in tables.commands if row.files]
     for name in WRITTEN_COMMANDS:
         yield from missing("the command", tables.words, tables, NAMED, name)
-    yield from missing("the command", tables.words, tables, r"^words kuifje (?:.* )?WORD(?: |$)", "crates/kf_cases/data/*.cases")
+    yield from missing("the command", tables.words, tables, r" kuifje WORD(?: |$)", "crates/kf_cases/data/*.cases")
     for name in ("docs/FORMATS.md", "docs/COSTS.md", "CHANGELOG.md"):
         yield from missing("the command", tables.words, tables, "`(?:kuifje )?WORD[` ]|kuifje WORD ", name)
     yield from missing("the command", tables.words, tables, NAMED, *HOSTILE)

@@ -137,12 +137,12 @@ class Tables:
 
     def __init__(self, top: Path) -> None:
         self.top = top
-        commands = tomllib.loads(self.text(COMMANDS))
+        commands = self.table(COMMANDS)
         self.options: list[str] = commands["options"]
         self.gains: list[str] = commands["gains"]
         self.values: dict[str, str] = commands["values"]
         self.commands = [row_of(Command, row, f"{COMMANDS}: {row.get('word')}") for row in commands["command"]]
-        self.keywords: dict[str, list[str]] = tomllib.loads(self.text(KEYWORDS))
+        self.keywords: dict[str, list[str]] = self.table(KEYWORDS)
         self.statuses = list(self._statuses())
         self.operators = list(self._operators())
         self.signs = one_each(re.findall(r'"([^"]+)"', part(self.text(LEXER), "        match self {\n", "}\n", LEXER)), LEXER)
@@ -151,10 +151,22 @@ class Tables:
         for row in self.commands:
             if row.gain not in ("no", "may", "needs") or row.value not in ("", *self.values):
                 raise Fault(f"{COMMANDS}: {row.word}: there is no gain {row.gain!r} or no value {row.value!r}")
+            if re.search(r"[':\\]", row.help):
+                raise Fault(f"{COMMANDS}: {row.word}: shells read quotation marks, colons and backslashes in {row.help!r} as their own")
 
     def text(self, name: str) -> str:
         """A file's text."""
-        return (self.top / name).read_text(encoding="utf-8")
+        try:
+            return (self.top / name).read_text(encoding="utf-8")
+        except FileNotFoundError:
+            raise Fault(f"{name}: there is no such file") from None
+
+    def table(self, name: str) -> dict[str, Any]:
+        """What a table of share/ has."""
+        try:
+            return tomllib.loads(self.text(name))
+        except tomllib.TOMLDecodeError as error:
+            raise Fault(f"{name}: {error}") from None
 
     def texts(self, *patterns: str) -> str:
         """The text of all files with such names."""
@@ -197,7 +209,7 @@ class Tables:
         return found
 
     def _statuses(self) -> Iterator[Status]:
-        for row in tomllib.loads(self.text(REFUSALS))["status"]:
+        for row in self.table(REFUSALS)["status"]:
             place = f"{REFUSALS}: {row.get('number')}"
             yield row_of(Status, {**row, "case": tuple(row_of(Case, case, place) for case in row.get("case", ()))}, place)
 

@@ -96,7 +96,7 @@ def test_a_row_that_is_left_out_is_missed_and_written_again(repository: Reposito
     assert (repository.top / name).read_text() == before
 
 
-@pytest.mark.parametrize("block", BLOCKS, ids=lambda block: block.place)
+@pytest.mark.parametrize("block", BLOCKS, ids=[block.place for block in BLOCKS])
 def test_a_part_whose_first_line_is_missing_or_stands_twice_is_refused(repository: Repository, block: Block) -> None:
     for times, line in (("0", ""), ("2", f"{block.begin}\n{block.begin}\n")):
         before = (repository.top / block.name).read_text()
@@ -122,7 +122,7 @@ def test_a_part_without_an_end_is_refused_and_nothing_is_written(repository: Rep
     assert (repository.top / "README.md").read_text() == before.replace("`kuifje trail FILE`", "`kuifje trails FILE`")
 
 
-@pytest.mark.parametrize("block", WHOLE, ids=lambda block: block.name)
+@pytest.mark.parametrize("block", WHOLE, ids=[block.name for block in WHOLE])
 def test_a_file_that_is_written_whole_and_is_missing(repository: Repository, block: Block) -> None:
     before = (repository.top / block.name).read_text()
     repository.write(block.name, before)
@@ -256,6 +256,9 @@ def test_lines_may_be_a_row_of_the_words_too(repository: Repository) -> None:
         (COMMANDS, 'gain = "may"', 'gain = "might"', "lines: there is no gain 'might' or no value ''"),
         (COMMANDS, 'value = "A..B"', 'value = "A-B"', "quiet: there is no gain 'no' or no value 'A-B'"),
         (COMMANDS, 'word = "trail"', 'word = "hyper"', "share/commands.toml: hyper stands there twice"),
+        (COMMANDS, "the hyper where some", "Bob's hyper where some", "quiet: shells read quotation marks, colons and backslashes in \"Bob's hyper"),
+        (COMMANDS, 'about = "fixed"', 'about = "a|b"', "README.md: a row of a table can't have an upright stroke or a line's end"),
+        (COMMANDS, 'word = "trail"', "word = trail", "share/commands.toml: Invalid value"),
         (COMMANDS, "two channels, and of their cascade", "(A, B)", "the manual page can't have"),
         (REFUSALS, 'name = "TOO_WIDE"', 'title = "TOO_WIDE"', "share/refusals.toml: 7: a row has other parts than it should"),
         (REFUSALS, 'section = "The scale"', 'section = "Scales"', "docs/REFUSALS.md: the heading 'Scales' stands there 0 times, and not once"),

@@ -9,12 +9,13 @@ from collections.abc import Iterator
 from .tables_rows import Case, Command, Fault, Tables
 
 LINKS = re.compile(r" \(\[[^]]+\]\([^)]+\)(?:, \[[^]]+\]\([^)]+\))*\)")
+SENTENCE = re.compile(r"(?<=\.) (?=[A-Z])|(?<=:) (?=[A-Z][a-z])")
 NAMED = re.compile(r"(`[^`]+`[,.;:]*|(?<![\w./^-])(?!^A )(?:FILE|CERT|NAME|N/D|[ABNGCP])(?![\w/'])[,.;:]*)(?: |$)")
 
 
 def mdoc(text: str, commands: list[str]) -> Iterator[str]:
-    """The lines for a text of a page, without its links: a macro for each name, and each sentence on a new line."""
-    for sentence in re.split(r"(?<=[.:]) (?=[A-Z][a-z])", LINKS.sub("", text)):
+    """A text of a page, without links: a macro for each name, and each sentence on a new line. An A that begins one is the article."""
+    for sentence in SENTENCE.split(LINKS.sub("", text)):
         for number, piece in enumerate(NAMED.split(sentence)):
             if number % 2:
                 name = piece.rstrip(",.;:")
@@ -22,7 +23,7 @@ def mdoc(text: str, commands: list[str]) -> Iterator[str]:
                 yield " ".join([f".{macro} {name.strip('`')}", *piece[len(name) :]])
                 continue
             for line in textwrap.wrap(piece, 79, break_long_words=False, break_on_hyphens=False):
-                if line[0] in ".'" or "`" in line or "](" in line:
+                if line[0] in ".'" or line[-1] == "(" or "`" in line or "](" in line:
                     raise Fault(f"the manual page can't have {line!r}, of {text!r}")
                 yield line
 

@@ -105,6 +105,8 @@ def of_options(tables: Tables) -> Iterator[str]:
     yield from rows(f"{manual}, options", re.findall(r"^\.It Fl Fl (\S+)", options, re.MULTILINE), tables.options, COMMANDS)
     found = [word.replace(" ", "") for word in re.findall(r"^\.It Cm (\S+(?: :)?)", gains, re.MULTILINE)]
     yield from rows(f"{manual}, gains", found, tables.gains, COMMANDS, begin_so=gains.count("\n.It "))
+    for name in ("docs/COMMANDS.md", "docs/MEASURES.md", "python/src/kuifje/gains.py"):
+        yield from missing("the gain", tables.gains, tables, r"\bWORD", name)
     for name in ("kuifje.bash", "_kuifje", "kuifje.fish"):
         yield from missing("the option", tables.options, tables, r"(?:--|-l )WORD(?![\w-])", f"share/completions/{name}")
 

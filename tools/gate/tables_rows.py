@@ -219,7 +219,7 @@ class Tables:
         rows = [dict(re.findall(r"(\w+): (.+?),\n", row)) for row in table.split("OpRow {\n")[1:]]
         if not int(table.split("]")[0]) == len(rows) == table.count('"') // 2:
             raise Fault(f"{OPERATORS}: {table.split(']')[0]} rows are declared, {len(rows)} can be read, and {table.count(chr(34)) // 2} have a word")
-        one_each((row["word"] for row in rows if "word" in row), OPERATORS)
+        one_each((row["word"].strip('"') for row in rows if "word" in row), OPERATORS)
         for row in rows:
             if sorted(row) != sorted(("word", "level", "arity", "args", "result", "code", "div_zero", "wide")):
                 raise Fault(f"{OPERATORS}: a row has other fields than it should: {row}")

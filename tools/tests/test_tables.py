@@ -152,6 +152,8 @@ def test_a_command_of_the_code_alone(repository: Repository, word: str) -> None:
 
 
 def test_a_command_of_the_table_alone_is_missed_wherever_it_stands_by_hand(repository: Repository) -> None:
+    for block in BLOCKS + WHOLE:
+        repository.write(block.name, (repository.top / block.name).read_text())  # so that what is written is put back
     repository.write(COMMANDS, (repository.top / COMMANDS).read_text() + NEW)
     status, printed = repository.run(TABLES, "--write")
     lines = printed.splitlines()
@@ -184,8 +186,6 @@ def test_a_command_of_the_table_alone_is_missed_wherever_it_stands_by_hand(repos
             PAGE,
         )
     ]
-    for block in BLOCKS + WHOLE:
-        repository.write(block.name, (TOP / block.name).read_text())
 
 
 @pytest.mark.parametrize(
@@ -221,19 +221,19 @@ def test_rows_of_the_code_are_read_in_whatever_form(repository: Repository, row:
         ("crates/kf_words/src/gain_words.rt", 'word == "guessing"', "word == GUESSING", "3 rows can be read, and 4 words are compared"),
         (MANUAL, ".It Fl Fl json\n", ".It Fl Fl json-lines\n", "kuifje.1, options: json-lines stands there, and not in "),
         (MANUAL, ".It Cm guessing\n", ".It Cm guesses\n", "kuifje.1, gains: guessing is missing there"),
+        ("python/src/kuifje/gains.py", "", "", "python/src/kuifje/gains.py: the gain guessing is missing there"),
         ("share/completions/kuifje.fish", "-l turns", "-l turn", "kuifje.fish: the option turns is missing there"),
         ("web/src/questions.mjs", '"trail"]', '"trail-of"]', "web/src/*.mjs: there is no command trail-of"),
         ("web/src/questions.mjs", 'commands: ["channel"]', "commands: CHANNEL", "a list of the commands of a view can't be read"),
-        ("docs/COSTS.md", "`blame`", "blame", ""),
+        ("docs/COSTS.md", "", "", "docs/COSTS.md: the command blame is missing there"),
     ],
 )
 def test_a_command_that_the_code_or_another_place_has_otherwise(repository: Repository, name: str, old: str, new: str, naming: str) -> None:
-    if not naming:
-        text = (repository.top / name).read_text()
-        repository.write(name, text.replace("`blame", "`blames").replace("kuifje blame", "kuifje blames"))
-        naming = "docs/COSTS.md: the command blame is missing there"
-    else:
+    if old:
         repository.spoil(name, old, new)
+    else:  # wherever it stands
+        word = naming.split(" is missing")[0].split()[-1]
+        repository.write(name, (repository.top / name).read_text().replace(word, f"no {word[1:]}"))
     refused(repository, naming)
 
 
@@ -276,12 +276,12 @@ def test_a_table_that_cant_be_read(repository: Repository, name: str, old: str, 
 @pytest.mark.parametrize(
     "name, old, new, naming",
     [
-        (OPS, 'word: "union"', 'word: "with"', "audit/coq/definitions/Language.v: the operator with is missing there"),
-        (OPS, 'word: "union"', 'word: "with"', ".ci/plain.py or tools/gate/plain.py: the operator with is missing there"),
-        (OPS, 'word: "union"', 'word: "with"', "crates/kf_cases/data/expressions.cases: the operator with is missing there"),
-        (OPS, 'word: "union"', 'word: "with"', "crates/kf_layer_tests/src/tests/operators.rt: the operator with is missing there"),
-        (OPS, 'word: "union"', 'word: "with"', "docs/LANGUAGE.md, the grammar: with is missing there"),
-        (OPS, 'word: "union"', 'word: "with"', f"{PAGE}: it lacks"),
+        (OPS, 'word: "union"', 'word: "unite"', "audit/coq/definitions/Language.v: the operator unite is missing there"),
+        (OPS, 'word: "union"', 'word: "unite"', ".ci/plain.py or tools/gate/plain.py: the operator unite is missing there"),
+        (OPS, 'word: "union"', 'word: "unite"', "crates/kf_cases/data/expressions.cases: the operator unite is missing there"),
+        (OPS, 'word: "union"', 'word: "unite"', "crates/kf_layer_tests/src/tests/operators.rt: the operator unite is missing there"),
+        (OPS, 'word: "union"', 'word: "unite"', "docs/LANGUAGE.md, the grammar: unite is missing there"),
+        (OPS, 'word: "union"', 'word: "unite"', f"{PAGE}: it lacks"),
         (OPS, 'word: "union"', "word: UNION", "27 rows are declared, 27 can be read, and 26 have a word"),
         (OPS, "; 27]", "; 28]", "28 rows are declared, 27 can be read, and 27 have a word"),
         (OPS, "        div_zero: true,\n", "", "a row has other fields than it should"),
@@ -295,7 +295,7 @@ def test_a_table_that_cant_be_read(repository: Repository, name: str, old: str, 
         (TOKENS, "    UnionWord,\n", "", "Word has 33 variants, and the tables have 34"),
         (KEYWORDS, '"vis"', '"show"', "own_word: vis stands there, and not in share/keywords.toml"),
         ("audit/coq/definitions/Language.v", '(5, "union", Union)', '(6, "union", Union)', "Language.v: the operator union is missing there"),
-        ("docs/LANGUAGE.md", '"union"', '"with"', "docs/LANGUAGE.md, the grammar: union is missing there"),
+        ("docs/LANGUAGE.md", '"union"', '"unite"', "docs/LANGUAGE.md, the grammar: union is missing there"),
     ],
 )
 def test_a_word_of_the_language(repository: Repository, name: str, old: str, new: str, naming: str) -> None:

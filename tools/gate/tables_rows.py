@@ -137,7 +137,7 @@ class Tables:
 
     def __init__(self, top: Path) -> None:
         self.top = top
-        commands = self.table(COMMANDS)
+        commands = self.table(COMMANDS, "options", "gains", "values", "command")
         self.options: list[str] = commands["options"]
         self.gains: list[str] = commands["gains"]
         self.values: dict[str, str] = commands["values"]
@@ -161,12 +161,15 @@ class Tables:
         except FileNotFoundError:
             raise Fault(f"{name}: there is no such file") from None
 
-    def table(self, name: str) -> dict[str, Any]:
-        """What a table of share/ has."""
+    def table(self, name: str, *parts: str) -> dict[str, Any]:
+        """What a table of share/ has: just these parts, where some are named."""
         try:
-            return tomllib.loads(self.text(name))
+            found = tomllib.loads(self.text(name))
         except tomllib.TOMLDecodeError as error:
             raise Fault(f"{name}: {error}") from None
+        if parts and set(found) != set(parts):
+            raise Fault(f"{name}: its parts are {', '.join(found)}, and not {', '.join(parts)}")
+        return found
 
     def texts(self, *patterns: str) -> str:
         """The text of all files with such names."""
@@ -209,7 +212,7 @@ class Tables:
         return found
 
     def _statuses(self) -> Iterator[Status]:
-        for row in self.table(REFUSALS)["status"]:
+        for row in self.table(REFUSALS, "status")["status"]:
             place = f"{REFUSALS}: {row.get('number')}"
             yield row_of(Status, {**row, "case": tuple(row_of(Case, case, place) for case in row.get("case", ()))}, place)
 

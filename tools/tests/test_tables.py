@@ -259,6 +259,7 @@ def test_lines_may_be_a_row_of_the_words_too(repository: Repository) -> None:
         (COMMANDS, "the hyper where some", "Bob's hyper where some", "quiet: shells read quotation marks, colons and backslashes in \"Bob's hyper"),
         (COMMANDS, 'about = "fixed"', 'about = "a|b"', "README.md: a row of a table can't have an upright stroke or a line's end"),
         (COMMANDS, 'word = "trail"', "word = trail", "share/commands.toml: Invalid value"),
+        (COMMANDS, "\ngains = ", "\ngain = ", "share/commands.toml: its parts are options, gain, values, command, and not options, gains, "),
         (COMMANDS, "two channels, and of their cascade", "(A, B)", "the manual page can't have"),
         (REFUSALS, 'name = "TOO_WIDE"', 'title = "TOO_WIDE"', "share/refusals.toml: 7: a row has other parts than it should"),
         (REFUSALS, 'section = "The scale"', 'section = "Scales"', "docs/REFUSALS.md: the heading 'Scales' stands there 0 times, and not once"),

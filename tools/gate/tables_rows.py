@@ -15,6 +15,7 @@ OPERATORS, LEXER = "crates/kf_ops/src/table.rt", "crates/kf_lex/src/words.rt"
 CALL = 8  # the level of operators that are written before brackets
 USAGE = "usage line"  # what docs/REFUSALS.md calls that line
 MINUS = 7  # and of the minus before a number, whose word in the code is ~
+KINDS = "declaration", "target", "type", "statement", "conditional", "repeat", "distribution", "truth"  # of reserved words
 Row = TypeVar("Row")
 
 
@@ -142,7 +143,7 @@ class Tables:
         self.gains: list[str] = commands["gains"]
         self.values: dict[str, str] = commands["values"]
         self.commands = [row_of(Command, row, f"{COMMANDS}: {row.get('word')}") for row in commands["command"]]
-        self.keywords: dict[str, list[str]] = self.table(KEYWORDS)
+        self.keywords: dict[str, list[str]] = self.table(KEYWORDS, *KINDS)
         self.statuses = list(self._statuses())
         self.operators = list(self._operators())
         self.signs = one_each(re.findall(r'"([^"]+)"', part(self.text(LEXER), "        match self {\n", "}\n", LEXER)), LEXER)

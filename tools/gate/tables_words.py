@@ -69,7 +69,7 @@ def in_zsh(tables: Tables) -> Iterator[Block]:
     patterns = {" | ".join(place for row in tables.commands for place in certificates(row, 2)): "_files -g '*.json(-.)'"}
     for value, message in tables.values.items():
         patterns[" | ".join(f"{row.word}/{2 + len(row.files)}" for row in tables.commands if row.value == value)] = f"_message '{message}'"
-    yield marked(name, "#", "values", (f"{places}) {action} ;;" for places, action in patterns.items()), " " * 8)
+    yield marked(name, "#", "values", (f"{places}) {action} ;;" for places, action in patterns.items() if places), " " * 8)
     yield marked(name, "#", "options", [f"local -a {option}=({' '.join(words)})" for option, words in options.items()], "    ")
 
 

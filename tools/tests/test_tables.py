@@ -264,6 +264,7 @@ def test_lines_may_be_a_row_of_the_words_too(repository: Repository) -> None:
         (REFUSALS, 'name = "TOO_WIDE"', 'title = "TOO_WIDE"', "share/refusals.toml: 7: a row has other parts than it should"),
         (REFUSALS, 'section = "The scale"', 'section = "Scales"', "docs/REFUSALS.md: the heading 'Scales' stands there 0 times, and not once"),
         (KEYWORDS, '["while"]', '["while", "var"]', "share/keywords.toml: var stands there twice"),
+        (KEYWORDS, "repeat = ", "loop = ", "share/keywords.toml: its parts are declaration, target, type, statement, conditional, loop, "),
     ],
 )
 def test_a_table_that_cant_be_read(repository: Repository, name: str, old: str, new: str, naming: str) -> None:

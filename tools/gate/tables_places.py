@@ -114,8 +114,8 @@ def of_options(tables: Tables) -> Iterator[str]:
 def of_views(tables: Tables) -> Iterator[str]:
     """The commands for whose answers the page has a view."""
     text = tables.texts("web/src/*.mjs")
-    lists = re.findall(r"\bcommands: \[([^\]]*)\]", text)
-    if not lists or len(lists) != len(re.findall(r"\bcommands: (?!\(|string)", text)):
+    lists = re.findall(r'\{ name: ".*\bcommands: \[([^\]]*)\]', text)
+    if not lists or len(lists) != len(re.findall(r'\{ name: ".*\bcommands: ', text)):
         yield "web/src/*.mjs: a list of the commands of a view can't be read"
     for word in (word for some in lists for word in re.findall(r"[^\s,\"']+", some)):
         if word not in tables.words:

@@ -9,6 +9,7 @@ from gate.tables import faults_of_blocks, run, write, written
 from gate.tables_blocks import Block
 from gate.tables_manual import mdoc
 from gate.tables_pages import explanation, operators
+from gate.tables_places import BESIDE, HOSTILE, PLAIN
 from gate.tables_rows import Fault, Tables
 
 TOP = Path(__file__).resolve().parents[2]
@@ -29,6 +30,11 @@ question = "between which numbers does the entropy lie?"
 about = "any"
 prints = "two bounds of the entropy"
 """
+
+
+def there(patterns: tuple[str, ...]) -> str:
+    """Those of some names for which there are files, as a message names them."""
+    return " or ".join(pattern for pattern in patterns if any(TOP.glob(pattern)))
 
 
 def refused(repository: Repository, naming: str) -> list[str]:
@@ -166,8 +172,8 @@ def test_a_command_of_the_table_alone_is_missed_wherever_it_stands_by_hand(repos
             "tables: docs/FORMATS.md: the command entropy-bounds is missing there",
             "tables: docs/COSTS.md: the command entropy-bounds is missing there",
             "tables: CHANGELOG.md: the command entropy-bounds is missing there",
-            "tables: hostile/*.py: the command entropy-bounds is missing there",
-            "tables: .ci/beside or .ci/ways or tools/gate/beside.py or tools/gate/ways.py: the command entropy-bounds is missing there",
+            f"tables: {there(HOSTILE)}: the command entropy-bounds is missing there",
+            f"tables: {there(BESIDE)}: the command entropy-bounds is missing there",
             "tables: python/src/kuifje/program.py: the function entropy_bounds is missing there",
         ]
     )
@@ -279,7 +285,7 @@ def test_a_table_that_cant_be_read(repository: Repository, name: str, old: str, 
     "name, old, new, naming",
     [
         (OPS, 'word: "union"', 'word: "unite"', "audit/coq/definitions/Language.v: the operator unite is missing there"),
-        (OPS, 'word: "union"', 'word: "unite"', ".ci/plain.py or tools/gate/plain.py: the operator unite is missing there"),
+        (OPS, 'word: "union"', 'word: "unite"', f"{there(PLAIN)}: the operator unite is missing there"),
         (OPS, 'word: "union"', 'word: "unite"', "crates/kf_cases/data/expressions.cases: the operator unite is missing there"),
         (OPS, 'word: "union"', 'word: "unite"', "crates/kf_layer_tests/src/tests/operators.rt: the operator unite is missing there"),
         (OPS, 'word: "union"', 'word: "unite"', "docs/LANGUAGE.md, the grammar: unite is missing there"),
@@ -325,9 +331,9 @@ def test_operators_of_one_level_that_take_the_same_share_a_row() -> None:
         (REFUSALS, 'commands = ["parallel"]', 'commands = ["parallels"]', f"{REFUSALS}: 8: there is no command parallels"),
         (REFUSALS, 'commands = ["parallel"]', 'commands = ["refine"]', "parallel has the status 8, and "),
         (REFUSALS, '"Deep", ', "", "the variants of LexError, ParseError, TypeError: Deep stands there, and not in share/refusals.toml"),
-        (REFUSALS, '"Deep"', '"Deeper"', "hostile/program.py: the refusal Deeper is missing there"),
+        (REFUSALS, '"Deep"', '"Deeper"', f"{there(HOSTILE)}: the refusal Deeper is missing there"),
         (REFUSALS, '"Deep"', '"Deeper"', "docs/LANGUAGE.md: the refusal Deeper is missing there"),
-        (REFUSALS, "kuifje: rows differ", "kuifje: rows vary", "hostile/program.py: the refusal rows vary is missing there"),
+        (REFUSALS, "kuifje: rows differ", "kuifje: rows vary", f"{there(HOSTILE)}: the refusal rows vary is missing there"),
         (
             "crates/kf_check/src/errors.rt",
             "    BadFlip { at: u32 },",
@@ -382,7 +388,7 @@ def test_names_are_macros_and_sentences_begin_lines() -> None:
         "A program.",
     ]
     with pytest.raises(Fault, match="can't have"):
-        list(mdoc("that (A) is", []))
+        list(mdoc("that (A, B) is", []))
 
 
 def completed(line: str, folder: Path) -> list[str]:

@@ -1,8 +1,8 @@
 """Questions in words, as cells and sweeps have them: the program's commands on one file, without the file, and some of this package's own.
 
-They are written as the program takes them: ``hyper``, ``leak --gain guessing``, ``reach 9/10``, ``quiet 0..1``. What takes a gain asks under ``bayes``
-where ``--gain`` is missing. Of this package ``labels`` stands alone, ``plan`` takes ``--gain``, and ``lint`` takes ``--attacker`` with a variable's
-name, once for each. ``--timeout`` bounds the seconds.
+They are written as the program takes them: ``hyper``, ``leak --gain guessing``, ``reach 9/10``, ``quiet 0..1``. What takes a gain asks under
+``bayes`` where ``--gain`` is missing. Of this package ``labels`` stands alone, ``plan`` takes ``--gain``, and ``lint`` takes ``--attacker`` with a
+variable's name, once for each. ``--timeout`` bounds the seconds.
 """
 
 from __future__ import annotations

@@ -9,7 +9,7 @@ from pathlib import Path
 import pytest
 from conftest import TOP
 
-CHEAP = ["tools", "pages", "believed", "words", "map", "cases", "certificates", "beside", "ways", "python", "testers"]
+CHEAP = ["tools", "pages", "believed", "tables", "words", "map", "cases", "certificates", "beside", "ways", "python", "testers"]
 PARTS = {"page": "page", "library": "library", "coq": "coq", "build-library": "library's build", "web/module/build": "page's build"}
 PROVED = "crate kf_frac: proved\n185 passed, 0 failed\n"
 

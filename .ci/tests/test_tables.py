@@ -1,4 +1,4 @@
-"""`.ci/believed`, `.ci/map`, `.ci/cases` and `.ci/refusals` see a table that isn't that of the sources."""
+"""`.ci/believed`, `.ci/map` and `.ci/cases` see a table that isn't that of the sources."""
 
 import re
 
@@ -9,7 +9,7 @@ MARKED, BODIES = "crates/kf_make/specs/Making.antt", "crates/kf_io/specs/Counts.
 TABLES, MAP, CASES = "docs/TRUST-TABLES.md", "docs/ARCHITECTURE.md", "crates/kf_cases/data/words.cases"
 
 
-@pytest.mark.parametrize("check", [".ci/believed", ".ci/map", ".ci/cases", ".ci/refusals"])
+@pytest.mark.parametrize("check", [".ci/believed", ".ci/map", ".ci/cases"])
 def test_nothing_is_found_where_nothing_is_wrong(repository: Repository, check: str) -> None:
     repository.passes(check)
 
@@ -92,11 +92,6 @@ def test_a_case_that_stands_twice(repository: Repository) -> None:
 def test_cases(repository: Repository, name: str, old: str, new: str, naming: str) -> None:
     repository.spoil(name, old, new)
     repository.refuses(".ci/cases", naming)
-
-
-def test_the_explanations_of_refusals(repository: Repository) -> None:
-    repository.spoil("docs/REFUSALS.md", "**DivZero**: `div`", "**DivZero**: by `div`")
-    repository.refuses(".ci/refusals", "refusals.json isn't what docs/REFUSALS.md says")
 
 
 LANGUAGE = "audit/coq/definitions/Language.v"

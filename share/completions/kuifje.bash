@@ -1,7 +1,13 @@
-# Completions of kuifje for bash: commands, options, gains and files. .ci/words compares the words with the code.
+# Completions of kuifje for bash: commands, options, gains and files.
 _kuifje() {
-    local commands='hyper traces channel trail leak attack reach lines blame quiet capacity cascade parallel choice refine covers check make'
-    local with_gain='leak lines attack' with_json='refine' gains='bayes tries: guessing table:'
+    # words: written by .ci/tables
+    local commands='hyper traces leak attack reach lines blame quiet trail refine covers check channel capacity cascade parallel choice make'
+    local with_gain='leak attack lines'
+    local with_json='refine'
+    local gains='bayes tries: guessing table:'
+    local certificates='check/0'
+    local programs='hyper/0 traces/0 leak/0 attack/0 reach/0 lines/0 blame/0 quiet/0 trail/0 refine/0 refine/1 covers/0 covers/1 check/1 check/2 channel/0 capacity/0 cascade/0 cascade/1 parallel/0 parallel/1 choice/0 choice/1'
+    # to here
     local words word before command='' values=0 place
 
     # Words are parted by blanks here: bash parts them at : and = too, and table:FILE is one word.
@@ -43,11 +49,11 @@ _kuifje() {
                 return
             fi
             compopt -o filenames 2>/dev/null
-            case $command/$values in
-                check/0) _kuifje_files json "$word" ;;
-                make/* | reach/[1-9]* | quiet/[1-9]* | choice/[2-9]*) ;;
-                *) _kuifje_files kf "$word" ;;
-            esac
+            if [[ " $certificates " == *" $command/$values "* ]]; then
+                _kuifje_files json "$word"
+            elif [[ " $programs " == *" $command/$values "* ]]; then
+                _kuifje_files kf "$word"
+            fi
             ;;
     esac
 }

@@ -1,11 +1,8 @@
 // Commands as the pages show them and as they are typed: which of their words are files, and which view of the page shows their answer.
 import { TABLE, USUAL } from "./gains.mjs";
 import { USUAL_TURNS, VIEWS } from "./questions.mjs";
+import { FILES } from "./words.mjs";
 
-/** How many files a command is about, where it isn't one. They are the first of its values. */
-const FILES = new Map([["make", 0], ["refine", 2], ["covers", 2], ["cascade", 2], ["parallel", 2], ["choice", 2], ["check", 3]]);
-/** The one command whose first file is no program, but a certificate. */
-const CHECK = "check";
 const TABLE_WORD = `${TABLE}:`;
 const PLAIN = /^kuifje ([a-z][a-z-]*(?: [^\s|<>;&$`'"\\]+)*)(?: \| head -n 1)?$/;
 
@@ -59,11 +56,9 @@ export function partsOf(words) {
  */
 export function namesIn(words) {
     const { command, values, gain } = partsOf(words);
-    const count = FILES.get(command);
-    const files = values.slice(0, count === undefined ? 1 : count);
-    const certificates = command === CHECK ? files.splice(0, 1) : [];
+    const { certificates, programs } = FILES.get(command) || { certificates: 0, programs: 1 };
     const tables = gain !== null && gain.startsWith(TABLE_WORD) ? [gain.slice(TABLE_WORD.length)] : [];
-    return { programs: files, tables: [...certificates, ...tables] };
+    return { programs: values.slice(certificates, certificates + programs), tables: [...values.slice(0, certificates), ...tables] };
 }
 
 /**

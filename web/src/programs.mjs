@@ -1,15 +1,9 @@
 // What the page has to know of a program's text itself: the words that the editor colours, the target, and what a statement has in its line.
 import { characterAt, every, placesIn, read, readHead, sizeOf, targetIn } from "./source.mjs";
+import { WORDS } from "./words.mjs";
 
-export const WORDS = {
-    declaration: ["var", "vis", "about", "old"],
-    type: ["bool", "set", "of"],
-    statement: ["skip", "observe", "if", "else", "while"],
-    distribution: ["uniform", "choose", "flip"],
-    constant: ["true", "false"],
-    operator: ["or", "and", "not", "in", "union", "less", "div", "mod", "inter", "xor", "implies", "subset"],
-    function: ["size", "cond", "min", "max", "abs"],
-};
+export { WORDS };
+
 /** Texts of more characters, or with a longer line, are shown without colours and marks, and so at once. */
 const MOST_MARKED = 1 << 16;
 const LONGEST_MARKED = 5000;

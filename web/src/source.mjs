@@ -1,5 +1,6 @@
 // A program's text as a tree, by the grammar of docs/LANGUAGE.md, for what asks about its statements. The text has to be one that the program
 // accepts: of another one the reader throws, or reads it in some way. Each part has its place: `at` is where it begins and `end` the place after it.
+import { LEVELS, SIGNS, WORDS } from "./words.mjs";
 
 /**
  * @typedef {{ kind: "bool" } | { kind: "range", low: number, high: number } | { kind: "tuple", parts: Type[] } | { kind: "set", base: Type }} Type
@@ -31,13 +32,9 @@
  */
 /** @typedef {Head & { statements: Statement[] }} Source */
 
-const LEVELS = [["or", "xor", "implies"], ["and"], [], ["=", "!=", "<", "<=", ">", ">=", "in", "subset"], ["+", "-", "union", "less"], ["*", "div", "mod", "inter"]];
-const LEVEL_OF = new Map(LEVELS.flatMap((operators, level) => operators.map((operator) => /** @type {[string, number]} */ ([operator, level]))));
-/** The level of `not`, which takes what binds tighter. */
-const NOT = 2;
-const CALLS = ["size", "cond", "min", "max", "abs"];
-/** The signs, a longer one before a shorter one. */
-const SIGNS = [":=", "..", "!=", "<=", ">=", ":", ";", ",", "(", ")", "{", "}", ".", "/", "=", "<", ">", "+", "-", "*"];
+/** The level of `not`, which stands before its argument and takes what binds tighter. */
+const NOT = LEVELS.findIndex((operators) => operators.includes("not"));
+const LEVEL_OF = new Map(LEVELS.flatMap((operators, level) => level === NOT ? [] : operators.map((operator) => /** @type {[string, number]} */ ([operator, level]))));
 const TOKEN = new RegExp(`(?:[ \\t\\r\\n]|#[^\\n]*)*(${SIGNS.map((sign) => sign.replace(/\W/g, "\\$&")).join("|")}|[0-9]+|(?:\\w|[\\u0080-\\uffff])+|$)`, "y");
 
 /**
@@ -138,8 +135,8 @@ function type(from) {
 function operand(from) {
     const at = from.at();
     const token = from.take();
-    if (token === "(" || token === "{" || CALLS.includes(token)) {
-        if (CALLS.includes(token)) {
+    if (token === "(" || token === "{" || WORDS.function.includes(token)) {
+        if (WORDS.function.includes(token)) {
             from.take("(");
         }
         const parts = from.listed(() => expression(from, 0), token === "{" ? "}" : ")");

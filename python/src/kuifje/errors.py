@@ -29,7 +29,7 @@ class _Explained(TypedDict):
 
 @cache
 def _explanations() -> dict[str, _Explained]:
-    """The explanations, by status and kind; ``.ci/refusals`` keeps the file equal to the page."""
+    """The explanations, by status and kind; ``.ci/tables`` keeps the file equal to the page."""
     found: dict[str, _Explained] = json.loads(resources("kuifje").joinpath("refusals.json").read_text(encoding="utf-8"))
     return found
 

@@ -14,6 +14,7 @@ from functools import cached_property
 from typing import TypeAlias, TypeVar, Union
 
 from .texts import Item, Target
+from .vocabulary import CALLS, LEVELS, SIGNS
 
 __all__ = [
     "Assign",
@@ -43,18 +44,9 @@ __all__ = [
     "read",
 ]
 
-LEVELS: tuple[tuple[str, ...], ...] = (
-    ("or", "xor", "implies"),
-    ("and",),
-    ("not",),
-    ("=", "!=", "<", "<=", ">", ">=", "in", "subset"),
-    ("+", "-", "union", "less"),
-    ("*", "div", "mod", "inter"),
-)
 BINARY = {operator: level for level, operators in enumerate(LEVELS) for operator in operators if operator != "not"}
-NOT = 2
-CALLS = {"size", "cond", "min", "max", "abs"}
-TOKEN = re.compile(r"(?:[ \t\r\n]|#[^\n]*)*(:=|\.\.|!=|<=|>=|[:;,(){}./=<>+\-*]|[0-9]+|(?:\w|[^\x00-\x7f])+|$)")
+NOT = next(level for level, operators in enumerate(LEVELS) if "not" in operators)
+TOKEN = re.compile(rf"(?:[ \t\r\n]|#[^\n]*)*({'|'.join(map(re.escape, SIGNS))}|[0-9]+|(?:\w|[^\x00-\x7f])+|$)")
 T = TypeVar("T")
 
 

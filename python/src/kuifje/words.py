@@ -1,8 +1,8 @@
-"""Questions in words, as cells and sweeps have them: those of the program, without a file.
+"""Questions in words, as cells and sweeps have them: the program's commands on one file, without the file, and some of this package's own.
 
-``hyper``, ``labels``, ``traces``, ``channel``, ``capacity``, ``blame`` and ``trail`` stand alone; ``leak``, ``lines``, ``attack`` and ``plan`` take
-``--gain``, ``reach`` a probability like ``9/10``, and ``quiet`` a block like ``0..1``. ``lint`` takes ``--attacker`` with a variable's name, once for
-each. ``--timeout`` bounds the seconds. No other command takes one of these.
+They are written as the program takes them: ``hyper``, ``leak --gain guessing``, ``reach 9/10``, ``quiet 0..1``. What takes a gain asks under
+``bayes`` where ``--gain`` is missing. Of this package ``labels`` stands alone, ``plan`` takes ``--gain``, and ``lint`` takes ``--attacker`` with a
+variable's name, once for each. ``--timeout`` bounds the seconds.
 """
 
 from __future__ import annotations
@@ -17,23 +17,25 @@ from .gains import check_word
 from .observations import labels, plan
 from .lints import lint
 from .program import Program
+from .vocabulary import COMMANDS
 
 __all__ = ["answer", "parser", "question", "read"]
 
-PLAIN: dict[str, Callable[[Program, float | None], object]] = {
-    "hyper": Program.hyper,
-    "labels": lambda program, timeout: labels(program, timeout=timeout),
-    "traces": Program.traces,
-    "channel": Program.channel,
-    "capacity": Program.capacity,
-    "blame": Program.blame,
-    "trail": Program.trail,
-}
-GAINING: dict[str, Callable[[Program, str, float | None], object]] = {
-    "leak": Program.leak,
-    "lines": Program.lines,
-    "attack": Program.attack,
-    "plan": lambda program, gain, timeout: plan(program, gain, timeout=timeout),
+
+def _probability(value: str) -> tuple[object, ...]:
+    return (probability("the probability", value, one=True),)
+
+
+def _block(value: str) -> tuple[object, ...]:
+    start, _, end = value.partition("..")
+    return int(start), int(end)
+
+
+OWN = {"labels": (1, "", "no"), "lint": (1, "", "no"), "plan": (1, "", "may")}
+ASKED = {word: row for word, row in (COMMANDS | OWN).items() if row[0] == 1}
+READERS: dict[str, tuple[str, Callable[[str], tuple[object, ...]]]] = {  # of what stands after a command: how it looks, and what a method takes of it
+    "N/D": ("a probability like 9/10", _probability),
+    "A..B": ("a block like 0..1", _block),
 }
 
 
@@ -48,7 +50,7 @@ class Words(argparse.ArgumentParser):
 def parser() -> Words:
     """What reads the words of a question: ``command`` (none where there is none), ``value``, ``gain``, ``attacker`` and ``timeout``."""
     words = Words(prog="kuifje", add_help=False, allow_abbrev=False)
-    words.add_argument("command", nargs="?", choices=[*PLAIN, *GAINING, "reach", "quiet", "lint"])
+    words.add_argument("command", nargs="?", choices=ASKED)
     words.add_argument("value", nargs="?")
     words.add_argument("--gain")
     words.add_argument("--attacker", action="append", default=[])
@@ -56,30 +58,36 @@ def parser() -> Words:
     return words
 
 
+def _given(command: str, value: str | None) -> tuple[object, ...]:
+    """What the value after a command is for its method. Raises ``ValueError`` where it is another one than the command takes."""
+    _, wanted, _ = ASKED[command]
+    if not wanted:
+        if value is not None:
+            raise ValueError(f"{command} takes no value")
+        return ()
+    look, reader = READERS[wanted]
+    if value is None:
+        raise ValueError(f"{command} takes {look}")
+    return reader(value)
+
+
 def question(words: argparse.Namespace) -> Callable[[Program], object]:
     """The question of words that were read. Raises ``ValueError`` where they are none."""
-    command, value, timeout = words.command, words.value, words.timeout
-    if (value is not None) != (command in ("reach", "quiet")):
-        raise ValueError("reach takes a probability and quiet a block like 0..1, and no other command takes a value")
-    if words.gain is not None and command not in GAINING:
+    command, gain, timeout = words.command, words.gain or "bayes", words.timeout
+    values, has_gain = _given(command, words.value), ASKED[command][2] != "no"
+    if words.gain is not None and not has_gain:
         raise ValueError(f"{command} takes no --gain")
     if words.attacker and command != "lint":
         raise ValueError(f"{command} takes no --attacker")
-    if command == "reach":
-        wanted = probability("the probability", value, one=True)
-        return lambda program: program.reach(wanted, timeout)
-    if command == "quiet":
-        start, _, end = value.partition("..")
-        block = int(start), int(end)
-        return lambda program: program.quiet(*block, timeout)
-    if command in GAINING:
-        asked, gain = GAINING[command], words.gain or "bayes"
-        check_word(gain)
-        return lambda program: asked(program, gain, timeout)
+    check_word(gain)
+    if command == "labels":
+        return lambda program: labels(program, timeout=timeout)
     if command == "lint":
         return lambda program: lint(program, attacker=words.attacker, timeout=timeout)
-    plain = PLAIN[command]
-    return lambda program: plain(program, timeout)
+    if command == "plan":
+        return lambda program: plan(program, gain, timeout=timeout)
+    taken = (gain,) if has_gain else values
+    return lambda program: getattr(program, command.replace("-", "_"))(*taken, timeout)
 
 
 def read(line: str) -> Callable[[Program], object]:

@@ -1,4 +1,4 @@
-" Vim syntax of Kuifje programs. .ci/words compares the words and signs with the code.
+" Vim syntax of Kuifje programs.
 if exists('b:current_syntax')
     finish
 endif
@@ -6,7 +6,9 @@ endif
 syntax case match
 syntax iskeyword @,48-57,_
 
-syntax keyword kuifjeDeclaration var vis about old
+" words: written by .ci/tables
+syntax keyword kuifjeDeclaration var vis
+syntax keyword kuifjeTarget about old
 syntax keyword kuifjeType bool set of
 syntax keyword kuifjeStatement skip observe
 syntax keyword kuifjeConditional if else
@@ -15,13 +17,15 @@ syntax keyword kuifjeDistribution uniform choose flip
 syntax keyword kuifjeTruth true false
 syntax keyword kuifjeOperatorWord or and not in union less div mod inter xor implies subset
 syntax keyword kuifjeFunction size cond min max abs
+syntax match kuifjeSign "\V:=\|..\|!=\|<=\|>=\|:\|;\|,\|(\|)\|{\|}\|.\|/\|=\|<\|>\|+\|-\|*"
+" to here
 
 syntax match kuifjeNumber "\<\d\+\>"
-syntax match kuifjeSign "\V:=\|..\|!=\|<=\|>=\|=\|<\|>\|+\|-\|*\|/\|.\|:\|;\|,\|(\|)\|{\|}"
 syntax match kuifjeComment "#.*$" contains=kuifjeTodo,@Spell
 syntax keyword kuifjeTodo contained TODO FIXME
 
 highlight default link kuifjeDeclaration StorageClass
+highlight default link kuifjeTarget StorageClass
 highlight default link kuifjeType Type
 highlight default link kuifjeStatement Statement
 highlight default link kuifjeConditional Conditional

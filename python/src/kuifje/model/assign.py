@@ -8,6 +8,7 @@ from contextlib import contextmanager
 from dataclasses import replace
 
 from ..channels import LENGTH
+from ..vocabulary import RESERVED
 from .calls import Calls
 from .errors import Place
 from .evaluate import Binding, bad
@@ -18,10 +19,6 @@ __all__ = ["Assigner", "RESERVED", "flat"]
 
 MOST = 4096  # variables while a model is unfolded; the text may have 32
 FEWER = "use one name for several things in turn, or keep small numbers together in a tuple"
-RESERVED = frozenset(
-    "var vis bool set of about old skip observe if else while uniform choose flip true false or and not in union less div mod inter size cond xor "
-    "implies subset min max abs".split()
-)
 
 
 class Assigner(Calls):

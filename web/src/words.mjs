@@ -33,3 +33,12 @@ export const WORDS = {
 };
 /** The signs, a longer one before a shorter one. */
 export const SIGNS = [":=", "..", "!=", "<=", ">=", ":", ";", ",", "(", ")", "{", "}", ".", "/", "=", "<", ">", "+", "-", "*"];
+/** The operators, from the loosest to the tightest, without the minus before a number. */
+export const LEVELS = [
+    ["or", "xor", "implies"],
+    ["and"],
+    ["not"],
+    ["=", "!=", "<", "<=", ">", ">=", "in", "subset"],
+    ["+", "-", "union", "less"],
+    ["*", "div", "mod", "inter"],
+];

@@ -1,6 +1,6 @@
 #!/usr/bin/env python3
 """Writes what the page has of the repository, as one JSON file: the programs and tables of examples/ and course/, the gallery's index, the
-lessons with their exercises and solutions, the pages that these lead to, and what REFUSALS.md says of each word that a refusal ends with.
+lessons with their exercises, solutions and questions, the pages that these lead to, and what REFUSALS.md says of each word that a refusal ends with.
 
     web/content.py OUT
 
@@ -25,6 +25,7 @@ PAGES = ["GLOSSARY", "LANGUAGE", "MODELS", "MEASURES", "REFINEMENT", "COMMANDS",
 NAME_ABOVE = re.compile(r"`([\w./-]+)`:$")
 ROW = re.compile(r"^\| (.*) \|$", re.MULTILINE)
 LINK = re.compile(r"\[(.*)\]\((.*)\)")
+QUESTION = re.compile(r"^\*\*(\d+)\.\*\* (.*?)\n<details><summary>Answer</summary>\n(.*?)\n</details>$", re.MULTILINE | re.DOTALL)
 Block = dict[str, Any]
 Inline = list[Any]
 
@@ -141,7 +142,11 @@ class Reader:
 
 
 def blocks_of(path: Path) -> list[Block]:
-    reader = Reader(path.read_text())
+    return blocks_in(path.read_text())
+
+
+def blocks_in(text: str) -> list[Block]:
+    reader = Reader(text)
     found = []
     while reader.at < len(reader.tokens):
         found.append(reader.block())
@@ -196,12 +201,22 @@ def exercises_of(number: int) -> list[Block]:
     return [{"asked": question, "solved": solution} for question, solution in zip(asked, solved)]
 
 
+def quiz_of(number: int) -> list[Block]:
+    """A lesson's questions, each with what is asked and its answer, which its page hides."""
+    text = (TOP / "course" / "quiz" / f"{number}.md").read_text()
+    found = QUESTION.findall(text)
+    if [label for label, _, _ in found] != [str(i + 1) for i in range(len(found))] or text.count("<details>") != len(found) or not found:
+        sys.exit(f"content: the questions of lesson {number} have another form")
+    return [{"asked": blocks_in(asked), "solved": blocks_in(solved)} for _, asked, solved in found]
+
+
 def lessons() -> list[Block]:
     found = []
     for blocks in sections(blocks_of(TOP / "docs" / "COURSE.md"), 2):
         number = re.match(r"(\d+)\. ", text_of(blocks[0]["c"]))
         if number:
-            found.append({"title": text_of(blocks[0]["c"]), "id": blocks[0]["id"], "blocks": blocks[1:], "exercises": exercises_of(int(number[1]))})
+            asked = {"exercises": exercises_of(int(number[1])), "quiz": quiz_of(int(number[1]))}
+            found.append({"title": text_of(blocks[0]["c"]), "id": blocks[0]["id"], "blocks": blocks[1:], **asked})
     return found
 
 

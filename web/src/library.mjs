@@ -2,7 +2,7 @@
 
 /** @typedef {any} Block web/content.py says what it is */
 /** @typedef {{ asked: Block[], solved: Block[] }} Exercise */
-/** @typedef {{ title: string, id: string, blocks: Block[], exercises: Exercise[] }} Lesson */
+/** @typedef {{ title: string, id: string, blocks: Block[], exercises: Exercise[], quiz: Exercise[] }} Lesson */
 /** @typedef {{ status: number, pattern: string, section: string, text: string }} Explanation */
 /**
  * @typedef {object} Library

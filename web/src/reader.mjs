@@ -128,6 +128,17 @@ function filesOf(of, blocks) {
 }
 
 /**
+ * A question with its answer, which is hidden until it is asked for.
+ * @param {Place} place
+ * @param {import("./library.mjs").Exercise} question
+ * @param {number} number
+ */
+function questionOf(place, question, number) {
+    return element("div", { class: "question" }, element("h4", {}, `Question ${number}`), ...blocksOf(place, question.asked),
+        element("details", { class: "solution" }, element("summary", {}, "Answer"), ...blocksOf(place, question.solved)));
+}
+
+/**
  * @param {Place} place
  * @param {number} number
  */
@@ -137,6 +148,8 @@ function lessonOf(place, number) {
     return [element("h2", {}, `Lesson ${lesson.title}`), ...blocksOf(place, lesson.blocks), element("h3", {}, "Exercises"),
         element("p", {}, "Work out the numbers by hand, and the program checks them. Or write a program: the page asks it what it asks the solution, and compares the answers."),
         ...lesson.exercises.map((exercise, index) => exerciseOf({ ...place, path: `course/exercises/${number}.md` }, exercise, index + 1)),
+        element("h3", {}, "Questions"), element("p", {}, "Each has a short answer, which is hidden below it."),
+        ...lesson.quiz.map((question, index) => questionOf({ ...place, path: `course/quiz/${number}.md` }, question, index + 1)),
         element("p", { class: "steps" }, step(number - 1, "← Lesson before"), " ", step(number + 1, "Next lesson →"))];
 }
 

@@ -406,7 +406,8 @@ def opens_the_gallery(page: Page) -> None:
 def asks_every_command(page: Page) -> None:
     """Each button of a lesson's or a study's command leads to an answer, or to a refusal where the page shows one."""
     page.open()
-    names = [f"lesson/{number}" for number in range(1, 12)] + [f"study/{it.parent.name}" for it in sorted((TOP / "examples").glob("*/README.md"))]
+    lessons = len(list((TOP / "course" / "quiz").glob("*.md")))
+    names = [f"lesson/{number}" for number in range(1, lessons + 1)] + [f"study/{it.parent.name}" for it in sorted((TOP / "examples").glob("*/README.md"))]
     count = 0
     for name in names:
         page.open(f"#{name}")
@@ -421,6 +422,16 @@ def asks_every_command(page: Page) -> None:
             expect(("refused" in told) == wanted[1].startswith("kuifje: ") or "$ kuifje" in told, f"{name}, {wanted[0]}: {told[:200]}")
             count += 1
     print(f"    {count} commands of {len(names)} pages")
+
+
+def asks_questions(page: Page) -> None:
+    """Ten for each lesson; the first of the first one is answered with 1/3 once that is asked for."""
+    page.open("#lesson/1")
+    page.wait(lambda: len(page.driver.find_elements("css selector", ".question")) == 10, "ten questions")
+    first = page.find(".question")
+    expect("1/3" not in first.text, "the answer stands there")
+    first.find_element("css selector", "summary").click()
+    page.wait(lambda: "1/3" in first.text, "its answer")
 
 
 def teaches(page: Page) -> None:
@@ -592,7 +603,7 @@ def every_program(page: Page) -> None:
 TESTS: list[Callable[[Page], None]] = [
     is_small, answers_at_once, page_commands, shows_views, colours_lines, says_what_is_asked, shows_a_refusal_at_its_place, compares_two_texts, edits_gains,
     cuts_what_is_large, is_stopped, wants_memory, tells_a_trap, takes_both_modules, keeps_a_link, *keeping.TRIALS, *seeing.TRIALS, refuses_links, takes_no_markup,
-    fetches_nothing_else, opens_without_a_network, opens_the_gallery, teaches, holds_the_lecture, goes_by_keyboard, fits_a_telephone, can_be_read, knows_the_words,
+    fetches_nothing_else, opens_without_a_network, opens_the_gallery, asks_questions, teaches, holds_the_lecture, goes_by_keyboard, fits_a_telephone, can_be_read, knows_the_words,
     gallery_hypers,
 ]
 LONG_TESTS: list[Callable[[Page], None]] = [asks_every_command, every_program]

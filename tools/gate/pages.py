@@ -252,8 +252,6 @@ def main(words: Sequence[str]) -> None:
     """Runs the pages, writes them where that is asked, and says what is wrong."""
     others = [word for word in words if word != "--write"]
     program = named(others).path
-    if not program.is_file():
-        sys.exit(f"there is no {program}: build the program first")
     only = [Path(name).resolve() for name in others[1:]]
     every = only or pages_and_notebooks()
     with ThreadPoolExecutor(os.cpu_count()) as pool:

@@ -4,6 +4,7 @@ from __future__ import annotations
 
 import os
 import subprocess
+import sys
 from collections.abc import Callable, Mapping, Sequence
 from dataclasses import dataclass
 from pathlib import Path
@@ -52,8 +53,11 @@ def run(
 ) -> Outcome:
     """Runs a command in a folder, for so many seconds at most. ``before`` is called in the new process before the command begins.
 
-    Raises ``OSError`` where the command can't be started.
+    Where no environment is given the command has this process's own, but for the folders in which this package is found. Raises ``OSError`` where the
+    command can't be started.
     """
+    if environment is None:
+        environment = {name: value for name, value in os.environ.items() if name != "PYTHONPATH"}
     try:
         done = subprocess.run(
             words, cwd=folder, timeout=seconds, env=environment, stdin=stdin, stdout=stdout, stderr=stderr, preexec_fn=before, check=False
@@ -83,6 +87,13 @@ class Program:
         return Outcome(words, ended.status, ended.out, ended.err)
 
 
+def program_at(path: Path) -> Program:
+    """The program that is asked. Ends with 1 where there is none."""
+    if not path.is_file():
+        sys.exit(f"there is no {path}: build the program first")
+    return Program(path)
+
+
 def named(words: Sequence[str]) -> Program:
     """The program that the words of a check name first, or the built one."""
-    return Program(Path(words[0])) if words else Program()
+    return program_at(Path(words[0]) if words else BUILT)

@@ -33,10 +33,12 @@ class Trial:
         return self.program.run(*words, folder=self.folder)
 
     def answer(self, *words: Word) -> str:
-        """What the program prints; a no has the status 1. Ends with 1 where there is no answer."""
+        """What the program prints; a no has the status 1, and all else 0. Ends with 1 where there is no answer, or another status."""
         outcome = self.ask(*words)
         if outcome.status not in (0, 1):
             self.wrong(f"{said(words)}: status {outcome.status}, {outcome.message}")
+        if (outcome.status == 1) != is_no(outcome.answer):
+            self.wrong(f"{said(words)}: status {outcome.status} with {outcome.answer}")
         return outcome.answer
 
     def read(self, kind: type[Answer], *words: Word) -> Answer:
@@ -56,6 +58,11 @@ class Trial:
     def wrong(self, fault: str) -> NoReturn:
         """Ends with 1, and says what is wrong of which programs."""
         raise SystemExit(f"{fault}; the programs are {[path.read_text() for path in sorted(self.folder.glob('*.kf'))]}")
+
+
+def is_no(answer: str) -> bool:
+    """Whether an answer is the verdict no, as a text or as a certificate, or a mark that rejects one."""
+    return answer.startswith(("refines no\n", "rejected ")) or '"verdict":"no"' in answer
 
 
 def said(words: Sequence[Word]) -> str:

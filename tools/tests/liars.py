@@ -9,10 +9,11 @@ from dataclasses import replace
 from pathlib import Path
 
 from gate.program import Outcome, Program, Stream, Word
+from gate.trial import is_no
 
 
 class Liar(Program):
-    """The built program, which prints another text where a command's answer has one, and may end with another status."""
+    """The built program, which prints another text where a command's answer has one, and ends as it would with that, or with another status."""
 
     def __init__(self, path: Path, command: str, old: str, new: str, status: int | None = None) -> None:
         super().__init__(path)
@@ -35,4 +36,4 @@ class Liar(Program):
         if count == 0:
             return outcome
         self.told += 1
-        return replace(outcome, out=out, status=outcome.status if self.status is None else self.status)
+        return replace(outcome, out=out, status=int(is_no(out.decode())) if self.status is None else self.status)

@@ -96,6 +96,12 @@ def test_beside(compare: Comparison, command: str, old: str, new: str, tmp_path:
     assert liar.told
 
 
+@pytest.mark.parametrize("status", [1, 2, -11])
+def test_an_answer_with_another_status(status: int, tmp_path: Path) -> None:
+    with pytest.raises(SystemExit, match=f"capacity p.kf: status {status}"):
+        beside.channels_beside(trial_of(Liar(PROGRAM, "capacity", "^capacity ", "capacity ", status), tmp_path))
+
+
 def test_an_answer_of_another_form(tmp_path: Path) -> None:
     with pytest.raises(SystemExit, match="channel p.kf: line .* wanted 'rows'"):
         beside.channels_beside(trial_of(Liar(PROGRAM, "channel", r"^rows ", "lines "), tmp_path))
@@ -231,7 +237,7 @@ def test_both_say_the_same_of_spoilt_certificates(tmp_path: Path) -> None:
     ],
 )
 def test_a_program_that_says_something_else_of_a_certificate(old: str, new: str, status: int, what: str, tmp_path: Path) -> None:
-    runs = Runs(tmp_path, Liar(PROGRAM, "check", old, new, status))
+    runs = Runs(tmp_path, Liar(PROGRAM, "check", old, new))
     certificates.compare_all(runs, SPOILT)
     assert [fault for fault in runs.faults if f"{what}: kuifje {status} {new}, the script" in fault] == runs.faults and len(runs.faults) == 1
 

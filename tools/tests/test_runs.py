@@ -7,15 +7,17 @@ import sys
 from pathlib import Path
 
 import pytest
+from conftest import PROGRAM
 from gate.bench import certificates, lines, steps
 from gate.bench.measured import measured
 from gate.coq.agreement import changed, excuse, first_places
 from gate.coq.confirm import with_a_digit_changed
 from gate.coq.lines import without_comments
 from gate.coq.verdicts import spoilt_certificate
+from gate.hostile.refusing import can_stop_programs, run_refusing
 from gate.hostile.report import Report
 from gate.hostile.statuses import fault_of
-from gate.hostile.texts import cuts, deep_type, filled, words_for
+from gate.hostile.texts import Tries, cuts, deep_type, filled, words_for
 from gate.program import Outcome, Program, run
 from gate.record import with_proof
 from gate.repository import CRATES, crates
@@ -116,6 +118,34 @@ def test_texts_that_try_the_limits() -> None:
     assert deep_type().count("(") == 64 and deep_type().count("set of") == 63 * 64 // 2
     assert list(cuts(b"abc")[0]) == [3, 2, 1, 0] and [place for part in cuts(b"x" * 5000) for place in part] == list(range(5000, -1, -5))
     assert len({words_for(number)[0] for number in range(17)}) == 16
+
+
+@pytest.mark.skipif(not PROGRAM.is_file(), reason="there is no bin/kuifje, nor a program that KUIFJE_PROGRAM names")
+def test_each_cut_and_each_change_is_a_run(tmp_path: Path) -> None:
+    """Of a text of 22 bytes there are 23 cuts. A program that ends with 14 does nothing that is documented."""
+    text = b"var x : bool := true;\n"
+    wrong = tmp_path / "kuifje"
+    wrong.write_text("#!/bin/sh\nexit 14\n")
+    wrong.chmod(0o755)
+    for path, faults in ((PROGRAM, 0), (wrong, 28)):
+        report = Report()
+        tries = Tries(Program(path), report, tmp_path / path.parent.name)
+        tries.cut("a text", text, cuts(text)[0])
+        tries.change([("a text", text)], "1", 5)
+        assert (report.runs, report.faults) == (28, faults)
+
+
+@pytest.mark.skipif(not can_stop_programs(), reason="programs are stopped on Linux on x86-64 alone")
+def test_an_allocation_is_refused_and_counted(tmp_path: Path) -> None:
+    """A program of C's library that asks for memory three times, and says how often it got some."""
+    (tmp_path / "asks.c").write_text(
+        "#include <stdio.h>\n#include <stdlib.h>\n#include <unistd.h>\n"
+        "int main(void) { char c = '0'; for (int i = 0; i < 3; i++) { char *p = malloc(9); if (p) c++, p[0] = c; } return write(1, &c, 1) != 1; }\n"
+    )
+    assert run(["cc", "-O0", tmp_path / "asks.c", "-o", tmp_path / "asks"]).status == 0
+    whole, count = run_refusing(tmp_path / "asks", [], tmp_path, None)
+    assert (whole.status, whole.out, count) == (0, b"3", 3)
+    assert [run_refusing(tmp_path / "asks", [], tmp_path, call)[0].out for call in (1, 2, 3)] == [b"2"] * 3
 
 
 # ---- what is measured

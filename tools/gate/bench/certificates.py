@@ -15,6 +15,7 @@ from dataclasses import dataclass
 from pathlib import Path
 from typing import Any
 
+from ..program import program_at
 from ..repository import BUILT
 from .measured import measured
 
@@ -117,7 +118,7 @@ def main() -> None:
     words.add_argument("--runs", type=int, default=3)
     asked = words.parse_args()
     with tempfile.TemporaryDirectory() as folder:
-        passed = [is_passed(row, asked.program.resolve(), asked.runs, Path(folder)) for row in ROWS]
+        passed = [is_passed(row, program_at(asked.program).path, asked.runs, Path(folder)) for row in ROWS]
     sys.exit(0 if all(passed) else 1)
 
 

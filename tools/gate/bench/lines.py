@@ -22,7 +22,7 @@ from collections.abc import Sequence
 from dataclasses import dataclass
 from pathlib import Path
 
-from ..program import Word
+from ..program import Word, program_at
 from ..repository import BUILT, EXAMPLES, TOP
 from .measured import machine, measured
 from .programs import ROWS
@@ -131,7 +131,7 @@ def main() -> None:
     made = [(f"{maker.__name__} {size}", maker(size)) for maker, sizes in ROWS for size in sizes]
     stored = [(str(path.relative_to(TOP)), path.read_text()) for path in sorted(EXAMPLES.rglob("*.kf"))]
     programs = [(name, text) for name, text in stored + made if not asked.only or any(part in name for part in asked.only.split(","))]
-    sys.exit(0 if (count(programs) if asked.steps else measure(programs, asked.program.resolve(), asked.runs)) else 1)
+    sys.exit(0 if (count(programs) if asked.steps else measure(programs, program_at(asked.program).path, asked.runs)) else 1)
 
 
 if __name__ == "__main__":

@@ -16,7 +16,7 @@ from collections.abc import Iterator, Sequence
 from dataclasses import dataclass, field
 from pathlib import Path
 
-from ..program import Word
+from ..program import Word, program_at
 from ..repository import BUILT
 from .measured import Measured, measured
 from .programs import ROWS
@@ -87,12 +87,13 @@ def main() -> None:
     words.add_argument("--commands", default="hyper,leak")
     words.add_argument("--runs", type=int, default=3)
     asked = words.parse_args()
+    program, beside = program_at(asked.program).path, program_at(asked.beside).path if asked.beside else None
     print("| program | size | command | s / MB |" + (" beside | time | memory |" if asked.beside else ""))
     print("| --- " * (7 if asked.beside else 4) + "|")
     with tempfile.TemporaryDirectory() as folder:
         rows = Rows(Path(folder), asked.runs)
         for head, question in questions(asked.only.split(","), asked.commands.split(","), rows.folder / "p.kf"):
-            print(rows.row(head, question, asked.program, asked.beside), flush=True)
+            print(rows.row(head, question, program, beside), flush=True)
     if rows.times:
         print(f"\ngeometric mean: {mean(rows.times):.2f} of the time and {mean(rows.memories):.2f} of the memory")
     sys.exit(rows.differ)

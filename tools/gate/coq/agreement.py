@@ -20,7 +20,7 @@ from collections.abc import Iterable, Iterator, Sequence
 from pathlib import Path
 from typing import Any
 
-from ..program import Program, run
+from ..program import Program, named, run
 from ..repository import EXAMPLES
 from .confirm import CONFIRM, printed
 
@@ -247,7 +247,7 @@ def main(words: Sequence[str]) -> None:
     paths = [Path(word).resolve() for word in words[1:]]
     pairs = list(zip(paths[::2], paths[1::2])) or [(EXAMPLES / a, EXAMPLES / b) for a, b in PAIRS]
     with tempfile.TemporaryDirectory() as folder:
-        faults = [fault for a, b in pairs for fault in compare(Program(Path(words[0])), a, b, Path(folder))]
+        faults = [fault for a, b in pairs for fault in compare(named(words), a, b, Path(folder))]
     print(*faults, sep="\n", end="\n" if faults else "")
     sys.exit(1 if faults else 0)
 

@@ -20,7 +20,7 @@ from collections.abc import Iterator, Sequence
 from pathlib import Path
 
 from ..case_files import every_case
-from ..program import Program
+from ..program import Program, named
 from ..repository import COURSE, EXAMPLES
 from .confirm import PROBABILITY, confirm, faults_by_coqc, printed, told, with_a_digit_changed
 from .export import exported
@@ -159,7 +159,7 @@ def main(words: Sequence[str]) -> None:
     """Compares ten programs, or all."""
     if len(words) not in (1, 2) or words[1:] not in ([], ["--all"]):
         sys.exit(__doc__)
-    program = Program(Path(words[0]))
+    program = named(words)
     with tempfile.TemporaryDirectory() as folder:
         count, faults = (every if words[1:] else ten)(program, Path(folder))
     sys.exit(told(f"programs: {dict(count)}, ", faults))

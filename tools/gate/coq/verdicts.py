@@ -14,7 +14,7 @@ import tempfile
 from collections.abc import Iterator, Sequence
 from pathlib import Path
 
-from ..program import Program
+from ..program import Program, named
 from ..repository import EXAMPLES
 from .confirm import PROBABILITY, confirm, faults_by_coqc, printed, told, with_a_digit_changed
 from .export import exported
@@ -82,7 +82,7 @@ def main(words: Sequence[str]) -> None:
     """Tries all pairs."""
     if len(words) != 1:
         sys.exit(__doc__)
-    program = Program(Path(words[0]))
+    program = named(words)
     with tempfile.TemporaryDirectory() as folder:
         faults = [fault for pair in VERDICTS for fault in faults_of_pair(program, Path(folder), *pair)]
     sys.exit(told(f"verdicts: {len(VERDICTS)}, ", faults))

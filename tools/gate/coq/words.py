@@ -14,7 +14,7 @@ import tempfile
 from collections.abc import Iterator, Sequence
 from pathlib import Path
 
-from ..program import Program, Word, run
+from ..program import Program, Word, named, run
 from ..repository import EXAMPLES
 from .confirm import CONFIRM, printed, told
 
@@ -166,7 +166,7 @@ def main(words: Sequence[str]) -> None:
     """Tries all."""
     if len(words) != 1:
         sys.exit(__doc__)
-    program = Program(Path(words[0]))
+    program = named(words)
     with tempfile.TemporaryDirectory() as scratch:
         folder = Path(scratch)
         faults = [*faults_of_numbers(program), *faults_of_words(), *faults_of_long_files(program, folder), *faults_of_writes(program, folder)]

@@ -21,7 +21,7 @@ from pathlib import Path
 from typing import Any, Protocol
 
 from ..case_files import case_files, cases_of
-from ..program import Outcome, Program, Word, run
+from ..program import Outcome, Program, Word, program_at, run
 from ..repository import BUILT, TOP
 
 COMPILER = os.environ.get("CC", "cc")
@@ -397,7 +397,7 @@ def main() -> None:
     arguments.add_argument("--library", default=TOP / "lib" / "libkuifje.a", type=Path)
     arguments.add_argument("--program", default=BUILT, type=Path)
     asked = arguments.parse_args()
-    program = Program(asked.program)
+    program = program_at(asked.program)
     library, few = Library(asked.library.resolve().with_suffix(".so.0")), 3 if asked.quick else 20
     print(bad_calls(library), flush=True)
     print(beside(library, program), flush=True)

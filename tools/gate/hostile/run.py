@@ -13,7 +13,7 @@ import tempfile
 from collections.abc import Callable
 from pathlib import Path
 
-from ..program import Program
+from ..program import program_at
 from ..repository import BUILT, EXAMPLES
 from .files import try_files
 from .memory import try_memory
@@ -28,7 +28,7 @@ def main() -> None:
     arguments.add_argument("--runs", type=int, default=100_000)
     arguments.add_argument("--seed", type=int, default=1)
     asked = arguments.parse_args()
-    program, faults = Program(asked.program), 0
+    program, faults = program_at(asked.program), 0
     with tempfile.TemporaryDirectory() as scratch:
         folder = Path(scratch)
 

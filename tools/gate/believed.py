@@ -103,6 +103,7 @@ def counted(path: Path) -> list[str]:
 
 
 def size_of(paths: Iterable[Path]) -> tuple[int, int]:
+    """The lines and characters to believe."""
     lines = [line for path in paths for line in counted(path)]
     return len(lines), sum(map(len, lines))
 
@@ -119,6 +120,7 @@ def says(path: Path) -> str:
 
 
 def name_of(path: Path) -> str:
+    """A file as pages name it."""
     return str(path.relative_to(CRATES))
 
 
@@ -195,17 +197,20 @@ def rows_of_trust() -> Iterator[tuple[str, list[Path], list[tuple[str, str]]]]:
 
 
 def source_of(crate: str, function: str) -> Path | None:
+    """The file that has a public function."""
     return next(
         (path for path in sorted((CRATES / crate).glob("src/**/*.rt")) if re.search(rf"^pub fn {function}\b", path.read_text(), re.MULTILINE)), None
     )
 
 
 def table(heads: Row, rows: Sequence[Row]) -> str:
+    """A table of a page."""
     lines: list[Row] = [heads, ["---"] * len(heads), *rows]
     return "\n".join("| " + " | ".join(str(cell).replace("|", "\\|") for cell in line) + " |" for line in lines) + "\n"
 
 
 def definitions(paths: Sequence[Path]) -> str:
+    """The table of some files."""
     return table(["File", "What it says", "Lines"], [[f"`{name_of(path)}`", says(path), len(counted(path))] for path in paths])
 
 
@@ -346,6 +351,7 @@ def row_of(call: Call) -> Row:
 
 
 def faults_of(believed: Collection[Path]) -> Iterator[str]:
+    """What is wrong with the marks, the lines and the subjects of the files."""
     for path in sorted(believed):
         lines = path.read_text().splitlines()
         if not lines[0].startswith(MARK):
@@ -375,6 +381,7 @@ def faults_of_trust(believed: Collection[Path]) -> Iterator[str]:
 
 
 def faults_on_pages() -> Iterator[str]:
+    """What pages name, and isn't there."""
     for path in [TOP / "README.md", *(page for page in sorted(DOCS.glob("*.md")) if page != TABLES)]:
         text = path.read_text()
         for name in sorted(set(FILE.findall(text))):

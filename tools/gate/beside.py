@@ -45,6 +45,7 @@ Shares = Mapping[Value, Fraction]
 
 
 def prior(numbers: Numbers, size: int) -> str:
+    """The cases of a choice of so many values."""
     return ", ".join(f"{value} : {numbers.randint(1, 4)}" for value in range(size))
 
 
@@ -55,6 +56,7 @@ def observation(numbers: Numbers, size: int) -> str:
 
 
 def program(numbers: Numbers) -> str:
+    """A program with one or two observations."""
     lines = "".join(observation(numbers, 3) for _ in range(numbers.randint(1, 2)))
     return f"var x : 0..2 := choose {{ {prior(numbers, 3)} }};\nabout old x;\n{lines}"
 
@@ -376,6 +378,7 @@ def verdict_beside(trial: Trial, first: Weights, second: Weights) -> bool:
 
 
 def drawn(numbers: Numbers, columns: int, values: int) -> list[list[int]]:
+    """Columns of weights."""
     return [[numbers.randint(0, 4) for _ in range(values)] for _ in range(columns)]
 
 

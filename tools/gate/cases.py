@@ -90,6 +90,7 @@ PIECES = re.compile(rf"(?:[{UNSEEN}]|[ \t]+\Z)+|(?:(?![ \t]+\Z)[^{UNSEEN}])+")
 
 
 def is_text(piece: str) -> bool:
+    """Whether a piece can stand in a file of cases as it is."""
     return NO_TEXT.search(piece) is None
 
 

@@ -184,12 +184,14 @@ MEMBERS = [
 
 
 def at(value: Any, place: Place) -> Any:
+    """The part of a value at a place."""
     for step in place:
         value = value[step]
     return value
 
 
 def has(value: Any, place: Place) -> bool:
+    """Whether a value has this place."""
     try:
         at(value, place)
     except (KeyError, IndexError, TypeError):
@@ -205,10 +207,12 @@ def edited(cert: Cert, place: Place, change: Change) -> Cert:
 
 
 def put(value: Any) -> Change:
+    """The change that leaves a value there."""
     return lambda holder, key: holder.__setitem__(key, copy.deepcopy(value))
 
 
 def numbers_times(cert: Cert, factor: int) -> Cert:
+    """A table whose numbers are multiplied."""
     cert = copy.deepcopy(cert)
     cert["rest"] = str(int(cert["rest"]) * factor)
     for action in cert["actions"]:
@@ -217,11 +221,12 @@ def numbers_times(cert: Cert, factor: int) -> Cert:
 
 
 def mapped(entries: list[list[str]], change: Callable[[int, int, str], tuple[object, ...]]) -> Cert:
+    """The entries of a matrix, each changed."""
     return {"entries": [list(map(str, change(int(i), int(j), value))) for i, j, value in entries]}
 
 
-def spoilt_lists(cert: Cert) -> Iterator[tuple[str, Any]]:
-    """Members left out, doubled and moved; whole matrices and tables that say something else, or the same otherwise."""
+def spoilt_members(cert: Cert) -> Iterator[tuple[str, Any]]:
+    """Members left out, doubled, moved and turned round."""
     for place in (place for place in PLACES if place and has(cert, place)):
         yield f"without {place}", edited(cert, place, lambda holder, key: holder.pop(key))
         if isinstance(place[-1], int):
@@ -232,39 +237,55 @@ def spoilt_lists(cert: Cert) -> Iterator[tuple[str, Any]]:
         if has(cert, place):
             yield f"{place} turned round", edited(cert, place, lambda holder, key: holder[key].reverse())
             yield f"{place} as text", edited(cert, place, lambda holder, key: holder.__setitem__(key, json.dumps(holder[key])))
+
+
+def spoilt_matrices(cert: Cert) -> Iterator[tuple[str, Any]]:
+    """Matrices that say something else, or the same otherwise."""
+    entries, columns, rows = cert["entries"], int(cert["columns"]), int(cert["rows"])
+    yield "rows and columns changed over", {**cert, "rows": cert["columns"], "columns": cert["rows"]}
+    yield "one row more", {**cert, "rows": str(rows + 1)}
+    yield "one column more", {**cert, "columns": str(columns + 1)}
+    yield "columns turned round", {**cert, **mapped(entries, lambda i, j, value: (i, columns - 1 - j, value))}
+    yield "rows turned round", {**cert, "entries": sorted(mapped(entries, lambda i, j, value: (rows - 1 - i, j, value))["entries"])}
+    yield "first column alone", {**cert, "entries": [[str(i), "0", "1"] for i in range(rows)]}
+    yield "all alike", {**cert, "entries": [[str(i), str(j), f"1/{columns}"] for i in range(rows) for j in range(columns)]}
+    yield "not in lowest terms", {
+        **cert,
+        **mapped(entries, lambda i, j, value: (i, j, "/".join(f"{part}0" for part in f"{value}/1".split("/")[:2]))),
+    }
+    yield "as a text each", {**cert, "entries": ["".join(entry[:2]) + "1" for entry in entries]}
+    named = {tuple(entry[:2]) for entry in entries}
+    zeros = [[str(i), str(j), "0"] for i in range(rows) for j in range(columns) if (str(i), str(j)) not in named]
+    yield "with entries of 0", {**cert, "entries": sorted(entries + zeros)}
+    yield "below 0 and above 1", {**cert, "entries": [["0", "0", "2"], ["0", "1", "-1"], *(entry for entry in entries if entry[0] != "0")]}
+
+
+def spoilt_tables(cert: Cert) -> Iterator[tuple[str, Any]]:
+    """Tables that say something else, or the same otherwise."""
+    yield "gains and over doubled", {**numbers_times(cert, 2), "over": str(2 * int(cert["over"]))}
+    yield "gains turned into losses", numbers_times(cert, -1)
+    yield "no gain at all", numbers_times(cert, 0)
+    yield "gains times 10^36", numbers_times(cert, 10**36)
+    yield "gains times 10^40", numbers_times(cert, 10**40)
+    yield "one action, its gains not named", {**cert, "actions": [{"gains": [], "name": "b0"}]}
+    yield "every action of one name", {**cert, "actions": [{**action, "name": "b"} for action in cert["actions"]]}
+    yield "rest greater than all gains", {**cert, "rest": "1000"}
+    yield "a value twice in an action", edited(cert, ["actions", 0, "gains"], lambda holder, key: holder[key].append(holder[key][0]))
+    yield "a value that can't come", edited(cert, ["actions", 0, "gains"], lambda holder, key: holder[key].append(["3", "1"]))
+    yield "an empty action more", {**cert, "actions": [*cert["actions"], {"gains": [], "name": "none"}]}
+
+
+def spoilt_lists(cert: Cert) -> Iterator[tuple[str, Any]]:
+    """Spoilt members, and whole matrices and tables that are other ones."""
+    yield from spoilt_members(cert)
     if "entries" in cert:
-        entries, columns, rows = cert["entries"], int(cert["columns"]), int(cert["rows"])
-        yield "rows and columns changed over", {**cert, "rows": cert["columns"], "columns": cert["rows"]}
-        yield "one row more", {**cert, "rows": str(rows + 1)}
-        yield "one column more", {**cert, "columns": str(columns + 1)}
-        yield "columns turned round", {**cert, **mapped(entries, lambda i, j, value: (i, columns - 1 - j, value))}
-        yield "rows turned round", {**cert, "entries": sorted(mapped(entries, lambda i, j, value: (rows - 1 - i, j, value))["entries"])}
-        yield "first column alone", {**cert, "entries": [[str(i), "0", "1"] for i in range(rows)]}
-        yield "all alike", {**cert, "entries": [[str(i), str(j), f"1/{columns}"] for i in range(rows) for j in range(columns)]}
-        yield "not in lowest terms", {
-            **cert,
-            **mapped(entries, lambda i, j, value: (i, j, "/".join(f"{part}0" for part in f"{value}/1".split("/")[:2]))),
-        }
-        yield "as a text each", {**cert, "entries": ["".join(entry[:2]) + "1" for entry in entries]}
-        named = {tuple(entry[:2]) for entry in entries}
-        zeros = [[str(i), str(j), "0"] for i in range(rows) for j in range(columns) if (str(i), str(j)) not in named]
-        yield "with entries of 0", {**cert, "entries": sorted(entries + zeros)}
-        yield "below 0 and above 1", {**cert, "entries": [["0", "0", "2"], ["0", "1", "-1"], *(entry for entry in entries if entry[0] != "0")]}
+        yield from spoilt_matrices(cert)
     if "actions" in cert:
-        yield "gains and over doubled", {**numbers_times(cert, 2), "over": str(2 * int(cert["over"]))}
-        yield "gains turned into losses", numbers_times(cert, -1)
-        yield "no gain at all", numbers_times(cert, 0)
-        yield "gains times 10^36", numbers_times(cert, 10**36)
-        yield "gains times 10^40", numbers_times(cert, 10**40)
-        yield "one action, its gains not named", {**cert, "actions": [{"gains": [], "name": "b0"}]}
-        yield "every action of one name", {**cert, "actions": [{**action, "name": "b"} for action in cert["actions"]]}
-        yield "rest greater than all gains", {**cert, "rest": "1000"}
-        yield "a value twice in an action", edited(cert, ["actions", 0, "gains"], lambda holder, key: holder[key].append(holder[key][0]))
-        yield "a value that can't come", edited(cert, ["actions", 0, "gains"], lambda holder, key: holder[key].append(["3", "1"]))
-        yield "an empty action more", {**cert, "actions": [*cert["actions"], {"gains": [], "name": "none"}]}
+        yield from spoilt_tables(cert)
 
 
 def spoilt_values(cert: Cert) -> Iterator[tuple[str, Any]]:
+    """Another value at each place, and spoilt lists."""
     for place in PLACES[1:]:
         if has(cert, place[:-1]) and (has(cert, place) or place[-1] == "more"):
             for value in VALUES:
@@ -282,6 +303,7 @@ def replaced(text: str, value: str) -> bytes:
 
 
 def spoilt_texts(cert: Cert) -> Iterator[tuple[str, bytes]]:
+    """Other texts, of the same JSON or of none."""
     text = json.dumps(cert, separators=(",", ":"))
     whole = text.encode()
     yield from ((f"cut after {part}", whole[: len(whole) * part // 8]) for part in range(8))
@@ -430,6 +452,7 @@ def said(outcome: Outcome) -> Said:
 
 
 def in_older_format(cert: Cert) -> Cert:
+    """A certificate in the format before the present one."""
     if cert["verdict"] == "no":
         return {**cert, "format": "kuifje-cert-1"}
     rows = [["0"] * int(cert["columns"]) for _ in range(int(cert["rows"]))]
@@ -501,6 +524,7 @@ CHANGES = [
 
 
 def spoilt_hypers(text: str) -> Iterator[tuple[str, str]]:
+    """Hypers that aren't printed so."""
     lines = text.splitlines()
     yield from ((f"cut after {count} lines", "\n".join(lines[:count])) for count in range(len(lines)))
     yield from ((f"without line {k}", "\n".join(lines[:k] + lines[k + 1 :])) for k in range(len(lines)))

@@ -5,7 +5,8 @@
 Each crate of crates.txt has one row, and each row is a crate's; rows stand in the order of that file. What a crate stands on is there without what
 these stand on themselves, then the toolchain's crates. With --write that column is written anew.
 On each page a file or folder named with its crate (`kf_run/src/pushes.rt`) is one of that crate, one named alone (`pushes.rt`) of some crate, and a
-call or type with its crate (`kf_run::push`) is defined or named again there. Ends with 1 where a page differs."""
+call or type with its crate (`kf_run::push`) is defined or named again there. A script (`.ci/pages`) or a file of `tools/` is there, too, and so is what
+`tools/run` is to run. Ends with 1 where a page differs."""
 
 from __future__ import annotations
 
@@ -19,6 +20,7 @@ from .repository import CRATES, DOCS, TOP, crates
 
 PAGE = DOCS / "ARCHITECTURE.md"
 ROW = re.compile(r"^\| `(\w+)` \|([^|]*)\|", re.MULTILINE)
+SCRIPT = re.compile(r"`((?:\.ci|tools)/[\w./-]+)(?: ([a-z][\w.]*))?")
 OF_THE_TOOLCHAIN = {"AnswersOffered.antt"}
 Listed = Mapping[str, list[str]]  # the crates, each with what it uses
 DEFINED = r"\b(?:fn|struct|enum|trait|type|const) {0}\b|pub use [^;]*\b{0}\b"
@@ -58,6 +60,16 @@ def unknown(text: str, files: Mapping[str, list[Path]], sources: Mapping[str, st
         for crate, name in re.findall(r"`(\w+)::(\w+)`", line):
             if crate in files and not re.search(DEFINED.format(name), sources[crate]):
                 yield number, f"no {name} in {crate}"
+        yield from ((number, fault) for fault in unknown_scripts(line))
+
+
+def unknown_scripts(line: str) -> Iterator[str]:
+    """What a line names of the scripts, and isn't there. A name in capitals stands for any."""
+    for script, word in SCRIPT.findall(line):
+        if not (TOP / script).exists() and not Path(script).name.isupper():
+            yield f"no {script}"
+        if script == "tools/run" and word and not (TOP / "tools" / "gate" / f"{word.replace('.', '/')}.py").is_file():
+            yield f"no {word} for tools/run"
 
 
 def faults_of_rows(page: str, listed: Listed) -> list[str]:

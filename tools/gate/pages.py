@@ -58,6 +58,7 @@ class Block:
         self.new: list[str] | None = None
 
     def text(self) -> str:
+        """What the block has, as a text."""
         return "".join(f"{line}\n" for line in self.lines)
 
     def become(self, lines: list[str]) -> None:
@@ -132,6 +133,7 @@ class Run:
 
 
 def difference(wanted: str, told: str) -> str:
+    """The lines in which what a page shows and what the program prints differ."""
     return "".join(
         f"    {line.rstrip()}\n" for line in difflib.unified_diff(wanted.splitlines(), told.splitlines(), "the page", "the program", lineterm="")
     )
@@ -164,9 +166,11 @@ class Page:
                     self.tell(number, fault)
 
     def tell(self, number: int, fault: str) -> None:
+        """Adds a fault of a line."""
         self.faults.append(f"{self.name}:{number}: {fault}")
 
     def show(self, shell: Run, block: Block) -> None:
+        """Compares a file with that of the tree, or leaves it for the commands."""
         name = NAME_ABOVE.search(block.above)
         if name is None:
             self.tell(block.first - 1, "a file whose name doesn't stand above it")
@@ -175,6 +179,7 @@ class Page:
             block.become(text.splitlines())
 
     def ask(self, shell: Run, block: Block) -> None:
+        """Runs the commands of a block, and compares what they print."""
         if not (block.lines and block.lines[0].startswith(PROMPT)):
             self.tell(block.first, "a block of commands that begins with none")
         lines = []

@@ -72,6 +72,7 @@ def rank(value: Value) -> tuple[Any, ...]:
 
 
 def shown(value: Value) -> str:
+    """A value as it is printed."""
     if isinstance(value, tuple):
         return "(" + ", ".join(map(shown, value)) + ")"
     if isinstance(value, frozenset):
@@ -80,10 +81,12 @@ def shown(value: Value) -> str:
 
 
 def trace_shown(trace: Trace) -> str:
+    """A trace as it is printed."""
     return "[" + ", ".join(map(shown, trace)) + "]"
 
 
 def is_of(value: Value, type_: Type) -> bool:
+    """Whether a value is of a type."""
     match type_:
         case Range(low, high):
             return bool(low <= value <= high)
@@ -95,6 +98,7 @@ def is_of(value: Value, type_: Type) -> bool:
 
 
 def narrow(number: int) -> int:
+    """The number, where it has 64 bits."""
     if not -(2**63) <= number < 2**63:
         raise Fault("ArithWide")
     return number
@@ -176,6 +180,7 @@ def listed_by(distribution: Distribution, store: Mapping[str, Value]) -> list[tu
 
 
 def case_of(value: Expression, weighing: Expression, store: Mapping[str, Value]) -> list[tuple[Value, int]]:
+    """What a case of a choice lists: nothing where its weight is 0."""
     weight = value_of(weighing, store)
     if weight < 0:
         raise Fault("NegativeWeight")
@@ -219,9 +224,11 @@ class Program:
         return f"{before.count(10) + 1}:{len(before) - before.rfind(10)}"
 
     def values(self, store: Store) -> dict[str, Value]:
+        """The variables with their values."""
         return dict(zip(self.names, store))
 
     def target_in(self, store: Store) -> Value:
+        """The value of the target."""
         found = tuple(store[len(self.names) + self.copied.index(name)] if initial else store[self.names.index(name)] for initial, name in self.items)
         return found[0] if len(found) == 1 else found
 
@@ -229,6 +236,7 @@ class Program:
         return {store + tuple(store[self.names.index(name)] for name in self.copied): kept for store, kept in stores.items()}
 
     def moved(self, store: Store, name: str, value: Value, at: int) -> Store:
+        """The store in which a variable has this value, which is drawn at a place."""
         if not is_of(value, self.types[name]):
             raise Fault("OutOfRange", at)
         place = self.names.index(name)
@@ -237,6 +245,7 @@ class Program:
     # ---- the support pass, which meets the first fault, with the least common multiple of the scales that lead to each store
 
     def scale(self) -> int:
+        """The least number over which all joint probabilities are whole."""
         stores: dict[Store, int] = {(): 1}
         for decl in self.decls:
             ends: defaultdict[Store, int] = defaultdict(lambda: 1)
@@ -297,12 +306,14 @@ class Program:
     # ---- runs: the probability of each trace with each store behind it
 
     def starts(self) -> dict[Way, Fraction]:
+        """The ways up to the first statement."""
         found: dict[Store, Fraction] = {(): Fraction(1)}
         for decl in self.decls:
             found = gathered((store + (value,), chance * part) for store, chance in found.items() for value, part in self.chances(decl.value, store))
         return {((), store): chance for store, chance in self.with_copies(found).items()}
 
     def chances(self, distribution: Distribution, store: Store) -> list[tuple[Value, Fraction]]:
+        """What a distribution chooses, with probabilities."""
         found, total = choices(distribution, self.values(store))
         return [(value, Fraction(weight, total)) for value, weight in found]
 
@@ -353,9 +364,11 @@ class Program:
     # ---- what is printed
 
     def target(self) -> str:
+        """The line of the target."""
         return "target " + ", ".join(("old " if initial else "") + name for initial, name in self.items)
 
     def hyper(self, ways: Mapping[Way, Fraction] | None = None) -> list[str]:
+        """What `hyper` prints of these ways, or of all."""
         inners = sorted(beliefs(self.rows(ways).values()).items(), key=lambda inner: order_of(inner[0]))
         lines = [self.target(), f"scale {self.scale()}", f"inners {len(inners)}"]
         for number, (inner, outer) in enumerate(inners):
@@ -363,6 +376,7 @@ class Program:
         return lines
 
     def traces(self) -> list[str]:
+        """What `traces` prints."""
         rows = self.rows()
         lines = [self.target(), f"scale {self.scale()}", f"traces {len(rows)}"]
         for trace, row in rows.items():
@@ -371,6 +385,7 @@ class Program:
         return lines
 
     def channel(self) -> list[str]:
+        """What `channel` prints, where the target is initial."""
         rows = self.rows()
         whole = gathered((value, chance) for row in rows.values() for value, chance in row.items())
         lines = [self.target(), f"columns {len(rows)}", *(f"column {i} {trace_shown(trace)}" for i, trace in enumerate(rows)), f"rows {len(whole)}"]

@@ -101,32 +101,39 @@ TARGETS = ["", "about x;\n", "about old b;\n", "about old x, b;\n", "about old b
 
 
 def observation(numbers: Numbers) -> str:
+    """An observation."""
     return f"observe {numbers.choice(SHOWN)};"
 
 
 def assignment(numbers: Numbers) -> str:
+    """An assignment to one of the two variables."""
     slot = numbers.randrange(2)
     return f"{'xb'[slot]} := {numbers.choice((OF_NUMBERS, OF_TRUTHS)[slot])};"
 
 
 def branch(numbers: Numbers) -> str:
+    """An `if` with some statements in both branches."""
     return f"if {numbers.choice(GUARDS)} {{\n{block(some(numbers, 0, 2))}}} else {{\n{block(some(numbers, 0, 1))}}}"
 
 
 def loop(numbers: Numbers) -> str:
+    """A `while` that ends."""
     return f"while x > 0 {{\nx := x - 1;\n{observation(numbers) if numbers.random() < 0.5 else ''}\n}}"
 
 
 def some(numbers: Numbers, least: int, most: int) -> list[str]:
+    """So many statements; where only one may be, it has no others in it."""
     makers = [assignment, observation] * 2 + [branch, loop] * (most > 1)
     return [numbers.choice(makers)(numbers) for _ in range(numbers.randint(least, most))]
 
 
 def block(statements: Sequence[str]) -> str:
+    """Statements as a text."""
     return "".join(statement + "\n" for statement in statements)
 
 
 def declarations(numbers: Numbers, chance: float, first: str) -> str:
+    """Two variables, each visible with this probability; the first one begins with a distribution."""
     words = ["vis" if numbers.random() < chance else "var" for _ in range(2)]
     return f"{words[0]} x : -1..1 := {first};\n{words[1]} b : bool := flip 1/2;\n"
 
@@ -185,6 +192,7 @@ GAINS = ["bayes", "tries:2", "guessing"]
 
 
 def nested(numbers: Numbers) -> str:
+    """A `while` with statements that have others in them."""
     return f"while x > 0 {{\nx := x - 1;\n{block(numbers.choices(IN_LOOPS, k=numbers.randint(1, 2)))}}}"
 
 

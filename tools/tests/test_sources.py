@@ -57,6 +57,8 @@ def test_what_is_read_beside_the_believed_is_named(repository: Repository, name:
         (MAP, "`kf_run/src/pushes.rt`", "`kf_run/src/pushing.rt`", "no src/pushing.rt in kf_run"),
         ("docs/TRUST.md", "`kf_laws::told_answers`", "`kf_laws::all_answers`", "no all_answers in kf_laws"),
         ("crates.txt", "kf_make", "kf_made", "crates.txt: there is no folder crates/kf_made"),
+        ("docs/TRUST.md", "| `.ci/believed` |", "| `.ci/belief` |", "no .ci/belief"),
+        ("docs/COSTS.md", "`tools/run bench.costs`", "`tools/run bench.cost`", "no bench.cost for tools/run"),
     ],
 )
 def test_the_map(repository: Repository, name: str, old: str, new: str, naming: str) -> None:

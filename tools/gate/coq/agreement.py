@@ -82,6 +82,7 @@ def changed(tree: Any, path: Place, value: Any) -> Any:
 
 
 def places(tree: Any, path: Place = ()) -> Iterator[tuple[Place, Any]]:
+    """Each part of a tree, with its path."""
     yield path, tree
     steps: Iterable[tuple[Step, Any]] = enumerate(tree) if isinstance(tree, list) else tree.items() if isinstance(tree, dict) else ()
     for step, part in steps:
@@ -98,6 +99,7 @@ def first_places(cert: Any) -> list[tuple[Place, Any]]:
 
 
 def bent_trees(cert: Any) -> Iterator[tuple[str, Any]]:
+    """What was done to a certificate, and what it became."""
     for path, part in first_places(cert):
         where = "/".join(map(str, path))
         for value in OTHER:

@@ -7,7 +7,7 @@ import sys
 from pathlib import Path
 
 import pytest
-from conftest import PROGRAM
+from conftest import PROGRAM, TOP
 from gate.bench import certificates, lines, steps
 from gate.bench.measured import measured
 from gate.coq.agreement import changed, excuse, first_places
@@ -60,6 +60,18 @@ def test_what_is_done_before_a_command() -> None:
     import resource
 
     assert run(["bash", "-c", "ulimit -t"], before=lambda: resource.setrlimit(resource.RLIMIT_CPU, (9, 9))).answer == "9\n"
+
+
+@pytest.mark.parametrize("words", [[], ["none"], ["hostile"], ["plain"], ["../gate/map"]])
+def test_no_check_of_that_name(words: list[str]) -> None:
+    outcome = run([TOP / "tools" / "run", *words])
+    assert outcome.status == 2 and outcome.answer == "" and outcome.message.startswith("tools/run: ") and outcome.message.count("\n") == 1
+
+
+def test_a_check_without_a_program_says_so(tmp_path: Path) -> None:
+    for check in ("beside", "ways", "certificates", "pages"):
+        outcome = run([TOP / "tools" / "run", check, tmp_path / "kuifje"])
+        assert (outcome.status, outcome.message) == (1, f"there is no {tmp_path / 'kuifje'}: build the program first\n")
 
 
 def test_the_crates_are_those_of_the_folder() -> None:

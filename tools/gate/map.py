@@ -5,8 +5,8 @@
 Each crate of crates.txt has one row, and each row is a crate's; rows stand in the order of that file. What a crate stands on is there without what
 these stand on themselves, then the toolchain's crates. With --write that column is written anew.
 On each page a file or folder named with its crate (`kf_run/src/pushes.rt`) is one of that crate, one named alone (`pushes.rt`) of some crate, and a
-call or type with its crate (`kf_run::push`) is defined or named again there. A script (`.ci/pages`) or a file of `tools/` is there, too, and so is what
-`tools/run` is to run. Ends with 1 where a page differs."""
+call or type with its crate (`kf_run::push`) is defined or named again there. A script (`.ci/pages`) or a file of `tools/` is there, too, and so is
+what `tools/run` is to run. Ends with 1 where a page differs."""
 
 from __future__ import annotations
 

@@ -297,6 +297,22 @@ def spoilt_values(cert: Cert) -> Iterator[tuple[str, Any]]:
 # ---- spoilt texts
 
 
+# What stands before or after a certificate.
+ENDS = {
+    "a letter": b"x",
+    "NUL": b"\0",
+    "a comma": b",",
+    "a bracket": b"}",
+    "a second value": b"{}",
+    "form feed": b"\f",
+    "U+00A0": b"\xc2\xa0",
+    "blanks": b" \t\r\n",
+    "a comment": b"// x",
+    "many blanks": b" " * 5000,
+    "too many blanks": b" " * MOST_BYTES,
+}
+
+
 def replaced(text: str, value: str) -> bytes:
     """A member of the same key stands before the right one, which counts."""
     return text.replace("{", f'{{"verdict":{value},', 1).encode()
@@ -308,20 +324,7 @@ def spoilt_texts(cert: Cert) -> Iterator[tuple[str, bytes]]:
     whole = text.encode()
     yield from ((f"cut after {part}", whole[: len(whole) * part // 8]) for part in range(8))
     yield "without the last byte", whole[:-1]
-    ends = {
-        "a letter": b"x",
-        "NUL": b"\0",
-        "a comma": b",",
-        "a bracket": b"}",
-        "a second value": b"{}",
-        "form feed": b"\f",
-        "U+00A0": b"\xc2\xa0",
-        "blanks": b" \t\r\n",
-        "a comment": b"// x",
-        "many blanks": b" " * 5000,
-        "too many blanks": b" " * MOST_BYTES,
-    }
-    for name, more in ends.items():
+    for name, more in ENDS.items():
         yield f"{name} at the end", whole + more
         yield f"{name} at the beginning", more + whole
     yield "a byte order mark", b"\xef\xbb\xbf" + whole

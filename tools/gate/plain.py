@@ -233,6 +233,7 @@ class Program:
         return found[0] if len(found) == 1 else found
 
     def with_copies(self, stores: Mapping[Store, Weight]) -> dict[Store, Weight]:
+        """Stores with the values of the `old` items after their own."""
         return {store + tuple(store[self.names.index(name)] for name in self.copied): kept for store, kept in stores.items()}
 
     def moved(self, store: Store, name: str, value: Value, at: int) -> Store:
@@ -259,6 +260,7 @@ class Program:
         return lcm(*self.passed(self.body, self.with_copies(stores)).values())
 
     def passed(self, statements: Sequence[Statement], stores: dict[Store, int]) -> dict[Store, int]:
+        """The stores after statements."""
         for statement in statements:
             match statement:
                 case Assign(name, value):
@@ -273,6 +275,7 @@ class Program:
         return stores
 
     def turned(self, guard: Distribution, body: Sequence[Statement], stores: dict[Store, int]) -> dict[Store, int]:
+        """The stores after a loop."""
         left: dict[Store, int] = {}
         for _ in range(self.turns):
             sides = self.sides(guard, stores)
@@ -287,6 +290,7 @@ class Program:
         return both(left, self.sides(guard, stores)[False])
 
     def stepped(self, distribution: Distribution, stores: Mapping[Store, int], end: Callable[[Store, Value], Store]) -> dict[Store, int]:
+        """The stores after a draw."""
         ends: defaultdict[Store, int] = defaultdict(lambda: 1)
         for store in sorted(stores, key=rank):
             found, total = choices(distribution, self.values(store))
@@ -296,6 +300,7 @@ class Program:
         return ends
 
     def sides(self, guard: Distribution, stores: Mapping[Store, int]) -> dict[bool, dict[Store, int]]:
+        """The stores for which a guard holds, and those for which it doesn't."""
         sides: dict[bool, dict[Store, int]] = {True: {}, False: {}}
         for store in sorted(stores, key=rank):
             found, total = choices(guard, self.values(store))
@@ -341,15 +346,18 @@ class Program:
         return ways
 
     def assigned(self, name: str, distribution: Distribution, ways: Mapping[Way, Fraction], quiet: bool) -> Iterator[tuple[Way, Fraction]]:
+        """The ways after an assignment."""
         for value, (trace, store), chance in self.leaked(distribution, ways, quiet or name not in self.visible):
             yield (trace, self.moved(store, name, value, distribution.at)), chance
 
     def leaked(self, distribution: Distribution, ways: Mapping[Way, Fraction], quiet: bool) -> Iterator[tuple[Value, Way, Fraction]]:
+        """Each way with each value that is drawn there, which is shown unless it is quiet."""
         for (trace, store), chance in ways.items():
             for value, part in self.chances(distribution, store):
                 yield value, (trace if quiet else trace + (value,), store), chance * part
 
     def split(self, guard: Distribution, ways: Mapping[Way, Fraction], quiet: bool) -> tuple[dict[Way, Fraction], dict[Way, Fraction]]:
+        """The ways on which a guard holds, and those on which it doesn't."""
         found = list(self.leaked(guard, ways, quiet))
         yes, no = (gathered((way, chance) for value, way, chance in found if value is side) for side in (True, False))
         return yes, no
@@ -440,6 +448,7 @@ class Program:
 
 
 def gathered(pairs: Iterable[tuple[Key, Fraction]]) -> dict[Key, Fraction]:
+    """The sums of what has one key."""
     found: defaultdict[Key, Fraction] = defaultdict(Fraction)
     for key, chance in pairs:
         found[key] += chance
@@ -449,6 +458,7 @@ def gathered(pairs: Iterable[tuple[Key, Fraction]]) -> dict[Key, Fraction]:
 
 
 def both(one: dict[Store, int], other: dict[Store, int]) -> dict[Store, int]:
+    """The stores of both, with the least common multiples of their scales."""
     return {store: lcm(one.get(store, 1), other.get(store, 1)) for store in one | other}
 
 

@@ -47,6 +47,7 @@ def spread(size: int, last: str = "1/2") -> dict[str, Any]:
 
 
 def table(actions: list[dict[str, Any]]) -> dict[str, Any]:
+    """The certificate of a no with these actions."""
     return {"actions": actions, "format": "kuifje-cert-2", "over": "1", "rest": "0", "verdict": "no"}
 
 

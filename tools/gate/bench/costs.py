@@ -33,6 +33,7 @@ def loops() -> str:
 
 
 def table(actions: int) -> str:
+    """A gain table of so many actions."""
     rows = ",".join(f'{{"gains":[["0",1]],"name":"a{n}"}}' for n in range(actions))
     return f'{{"actions":[{rows}],"format":"kuifje-gain-1","over":1,"rest":0}}'
 

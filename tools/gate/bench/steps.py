@@ -53,6 +53,7 @@ class Pushing:
         return dict(columns)
 
     def push(self, statements: Sequence[Statement], columns: Columns, waiting: int = 0) -> Columns:
+        """The columns after statements, while others wait."""
         for statement in statements:
             if statement is self.silent:
                 columns = self.merged([(self.hidden([statement], dict(column)), weight) for column, weight in columns.items()], waiting)
@@ -61,6 +62,7 @@ class Pushing:
         return columns
 
     def passed(self, statement: Statement, columns: Columns, waiting: int) -> Columns:
+        """The columns after a statement that shows what it shows."""
         match statement:
             case Assign(name, value):
                 return self.merged(self.split(value, columns, name in self.program.visible, self.setting(name, value)), waiting)
@@ -84,6 +86,7 @@ class Pushing:
         return lambda store, drawn: self.program.moved(store, name, drawn, distribution.at)
 
     def split(self, distribution: Distribution, columns: Columns, is_shown: bool, end: Callable[[Store, Value], Store]) -> Iterator[Piece]:
+        """What columns become where a value is drawn: one for each value where it is shown."""
         for column, weight in columns.items():
             pieces: defaultdict[Value, defaultdict[Store, Fraction]] = defaultdict(lambda: defaultdict(Fraction))
             for store, value, share in self.drawn(distribution, column):
@@ -91,6 +94,7 @@ class Pushing:
             yield from ((piece, weight) for piece in pieces.values())
 
     def sides(self, guard: Distribution, columns: Columns, waiting: int) -> tuple[Columns, Columns]:
+        """The columns that go on, and those that are done."""
         sides: dict[bool, list[Piece]] = {True: [], False: []}
         for column, weight in columns.items():
             pieces: dict[bool, defaultdict[Store, Fraction]] = {True: defaultdict(Fraction), False: defaultdict(Fraction)}
@@ -101,6 +105,7 @@ class Pushing:
         return self.merged(sides[True], waiting), self.merged(sides[False], waiting)
 
     def joined(self, one: Columns, other: Columns, waiting: int) -> Columns:
+        """The columns of both."""
         columns = defaultdict(Fraction, one)
         for column, weight in other.items():
             columns[column] += weight
@@ -133,6 +138,7 @@ class Pushing:
         return stores
 
     def parts(self, guard: Distribution, stores: Stores) -> tuple[Stores, Stores]:
+        """The stores that go on, and those that are done."""
         parts: dict[bool, defaultdict[Store, Fraction]] = {True: defaultdict(Fraction), False: defaultdict(Fraction)}
         for store, value, share in self.drawn(guard, stores.items()):
             parts[value][store] += share

@@ -138,28 +138,8 @@ def bent_trees(cert: Any) -> Iterator[tuple[str, Any]]:
             yield f"an action named {name!r}", changed(cert, ("actions", 0, "name"), name)
 
 
-def bent_texts(text: bytes) -> Iterator[tuple[str, bytes]]:
-    """The same certificate, or a spoilt one, in other bytes."""
-    compact = text.strip()
-    yield "as it is", text
-    yield "with spaces", compact.replace(b",", b" ,\n\t ").replace(b":", b" :\r")
-    yield "with a byte order mark", b"\xef\xbb\xbf" + text
-    yield "with a comma at the end", compact[:-1] + b",}"
-    yield "with a byte after it", text + b"x"
-    yield "with a NUL after it", text + b"\0"
-    yield "twice", text + text
-    yield "empty", b""
-    yield "blank", b" \n"
-    yield "with a wrong byte in a text", compact.replace(b'"verdict"', b'"verdict\xff"')
-    yield "with a line feed in a text", compact.replace(b'"format"', b'"for\nmat"')
-    yield "with a wrong escape", compact.replace(b'"format"', b'"\\format\\q"')
-    yield "with half a pair", compact.replace(b'"format"', b'"format\\ud800"')
-    yield "with the second half of a pair", compact.replace(b'"format"', b'"format\\udc00"')
-    yield "with a pair", compact.replace(b'"format"', b'"\\ud83d\\ude00"')
-    yield "with an escaped key", compact.replace(b'"format"', b'"f\\u006frm\\u0061t"')
-    yield "with an escaped number", compact.replace(b'"1"', b'"\\u0031"')
-    yield "with single quotes", compact.replace(b'"', b"'")
-    yield "with a comment", b"/* */" + compact
+def replaced_members(compact: bytes) -> Iterator[tuple[str, bytes]]:
+    """A member before the one that counts, or after it."""
     for word in (
         b"nul",
         b"nulll",
@@ -190,6 +170,31 @@ def bent_texts(text: bytes) -> Iterator[tuple[str, bytes]]:
     ):
         yield f"with a member {word!r} that a later one takes the place of", b'{"verdict":' + word + b"," + compact[1:]
         yield f"with a member {word!r} in place of the first", compact[:-1] + b',"verdict":' + word + b"}"
+
+
+def bent_texts(text: bytes) -> Iterator[tuple[str, bytes]]:
+    """The same certificate, or a spoilt one, in other bytes."""
+    compact = text.strip()
+    yield "as it is", text
+    yield "with spaces", compact.replace(b",", b" ,\n\t ").replace(b":", b" :\r")
+    yield "with a byte order mark", b"\xef\xbb\xbf" + text
+    yield "with a comma at the end", compact[:-1] + b",}"
+    yield "with a byte after it", text + b"x"
+    yield "with a NUL after it", text + b"\0"
+    yield "twice", text + text
+    yield "empty", b""
+    yield "blank", b" \n"
+    yield "with a wrong byte in a text", compact.replace(b'"verdict"', b'"verdict\xff"')
+    yield "with a line feed in a text", compact.replace(b'"format"', b'"for\nmat"')
+    yield "with a wrong escape", compact.replace(b'"format"', b'"\\format\\q"')
+    yield "with half a pair", compact.replace(b'"format"', b'"format\\ud800"')
+    yield "with the second half of a pair", compact.replace(b'"format"', b'"format\\udc00"')
+    yield "with a pair", compact.replace(b'"format"', b'"\\ud83d\\ude00"')
+    yield "with an escaped key", compact.replace(b'"format"', b'"f\\u006frm\\u0061t"')
+    yield "with an escaped number", compact.replace(b'"1"', b'"\\u0031"')
+    yield "with single quotes", compact.replace(b'"', b"'")
+    yield "with a comment", b"/* */" + compact
+    yield from replaced_members(compact)
     for deep in (126, 127, 128):
         yield f"with {deep} lists in it", b'{"verdict":' + b"[" * deep + b"]" * deep + b"," + compact[1:]
         yield f"{deep} lists", b"[" * deep + b"]" * deep

@@ -118,22 +118,32 @@ class Called(Protocol):
 
 
 class Span(ctypes.Structure):
+    """Where a text begins, and the place after it: `kuifje_span` of include/kuifje.h."""
+
     _fields_ = [("start", ctypes.c_size_t), ("end", ctypes.c_size_t)]
 
 
 class File(ctypes.Structure):
+    """A name and contents: `kuifje_file`."""
+
     _fields_ = [("name", Span), ("contents", Span)]
 
 
 class Lengths(ctypes.Structure):
+    """How long both streams are: `kuifje_lengths`."""
+
     _fields_ = [("out", ctypes.c_size_t), ("err", ctypes.c_size_t)]
 
 
 class NamedFile(ctypes.Structure):
+    """A file by its name: `kuifje_named_file` of include/kuifje_ask.h."""
+
     _fields_ = [("name", ctypes.c_char_p), ("bytes", ctypes.c_char_p), ("length", ctypes.c_size_t)]
 
 
 class Answer(ctypes.Structure):
+    """What kuifje_ask leaves: `kuifje_answer` of include/kuifje_ask.h."""
+
     _fields_ = [
         ("status", ctypes.c_int),
         ("out", ctypes.c_void_p),
@@ -196,6 +206,7 @@ class Asked:
         ]
 
     def compiled(self, name: str, *options: str) -> Path:
+        """The file that hostile/ask.c is compiled to."""
         path = self.folder / name
         sources: list[Word] = [TOP / "hostile" / "ask.c", *ALLOCATIONS, "-Wl,--wrap=kuifje_run", self.archive]
         compile_with(*WARNINGS, "-Wpedantic", "-Wconversion", *options, *sources, "-o", path)
@@ -263,6 +274,7 @@ def bad_calls(library: Library) -> str:
 
 
 def must(holds: bool, what: str) -> None:
+    """Ends with 1 where something doesn't hold."""
     if not holds:
         sys.exit(f"library: {what}")
 
@@ -279,6 +291,7 @@ class Trials:
         return run([*before, self.program, *words], folder=TOP, environment=environment, seconds=None)
 
     def pass_all(self, trial: str, questions: Sequence[Sequence[str]]) -> str:
+        """Passes a trial on each of these questions."""
         told = ""
         for words in questions:
             done = self.ask(words, trial)
@@ -287,6 +300,7 @@ class Trials:
         return f"{trial}: {len(questions)} questions; the last had {told}"
 
     def valgrind(self, questions: Sequence[Sequence[str]]) -> str:
+        """Asks these questions in valgrind, where that is here."""
         if shutil.which("valgrind") is None:
             return "valgrind is skipped, since it isn't here"
         for words in questions:
@@ -385,6 +399,7 @@ def stack(trials: Trials, folder: Path) -> str:
 
 
 def pages(trials: Trials) -> str:
+    """Runs the commands of the pages by the library."""
     done = run([TOP / ".ci" / "pages", trials.program], folder=TOP, seconds=None)
     must(done.status == 0, f"the pages by the library: {done.message}")
     commands = sum(int(line.split(" commands")[0].split()[-1]) for line in done.answer.splitlines() if " commands" in line)
@@ -392,6 +407,7 @@ def pages(trials: Trials) -> str:
 
 
 def main() -> None:
+    """Tries all."""
     arguments = argparse.ArgumentParser(description=__doc__, formatter_class=argparse.RawDescriptionHelpFormatter)
     arguments.add_argument("--quick", action="store_true")
     arguments.add_argument("--library", default=TOP / "lib" / "libkuifje.a", type=Path)

@@ -3,6 +3,7 @@
 from __future__ import annotations
 
 import os
+import re
 import sys
 from pathlib import Path
 
@@ -60,6 +61,15 @@ def test_what_is_done_before_a_command() -> None:
     import resource
 
     assert run(["bash", "-c", "ulimit -t"], before=lambda: resource.setrlimit(resource.RLIMIT_CPU, (9, 9))).answer == "9\n"
+
+
+def test_all_that_scripts_run_can_be_run() -> None:
+    """Each module that a script, a Makefile or another file names after `tools/run` begins by itself."""
+    files = [TOP / "Makefile", TOP / "audit" / "coq" / "Makefile", *(path for path in (TOP / ".ci").iterdir() if path.is_file())]
+    named = {name for path in files for name in re.findall(r"tools/run\"? \"?([a-z][a-z.]*[a-z])\b(?!\.)", path.read_text())}
+    assert {"pages", "hostile.run", "hostile.library", "bench.run", "coq.lines", "coq.agreement"} <= named
+    for name in [*named, "coq.verdicts", "coq.programs", "coq.words", "coq.export", "bench.lines", "bench.costs", "bench.certificates"]:
+        assert 'if __name__ == "__main__":\n' in (TOP / "tools" / "gate" / f"{name.replace('.', '/')}.py").read_text(), name
 
 
 @pytest.mark.parametrize("words", [[], ["none"], ["hostile"], ["plain"], ["../gate/map"]])

@@ -439,4 +439,5 @@ def main() -> None:
             print(pages(trials), flush=True)
 
 
-main()
+if __name__ == "__main__":
+    main()

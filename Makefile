@@ -57,12 +57,12 @@ test:
 
 # Throws bad texts, bad files and little memory at the built program, and says what it saw.
 hostile: bin/kuifje lib/libkuifje.so.0
-	python3 hostile/run.py
-	python3 hostile/library.py
+	tools/run hostile.run
+	tools/run hostile.library
 
 # Seconds and megabytes of the built program on programs that grow.
 bench: bin/kuifje
-	python3 bench/run.py
+	tools/run bench.run
 
 # Has Coq's proofs confirm verdicts and hypers of the built program, of every program of the examples, the course and the cases, and compares
 # the checker that is extracted from them with `kuifje check`. Where Coq isn't there it says that it skips. audit/coq/README.md says what is
@@ -70,8 +70,8 @@ bench: bin/kuifje
 confirm: bin/kuifje
 	@.ci/coq bin/kuifje
 	@if command -v coqc >/dev/null; then \
-		$(MAKE) -s -C audit/coq check && python3 audit/coq/agreement.py bin/kuifje && python3 audit/coq/speed.py && \
-		python3 audit/coq/programs.py bin/kuifje --all; fi
+		$(MAKE) -s -C audit/coq check && tools/run coq.agreement bin/kuifje && tools/run coq.speed && \
+		tools/run coq.programs bin/kuifje --all; fi
 
 # The same with nothing kept: all is proved anew, and each wrong body tried anew. A kit whose `rt ci` keeps what passed has --anew for that;
 # one without it keeps nothing.

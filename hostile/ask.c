@@ -1,7 +1,7 @@
 /* Trials of kuifje_ask (include/kuifje_ask.h), in C and in C++. Without a word it runs them all, and ends with 1 where one isn't passed.
  *
  * kuifje_run and what allocates are the linker's --wrap's: calls are counted, an answer may be made up, and each allocation refused in turn.
- * hostile/library.py also has it as a shared library, of which it calls `asked` and `freed`. */
+ * tools/gate/hostile/library.py also has it as a shared library, of which it calls `asked` and `freed`. */
 #include "../include/kuifje_ask.h"
 #include "allocations.h"
 #include <stdio.h>

@@ -1,4 +1,4 @@
-/* The program by the library: `kuifje WORDS` with the files that stand among the words. hostile/library.py links it with libkuifje.a.
+/* The program by the library: `kuifje WORDS` with the files that stand among the words. tools/gate/hostile/library.py links it with libkuifje.a.
  *
  * In place of the answer the variable TRIAL asks for a trial of the call, which ends with 1 where it isn't passed:
  *   lengths     buffers of every length from 0 to the answer's get its front and keep the rest

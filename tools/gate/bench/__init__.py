@@ -1,0 +1,1 @@
+"""What the built program takes: seconds and megabytes, and steps and columns of a plain program."""

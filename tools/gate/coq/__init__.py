@@ -1,0 +1,1 @@
+"""What tries kuifje-confirm, the second implementation, which audit/coq extracts from Coq's proofs."""

@@ -9,7 +9,7 @@ from pathlib import Path
 import pytest
 
 from kuifje import Program, check
-from kuifje.errors import OutOfTime
+from kuifje.errors import OutOfTime, Refusal
 from kuifje.measures import posterior_vulnerability
 from kuifje.repair import BadPurpose, floor, repair
 from kuifje.repair.purposes import marked, quietly
@@ -75,7 +75,9 @@ def test_a_visible_variable_in_a_branch_is_shown_on_both_sides() -> None:
     found = repair(Program(text))
     assert posterior_vulnerability(found.floor.hyper) == Fraction(1, 2)
     assert found.best is not None and found.best.at_floor and posterior_vulnerability(found.best.hyper) == Fraction(1, 4)
-    other = repair(Program(text.replace("n : 0..3 := 0", "n : 0..3 := 3")))  # now v shows whether it was taken, and is only hidden as a kind of its own
+    other = repair(
+        Program(text.replace("n : 0..3 := 0", "n : 0..3 := 3"))
+    )  # now v shows whether it was taken, and is only hidden as a kind of its own
     assert other.found == () and not other.floor.is_reached
 
 
@@ -158,6 +160,14 @@ def test_a_branch_made_even_the_wrong_way_leaks_more() -> None:
 def test_what_cannot_be_kept_is_refused(text: str, keep: int | None, words: str) -> None:
     with pytest.raises(BadPurpose, match=words):
         floor(Program(text), keep)
+
+
+def test_a_text_with_a_fault_is_refused_as_always() -> None:
+    for text, kind in (("var x : 0..3 := uniform 0..3\n", "Syntax"), (DOWN.replace("y - 1", "3 div (y - 1)"), "DivZero"), (DOWN, "LoopBound")):
+        for asked in (floor, repair):
+            with pytest.raises(Refusal) as refused:
+                asked(Program(text, turns=2))
+            assert refused.value.kind == kind
 
 
 def test_wrong_arguments() -> None:

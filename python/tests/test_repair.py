@@ -81,6 +81,15 @@ def test_a_visible_variable_in_a_branch_is_shown_on_both_sides() -> None:
     assert other.found == () and not other.floor.is_reached
 
 
+def test_names_are_told_by_an_answer_and_by_a_branch() -> None:
+    """Accepted, with 1/16, the name exists; refused, the guess that it doesn't is right with 3/4: 13/16. Either way to tell it tells all."""
+    program = program_of("examples/names/telling.kf")
+    by_structure = repair(program, 10)
+    assert by_structure.found == () and posterior_vulnerability(by_structure.floor.floor) == Fraction(13, 16)
+    (one,) = repair(program, 10, changes=("structure", "drop")).found
+    assert one.at_floor and one.kinds == ("structure", "drop") and one.needed == {(8, 1): 1, (9, 1): 1}
+
+
 def test_hidden_variables_are_a_kind_of_their_own() -> None:
     # Nothing is observed, so nothing is kept: what is published by visible variables would all have to be hidden.
     found = repair(program_of("examples/auction.kf"), changes=("structure", "drop", "hide"))
@@ -365,7 +374,12 @@ def test_the_judgement_lets_no_wrong_proposal_through(right: str, wrong: str, is
 
 
 @pytest.mark.parametrize(
-    "path, keep, repaired", [("password/early.kf", 10, "repair/flags.kf"), ("padding_oracle/oracle.kf", None, "repair/oracle.kf")]
+    "path, keep, repaired",
+    [
+        ("password/early.kf", 10, "repair/flags.kf"),
+        ("padding_oracle/oracle.kf", None, "repair/oracle.kf"),
+        ("names/one_answer.kf", None, "names/even.kf"),
+    ],
 )
 def test_the_gallery_has_the_repairs_that_are_proposed(path: str, keep: int | None, repaired: str) -> None:
     def without_comments(text: bytes) -> list[bytes]:

@@ -81,6 +81,24 @@ def test_a_visible_variable_in_a_branch_is_shown_on_both_sides() -> None:
     assert other.found == () and not other.floor.is_reached
 
 
+def test_what_both_branches_show_is_shown_once() -> None:
+    """Shown are whether x is above 1, x mod 2, and whether x is 0: x is known. Without the guard 1 and 3 aren't told apart: 3/4."""
+    text = "var x : 0..3 := uniform 0..3;\nvar n : 0..1 := 0;\nabout old x;\n"
+    text += "if x > 1 { n := 1; observe x mod 2; } else { observe x mod 2; n := 0; }\nobserve x = 0;\n"
+    best = repair(Program(text), 5).best
+    assert best is not None and not best.at_floor and posterior_vulnerability(best.hyper) == Fraction(3, 4)
+    visible = (
+        text.replace("var n", "vis n").replace("observe x mod 2", "skip").replace("n := 1", "n := x div 4").replace("uniform 0..3", "uniform 0..2")
+    )
+    even = repair(Program(visible), 5).best  # n is 0 whatever x is
+    assert even is not None and even.at_floor and posterior_vulnerability(even.hyper) == Fraction(2, 3)
+    inner = text.replace("if x > 1", "if x < 3 { if x > 1").replace("n := 0; }", "n := 0; } } else { skip; }")
+    assert posterior_vulnerability(repair(Program(inner), 5).floor.hyper) == 1
+    # In a branch 0 stands where nothing was shown: 0 is known, 1 has 1, and 2 and 3 have 0.
+    within = repair(Program(inner), 5).best
+    assert within is not None and posterior_vulnerability(within.hyper) == Fraction(3, 4)
+
+
 def test_names_are_told_by_an_answer_and_by_a_branch() -> None:
     """Accepted, with 1/16, the name exists; refused, the guess that it doesn't is right with 3/4: 13/16. Either way to tell it tells all."""
     program = program_of("examples/names/telling.kf")

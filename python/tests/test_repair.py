@@ -228,6 +228,8 @@ def test_the_commands(tmp_path: Path) -> None:
     )
     assert posterior_vulnerability(Program(written.read_bytes()).hyper()) == Fraction(2, 27)
     assert run(main, ["floor", str(written), "--keep", str(len(written.read_text().splitlines()))]).exit_code == 0
+    said = run(main, ["repair", str(TOP / "examples/names/telling.kf"), "--keep", "10"])
+    assert said.exit_code == 1 and "no repair was found by structure; that is a search, and another kind of change may do: --changes\n" in said.output
     assert run(main, ["floor", file, "--keep", "ten"]).exit_code == 2
     assert run(main, ["repair", file, "--changes", "coarse"]).exit_code == 2
     assert run(main, ["floor", str(tmp_path / "nothing.kf")]).exit_code == 2

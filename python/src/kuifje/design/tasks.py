@@ -74,7 +74,8 @@ class Task:
         if len(set(channel.columns)) != len(channel.columns):
             raise ValueError("two columns of the channel have one label")
         places = {label[0]: j for j, label in enumerate(channel.columns) if len(label) == 1}
-        if unknown := [label for label in channel.columns if len(label) != 1 or label[0] not in self.outputs]:
+        known = set(self.outputs)
+        if unknown := [label for label in channel.columns if len(label) != 1 or label[0] not in known]:
             raise ValueError(f"{unknown[0]!r} is no output of the task")
         cells = []
         for x in self.secrets:

@@ -303,6 +303,15 @@ def test_all_values_that_are_shown_are_kept(tmp_path: Path) -> None:
     assert "line 4 shows up to 3 values in a run, and all of them are kept, in their order\n" in said.output
 
 
+def test_a_sequence_without_room_is_refused_and_two_places_of_one_line_are_named() -> None:
+    with pytest.raises(BadPurpose, match="line 4 shows up to 99 values in a run, and no 32 variables hold so many"):
+        floor(Program(DOWN.replace("0..3", "0..99").replace("observe y", "observe y * 1000")))
+    with pytest.raises(BadPurpose, match="held in variables of its own: StoreTooWide"):
+        floor(Program(DOWN.replace("0..3", "0..50").replace("observe y", "observe y > 1")))
+    with pytest.raises(BadPurpose, match="at the top level, in lines 4:1, 4:12: say by keep="):
+        floor(Program(DOWN.replace("while y > 0 { observe y; y := y - 1; }", "observe y; observe 1;")))
+
+
 def test_a_loop_of_noisy_answers_keeps_all_of_them() -> None:
     """Three answers on a bit, each right with 3/4, and a branch that shows the bit. Of the answers alone the majority is right with 27/32."""
     text = "var x : bool := flip 1/2;\nvar n : 0..3 := 0;\nvar z : 0..3 := 0;\nabout old x;\n"

@@ -343,7 +343,10 @@ def _of_top(source: Source, groups: Mapping[tuple[int, int], Group]) -> list[Gro
 
 
 def _lines(places: Iterable[tuple[int, int]]) -> str:
-    return ", ".join(str(line) for line, _ in places)
+    """The lines of places, with their columns where two stand in one line."""
+    listed = list(places)
+    several = len({line for line, _ in listed}) < len(listed)
+    return ", ".join(f"{line}:{column}" if several else str(line) for line, column in listed)
 
 
 def marked(program: Program, keep: Keep = None, finals: Sequence[str] | None = None, until: Deadline = NEVER) -> Marked:

@@ -2,7 +2,9 @@
 
 from __future__ import annotations
 
+import pickle
 import random
+import sys
 from collections.abc import Mapping, Sequence
 from dataclasses import replace
 from fractions import Fraction
@@ -10,7 +12,7 @@ from pathlib import Path
 
 import pytest
 
-from kuifje import Action, GainTable, Program
+from kuifje import Action, GainTable, KuifjeError, OutOfTime, Program, errors
 from kuifje.channels import Channel
 from kuifje.design import (
     Corner,
@@ -172,6 +174,20 @@ def test_with_scipy_and_without_it_the_values_are_the_same(monkeypatch: pytest.M
     assert len(set(ways)) == 1
 
 
+def test_without_scipy_nothing_is_near(monkeypatch: pytest.MonkeyPatch) -> None:
+    monkeypatch.setitem(sys.modules, "scipy.optimize", None)
+    tableau = Tableau({0: 1})
+    tableau.add({0: 1}, 1, 0)
+    assert near_least(tableau, 1e9) is None
+
+
+def test_more_outputs_than_a_text_has_room_for_are_named() -> None:
+    count = 100_000
+    channel = Channel.from_rows({0: [Fraction(1, count)] * count}, columns=[(y,) for y in range(count)])
+    with pytest.raises(ValueError, match="the text has [0-9]+ bytes, and may have 1048576"):
+        confirm(channel, {0: Fraction(1)}, range(count), wrong)
+
+
 def _spoilt(ends: Ends | None) -> Ends | None:
     """A corner that has other prices."""
     return None if ends is None else Ends(ends.solution, [price + 1 for price in ends.prices])
@@ -260,7 +276,11 @@ def test_bounds_that_cannot_be_met_or_buy_nothing() -> None:
     loss = {(x, y): Fraction(1 + distance(x, y)) for x in range(3) for y in range(3)}
     with pytest.raises(Infeasible, match="the least is 1") as refused:
         optimal(prior, range(3), loss, 1 - Fraction(1, 10**9))
-    assert refused.value.least == 1
+    assert refused.value.least == 1 and isinstance(refused.value, KuifjeError) and isinstance(refused.value, errors.Infeasible)
+    # The proof that no channel has less: each secret with the output that costs it least.
+    assert isinstance(proof := refused.value.proof, MostUseful) and proof.loss == 1 and check_most_useful(proof, prior, range(3), loss)
+    assert not check_most_useful(replace(proof, loss=proof.loss - THIRD), prior, range(3), loss)
+    assert pickle.loads(pickle.dumps(refused.value)).least == 1
     least = optimal(prior, range(3), loss, 1)
     assert (least.value, least.loss) == (1, 1) and check_optimum(least, prior, range(3), loss)
     # Always to show 1 costs 1/2 + 1/6 more, always 0 costs 1/3 + 1/3 more.
@@ -309,6 +329,7 @@ def test_a_least_factor_is_a_bracket_with_both_proofs() -> None:
     with pytest.raises(Infeasible, match="no channel of a factor up to 18446744073709551616 has a loss of at most 0") as refused:
         least_factor(uniform(3), range(3), wrong, 0, "all")
     assert (refused.value.least, refused.value.factor) == (Fraction(2, 2**64 + 2), 2**64)
+    assert isinstance(proof := refused.value.proof, MostUseful) and proof.factor == 2**64 and check_most_useful(proof, uniform(3), range(3), wrong)
 
 
 def test_rounding_keeps_the_bound() -> None:
@@ -347,6 +368,7 @@ def test_mechanisms_by_hand() -> None:
         (ValueError, "at least 1, and not 1/2", lambda: least_loss(uniform(2), range(2), wrong, Fraction(1, 2), "all")),
         (ValueError, "7 is no secret", lambda: least_loss(uniform(2), range(2), wrong, 2, [(0, 7)])),
         (ValueError, "the width is above 0", lambda: least_factor(uniform(2), range(2), wrong, THIRD, "all", width=0)),
+        (OutOfTime, "seconds= allows more", lambda: least_loss(uniform(40), range(40), distance, 2, "all", seconds=0.01)),
         (TimeoutError, "seconds= allows more", lambda: optimal(uniform(40), range(40), distance, 1, seconds=0.01)),
         (ValueError, "at least one value, and none stands twice", lambda: randomised_response([0, 0], 2)),
         (ValueError, "at least one value", lambda: planar_geometric(0, 2, 2)),

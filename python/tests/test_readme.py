@@ -44,8 +44,8 @@ def test_blocks_run(tmp_path, monkeypatch, capsys):
     assert printed[at + 1 : at + 3] == ["proved program 7/8", "no channel leaks less True"]
     assert "above the floor: True" in printed
     assert {"5/6", "3/2 1/2", "52231/131072 True", "1/1000", "107/100 7/800"} <= set(printed)
-    for begins in ("refines", "gain bayes, ", "rounds 2, ", "value 7/16", "@@ "):
-        shown = next(text for text in blocks("text") if text.startswith(begins)).splitlines()
+    begins = ("refines", "gain bayes, ", "rounds 2, ", "value 7/16", "@@ -1,6 ", "@@ -3,6 ")
+    for shown in (next(text for text in blocks("text") if text.startswith(words)).splitlines() for words in begins):
         at = printed.index(shown[0])
         assert printed[at : at + len(shown)] == shown
     assert Path("lock.svg").stat().st_size > 1000 and len(list(Path("answers").iterdir())) == 24

@@ -9,7 +9,7 @@ from pathlib import Path
 import pytest
 
 from kuifje import Program, check
-from kuifje.errors import OutOfTime
+from kuifje.errors import OutOfTime, Refusal
 from kuifje.measures import posterior_vulnerability
 from kuifje.repair import BadPurpose, floor, repair
 from kuifje.repair.purposes import marked, quietly
@@ -75,8 +75,37 @@ def test_a_visible_variable_in_a_branch_is_shown_on_both_sides() -> None:
     found = repair(Program(text))
     assert posterior_vulnerability(found.floor.hyper) == Fraction(1, 2)
     assert found.best is not None and found.best.at_floor and posterior_vulnerability(found.best.hyper) == Fraction(1, 4)
-    other = repair(Program(text.replace("n : 0..3 := 0", "n : 0..3 := 3")))  # now v shows whether it was taken, and is only hidden as a kind of its own
+    other = repair(
+        Program(text.replace("n : 0..3 := 0", "n : 0..3 := 3"))
+    )  # now v shows whether it was taken, and is only hidden as a kind of its own
     assert other.found == () and not other.floor.is_reached
+
+
+def test_what_both_branches_show_is_shown_once() -> None:
+    """Shown are whether x is above 1, x mod 2, and whether x is 0: x is known. Without the guard 1 and 3 aren't told apart: 3/4."""
+    text = "var x : 0..3 := uniform 0..3;\nvar n : 0..1 := 0;\nabout old x;\n"
+    text += "if x > 1 { n := 1; observe x mod 2; } else { observe x mod 2; n := 0; }\nobserve x = 0;\n"
+    best = repair(Program(text), 5).best
+    assert best is not None and not best.at_floor and posterior_vulnerability(best.hyper) == Fraction(3, 4)
+    visible = (
+        text.replace("var n", "vis n").replace("observe x mod 2", "skip").replace("n := 1", "n := x div 4").replace("uniform 0..3", "uniform 0..2")
+    )
+    even = repair(Program(visible), 5).best  # n is 0 whatever x is
+    assert even is not None and even.at_floor and posterior_vulnerability(even.hyper) == Fraction(2, 3)
+    inner = text.replace("if x > 1", "if x < 3 { if x > 1").replace("n := 0; }", "n := 0; } } else { skip; }")
+    assert posterior_vulnerability(repair(Program(inner), 5).floor.hyper) == 1
+    # In a branch 0 stands where nothing was shown: 0 is known, 1 has 1, and 2 and 3 have 0.
+    within = repair(Program(inner), 5).best
+    assert within is not None and posterior_vulnerability(within.hyper) == Fraction(3, 4)
+
+
+def test_names_are_told_by_an_answer_and_by_a_branch() -> None:
+    """Accepted, with 1/16, the name exists; refused, the guess that it doesn't is right with 3/4: 13/16. Either way to tell it tells all."""
+    program = program_of("examples/names/telling.kf")
+    by_structure = repair(program, 10)
+    assert by_structure.found == () and posterior_vulnerability(by_structure.floor.floor) == Fraction(13, 16)
+    (one,) = repair(program, 10, changes=("structure", "drop")).found
+    assert one.at_floor and one.kinds == ("structure", "drop") and one.needed == {(8, 1): 1, (9, 1): 1}
 
 
 def test_hidden_variables_are_a_kind_of_their_own() -> None:
@@ -160,6 +189,14 @@ def test_what_cannot_be_kept_is_refused(text: str, keep: int | None, words: str)
         floor(Program(text), keep)
 
 
+def test_a_text_with_a_fault_is_refused_as_always() -> None:
+    for text, kind in (("var x : 0..3 := uniform 0..3\n", "Syntax"), (DOWN.replace("y - 1", "3 div (y - 1)"), "DivZero"), (DOWN, "LoopBound")):
+        for asked in (floor, repair):
+            with pytest.raises(Refusal) as refused:
+                asked(Program(text, turns=2))
+            assert refused.value.kind == kind
+
+
 def test_wrong_arguments() -> None:
     program = program_of("examples/guard.kf")
     with pytest.raises(TypeError, match="keep has lines"):
@@ -191,6 +228,8 @@ def test_the_commands(tmp_path: Path) -> None:
     )
     assert posterior_vulnerability(Program(written.read_bytes()).hyper()) == Fraction(2, 27)
     assert run(main, ["floor", str(written), "--keep", str(len(written.read_text().splitlines()))]).exit_code == 0
+    said = run(main, ["repair", str(TOP / "examples/names/telling.kf"), "--keep", "10"])
+    assert said.exit_code == 1 and "no repair was found by structure; that is a search, and another kind of change may do: --changes\n" in said.output
     assert run(main, ["floor", file, "--keep", "ten"]).exit_code == 2
     assert run(main, ["repair", file, "--changes", "coarse"]).exit_code == 2
     assert run(main, ["floor", str(tmp_path / "nothing.kf")]).exit_code == 2
@@ -262,6 +301,15 @@ def test_all_values_that_are_shown_are_kept(tmp_path: Path) -> None:
     file.write_text(DOWN)
     said = pytest.importorskip("click.testing").CliRunner().invoke(lab(), ["floor", str(file)])
     assert "line 4 shows up to 3 values in a run, and all of them are kept, in their order\n" in said.output
+
+
+def test_a_sequence_without_room_is_refused_and_two_places_of_one_line_are_named() -> None:
+    with pytest.raises(BadPurpose, match="line 4 shows up to 99 values in a run, and no 32 variables hold so many"):
+        floor(Program(DOWN.replace("0..3", "0..99").replace("observe y", "observe y * 1000")))
+    with pytest.raises(BadPurpose, match="held in variables of its own: StoreTooWide"):
+        floor(Program(DOWN.replace("0..3", "0..50").replace("observe y", "observe y > 1")))
+    with pytest.raises(BadPurpose, match="at the top level, in lines 4:1, 4:12: say by keep="):
+        floor(Program(DOWN.replace("while y > 0 { observe y; y := y - 1; }", "observe y; observe 1;")))
 
 
 def test_a_loop_of_noisy_answers_keeps_all_of_them() -> None:
@@ -355,7 +403,12 @@ def test_the_judgement_lets_no_wrong_proposal_through(right: str, wrong: str, is
 
 
 @pytest.mark.parametrize(
-    "path, keep, repaired", [("password/early.kf", 10, "repair/flags.kf"), ("padding_oracle/oracle.kf", None, "repair/oracle.kf")]
+    "path, keep, repaired",
+    [
+        ("password/early.kf", 10, "repair/flags.kf"),
+        ("padding_oracle/oracle.kf", None, "repair/oracle.kf"),
+        ("names/one_answer.kf", None, "names/even.kf"),
+    ],
 )
 def test_the_gallery_has_the_repairs_that_are_proposed(path: str, keep: int | None, repaired: str) -> None:
     def without_comments(text: bytes) -> list[bytes]:

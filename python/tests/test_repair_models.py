@@ -15,7 +15,7 @@ from kuifje.measured import Lines, Parting, Told
 from kuifje.measured.places import Place
 from kuifje.measures import posterior_vulnerability
 from kuifje.model import Public, Secret, flip, model, observe, uniform
-from kuifje.repair import BadPurpose, floor, hints, repair
+from kuifje.repair import BadPurpose, code_hints, floor, repair
 
 pytestmark = pytest.mark.usefixtures("built")
 
@@ -187,6 +187,6 @@ def test_hints_at_lines_of_compiled_code() -> None:
     parting = Parting(("0", "1"), ("to line 5", "to line 6"), (0, 1))
     one = Told(Place("check.c", 4), Interval(1, 1), 1, ("control flow", "load"), parting, 3, Fraction(1, 2))
     two = Told(Place("check.c", 9), Interval(0, 1), 1, ("division", "operand of a division"), parting, 2, Fraction(1, 2))
-    found = hints(Lines((one, two), Interval(1, 2), 4, None, True, 1))
+    found = code_hints(Lines((one, two), Interval(1, 2), 4, None, True, 1))
     assert [(str(hint.place), hint.left, len(hint.patterns)) for hint in found] == [("check.c:4", 3, 2), ("check.c:9", 2, 1)]
     assert "select by a mask" in str(found[0]) and str(found[1]).startswith("check.c:9: how long a division takes")

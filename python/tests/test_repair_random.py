@@ -117,6 +117,92 @@ def test_what_a_repair_could_stumble_over(text: str) -> None:
     assert found.best is not None and found.best.lines
 
 
+NESTED = {
+    "a loop in a branch in a loop, under a random guard": """var x : 0..3 := uniform 0..3;
+var y : 0..3 := x;
+var n : 0..3 := 0;
+var k : 0..3 := 0;
+about old x;
+while y > 0 { if flip 1/3 { k := y; while k > 0 { k := k - 1; n := (n + k) mod 4; } } else { n := (n + 1) mod 4; } y := y - 1; }
+observe n + 0 * 7;
+""",
+    "a loop with a random guard": """var x : 0..3 := uniform 0..3;
+var n : 0..3 := 0;
+var b : bool := false;
+about old x;
+while choose { n < x : 2, false : 1 } { n := n + 1; }
+if n = x { b := true; } else { skip; }
+observe (b, 0 * 7);
+""",
+    "what is kept stands in the inner loop": """var x : 0..3 := uniform 0..3;
+var y : 0..3 := x;
+var k : 0..2 := 0;
+var s : 0..3 := 0;
+about old x;
+while y > 0 { k := 0; while k < 2 { if s < 2 { observe (x mod 2) + 0 * 7; s := s + 1; } else { skip; } k := k + 1; } y := y - 1; }
+""",
+    "a random observation under a random guard": """var x : 0..3 := uniform 0..3;
+var y : 0..3 := x;
+about old x;
+while y > 1 { if choose { x = 3 : 1, false : 1 } { observe uniform 0..1; } else { observe 1; } y := y - 1; }
+observe (x >= 2, 0 * 7);
+""",
+    "branches in each other with draws": """var x : 0..3 := uniform 0..3;
+var n : 0..3 := 0;
+var m : 0..3 := 0;
+about old x;
+if flip 1/2 {
+  if x > 1 { n := uniform 0..x; } else { m := choose { x : 1, 2 : 2 }; } } else { if m = x { n := 3; } else { if n < x { n := 1; } else { skip; } } }
+observe n + 0 * 7;
+""",
+    "three loops in each other": """var x : 0..3 := uniform 0..3;
+var i : 0..3 := 0;
+var j : 0..3 := 0;
+var k : 0..3 := 0;
+var s : 0..63 := 0;
+about old x;
+while i < x { j := 0; while j < i + 1 { k := 0; while k < j { s := s + 1; k := k + 1; } j := j + 1; } i := i + 1; }
+observe (s > 1, 0 * 7);
+""",
+    "a visible variable in a branch in a loop": """var x : 0..3 := uniform 0..3;
+vis v : 0..3 := 0;
+var y : 0..3 := x;
+var n : 0..3 := 0;
+about old x;
+while y > 0 { if n = 3 { v := n; } else { n := min(n + 1, 2); } y := y - 1; }
+observe (n > 1) = (0 * 7 = 0);
+""",
+    "what is kept stands in a branch under a random guard in a loop": """var x : 0..3 := uniform 0..3;
+var n : 0..3 := 0;
+var c : bool := false;
+about old x;
+while n < 3 { c := flip 1/2; if c and n < x { skip; } else { observe choose { x mod 2 : 3, 1 - x mod 2 + 0 * 7 : 1 }; } n := n + 1; }
+""",
+    "a fault after a guard in a loop": """var x : 0..3 := uniform 0..3;
+var y : 0..3 := x;
+var n : 0..9 := 0;
+about old x;
+while y > 0 and 6 div y > 1 { if y != 2 { n := min(9, n + 6 div y); } else { n := uniform n..min(9, n + 1); } y := y - 1; }
+observe (n > 4, 0 * 7);
+""",
+    "two secrets, a set and a tuple": """var x : 0..2 := uniform 0..2;
+var z : bool := flip 1/3;
+var s : set of 0..2 := {0};
+var t : (0..2, bool) := (0, false);
+var y : 0..2 := x;
+about old x, old z;
+while not (y in s) { if z { s := s less {0}; } else { t := (y, y = 1); } s := {y, 0}; y := max(y - 1, 0); }
+observe (t.1, 0 * 7);
+""",
+}
+
+
+@pytest.mark.parametrize("text", NESTED.values(), ids=NESTED)
+def test_nested_loops_and_random_guards(text: str) -> None:
+    found = judged(text, ("structure",), Random(10))
+    assert not found.floor.is_reached and found.best is not None and found.best.at_floor
+
+
 def test_fewer_turns_than_a_loop_takes_are_refused() -> None:
     text = "var x : 0..3 := uniform 0..3;\nvar y : 0..3 := x;\nabout old x;\nwhile y > 0 { y := y - 1; }\nobserve 0 * 7;\n"
     best = repair(Program(text, turns=3)).best

@@ -6,7 +6,7 @@ Science of Quantitative Information Flow* (2020).
 
 from .channels import Channel
 from .engine import Engine, default_engine
-from .errors import KuifjeError, OutOfTime, Refusal, TooLarge
+from .errors import Infeasible, KuifjeError, OutOfTime, Refusal, TooLarge
 from .observations import Label, Labels, Plan, labels, plan
 from .lints import Hint, Hints, lint
 from .notebook import load_ipython_extension
@@ -44,6 +44,7 @@ __all__ = [
     "Hint",
     "Hints",
     "Hyper",
+    "Infeasible",
     "Inner",
     "KuifjeError",
     "Label",

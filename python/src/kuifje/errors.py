@@ -1,4 +1,4 @@
-"""What goes wrong: a refusal of the program, and a question that is too large."""
+"""What goes wrong: a refusal of the program, a question that is too large or takes too long, and a bound that nothing keeps."""
 
 from __future__ import annotations
 
@@ -6,11 +6,12 @@ import json
 import re
 from collections.abc import Mapping
 from dataclasses import astuple, dataclass
+from fractions import Fraction
 from functools import cache
 from importlib.resources import files as resources
 from typing import Protocol, TypedDict
 
-__all__ = ["KuifjeError", "Origin", "OutOfTime", "Refusal", "TooLarge", "refusal_of"]
+__all__ = ["Infeasible", "KuifjeError", "Origin", "OutOfTime", "Refusal", "TooLarge", "refusal_of"]
 
 _PLACED = re.compile(r"(?P<file>.*):(?P<line>[0-9]+):(?P<column>[0-9]+): (?P<kind>\w+)", re.DOTALL)
 _OF_FILE = re.compile(
@@ -56,8 +57,24 @@ class TooLarge(KuifjeError):
     """A question took more memory or more time than it may, and was ended. The next one starts afresh."""
 
 
-class OutOfTime(TooLarge):
-    """A question, or what is put together of several, took more time than it may."""
+class OutOfTime(TooLarge, TimeoutError):
+    """A question, what is put together of several, or a search took more time than it may. It is a ``TimeoutError`` of Python, too."""
+
+
+class Infeasible(KuifjeError, ValueError):
+    """Nothing keeps a bound. ``least`` is the least number that can be kept, and ``proof`` shows that nothing keeps less.
+
+    Where ``factor`` is given, both are meant of channels of at most this factor. The proof is a ``design.MostUseful``, which has the least, and which
+    ``design.check_most_useful`` checks.
+    """
+
+    def __init__(self, bound: Fraction, least: Fraction, factor: Fraction | None = None, proof: object = None) -> None:
+        of_factor = "" if factor is None else f" of a factor up to {factor}"
+        super().__init__(f"no channel{of_factor} has a loss of at most {bound}: the least is {least}")
+        self.bound, self.least, self.factor, self.proof = bound, least, factor, proof
+
+    def __reduce__(self) -> tuple[type[Infeasible], tuple[object, ...]]:
+        return Infeasible, (self.bound, self.least, self.factor, self.proof)
 
 
 @dataclass

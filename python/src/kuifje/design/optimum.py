@@ -8,15 +8,15 @@ from fractions import Fraction
 from time import monotonic
 
 from ..channels import Channel, Rational
+from ..errors import OutOfTime
 from ..texts import GainTable
 from ..values import Value
 from .near import ALONE, Ends, near_least
-from .tableau import Tableau, TookTooLong
-from .tasks import Aim, Infeasible, Loss, Task, exact, task
+from .tableau import Tableau
+from .privacy import infeasible
+from .tasks import SECONDS, Aim, Loss, Task, exact, task
 
 __all__ = ["Corner", "Optimum", "check_optimum", "optimal", "tradeoff"]
-
-SECONDS = 60.0
 
 
 @dataclass(frozen=True)
@@ -104,7 +104,7 @@ class _Program:
     def run(self, until: float) -> None:
         """Finds the least value: what HiGHS ends with, where that can be made exact and proves itself; else the exact simplex goes on from there.
 
-        Raises ``TookTooLong``.
+        Raises ``OutOfTime``.
         """
         near = near_least(self.tableau, until) if len(self.about.secrets) * len(self.about.outputs) > ALONE else None
         if near is not None and near.ends is not None:
@@ -204,9 +204,9 @@ def _solved(about: Task, aim: Aim, bound: Fraction | None, price: Fraction, seco
     program = _Program(about, aim, bound, price)
     try:
         program.run(monotonic() + seconds)
-    except TookTooLong:
+    except OutOfTime:
         size = f"{len(about.secrets)} secrets and {len(about.outputs)} outputs"
-        raise TimeoutError(f"no least channel for {size} within {max(seconds, 0):g} seconds; seconds= allows more") from None
+        raise OutOfTime(f"no least channel for {size} within {max(seconds, 0):g} seconds; seconds= allows more") from None
     return program
 
 
@@ -220,12 +220,12 @@ def optimal(
     solved in whole numbers, without rounding. Secrets of probability 0 are left out.
 
     Raises ``Infeasible`` where no channel has so little loss, ``TypeError`` for floats, ``ValueError`` where the prior is no distribution, and
-    ``TimeoutError`` where it takes longer than ``seconds``.
+    ``OutOfTime`` where it takes longer than ``seconds``.
     """
     about, most = task(prior, outputs, loss), exact(bound, "the bound")
     _gains(about, aim)
     if most < about.least_loss:
-        raise Infeasible(most, about.least_loss)
+        raise infeasible(about, most)
     if most >= about.silent_loss:
         return _silent(about, aim, most)
     program = _solved(about, aim, most, Fraction(0), seconds)

@@ -10,11 +10,11 @@ from time import monotonic
 from typing import Literal
 
 from ..channels import Channel, Rational
+from ..errors import OutOfTime
 from ..values import Value, format_value
-from .optimum import SECONDS
 from .near import near_least
-from .tableau import Tableau, TookTooLong
-from .tasks import Infeasible, Loss, Task, exact, task
+from .tableau import Tableau
+from .tasks import SECONDS, Infeasible, Loss, Task, exact, task
 
 __all__ = ["Bracket", "MostUseful", "Neighbours", "check_most_useful", "least_factor", "least_loss"]
 
@@ -89,6 +89,13 @@ def least_bound(about: Task, factor: Fraction, weights: Weights) -> Fraction:
     return sum((min(row) for row in worth), Fraction(0))
 
 
+def infeasible(about: Task, bound: Fraction) -> Infeasible:
+    """What is raised where no channel has so little loss: with the channel of the least loss, and the proof that there is none with less."""
+    cells = [[Fraction(int(y == row.index(min(row)))) for y in range(len(row))] for row in about.losses]
+    least = MostUseful(Fraction(1), (), about.least_loss, about.channel(cells), {})
+    return Infeasible(bound, about.least_loss, proof=least)
+
+
 def is_private(about: Task, cells: Sequence[Sequence[Fraction]], factor: Fraction, pairs: Iterable[tuple[Value, Value]]) -> bool:
     """Whether no output is more than a factor times as likely under the first secret of a pair as under the second."""
     places = {x: i for i, x in enumerate(about.secrets)}
@@ -140,8 +147,8 @@ def _least(about: Task, factor: Fraction, pairs: tuple[tuple[Value, Value], ...]
         if near is not None:
             tableau.run(until, near.above)
         tableau.run(until)
-    except TookTooLong:
-        raise TimeoutError(f"no channel of least loss for {n} secrets and {m} outputs in time; seconds= allows more") from None
+    except OutOfTime:
+        raise OutOfTime(f"no channel of least loss for {n} secrets and {m} outputs in time; seconds= allows more") from None
     last = found_of(tableau.solution(), lambda key: tableau.reduced_cost(slack[key]))
     assert last is not None, "the weights don't prove the channel"
     return last
@@ -160,7 +167,7 @@ def least_loss(
     No output is more than ``factor`` (e^ε) times as likely under one of two neighbours as under the other (Dwork, McSherry, Nissim and Smith 2006).
 
     ``neighbours`` is ``"all"``, or the pairs that count. Secrets of probability 0 are left out. Raises ``ValueError`` where the factor is below 1 or
-    a neighbour is no secret, ``TypeError`` for floats, ``TimeoutError`` where it takes longer than ``seconds``.
+    a neighbour is no secret, ``TypeError`` for floats, ``OutOfTime`` where it takes longer than ``seconds``.
     """
     about = task(prior, outputs, loss)
     return _least(about, _factor(factor), _pairs(about, neighbours), monotonic() + seconds)
@@ -187,13 +194,13 @@ def least_factor(
     if (within := _least(about, Fraction(1), pairs, until)).loss <= most:
         return Bracket(Fraction(1), Fraction(1), None, within)
     if most < about.least_loss:
-        raise Infeasible(most, about.least_loss)
+        raise infeasible(about, most)
     beyond, above = within, Fraction(1)
     at_most = Fraction(2)
     while (within := _least(about, at_most, pairs, until)).loss > most:
         beyond, above, at_most = within, at_most, 2 * at_most
         if at_most > 2**64:
-            raise Infeasible(most, within.loss, above)
+            raise Infeasible(most, beyond.loss, above, beyond)
     while at_most - above > narrow:
         middle = (above + at_most) / 2
         found = _least(about, middle, pairs, until)

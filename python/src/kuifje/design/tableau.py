@@ -11,15 +11,13 @@ from fractions import Fraction
 from math import gcd, lcm
 from time import monotonic
 
-__all__ = ["Tableau", "TookTooLong"]
+from ..errors import OutOfTime
+
+__all__ = ["Tableau"]
 
 Rational = Fraction | int
 SIDE, AIM = -1, -2  # the right side of a row, and the value that is to be least
 PATIENCE = 50  # pivots that leave the value as it is, before the first unknown that may enter is taken in place of the steepest
-
-
-class TookTooLong(Exception):
-    """The least value wasn't found in time."""
 
 
 def _without_factor(row: dict[int, int]) -> dict[int, int]:
@@ -108,13 +106,13 @@ class Tableau:
     def run(self, until: float, among: Iterable[int] | None = None) -> None:
         """Goes from corner to corner till the value is the least, by unknowns among these alone where some are given.
 
-        The value is bounded from below wherever this is called. Raises ``TookTooLong`` where the clock passes ``until``.
+        The value is bounded from below wherever this is called. Raises ``OutOfTime`` where the clock passes ``until``.
         """
         allowed = None if among is None else set(among)
         waiting = 0
         while True:
             if monotonic() > until:
-                raise TookTooLong
+                raise OutOfTime("the least value wasn't found in time")
             candidates = [j for j, q in self.aim.items() if j >= 0 and q > 0 and (allowed is None or j in allowed)]
             if not candidates:
                 return

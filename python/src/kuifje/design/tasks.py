@@ -8,31 +8,19 @@ from fractions import Fraction
 from typing import Literal
 
 from ..channels import Channel, Label, Rational
+from ..errors import Infeasible
 from ..texts import GainTable, Item, Target
 from ..values import Value, ascending, format_value
 
-__all__ = ["Aim", "Infeasible", "Loss", "Task", "task"]
+__all__ = ["SECONDS", "Aim", "Infeasible", "Loss", "Task", "task"]
+
+SECONDS = 60.0  # that a search takes at most, where it isn't said
 
 Loss = Callable[[Value, Value], Rational] | Mapping[tuple[Value, Value], Rational]
 """What it costs that an output is shown where the secret has a value: a function of the secret and the output, or a number for each pair."""
 
 Aim = Literal["bayes", "capacity"] | GainTable
 """What is to be least: the posterior Bayes vulnerability, the Bayes capacity, or the posterior vulnerability under a gain function."""
-
-
-class Infeasible(ValueError):
-    """No channel has so little loss. ``least`` is the least loss that one has: each secret with the output that costs it least.
-
-    Where ``factor`` is given, both are meant of channels of at most this factor.
-    """
-
-    def __init__(self, bound: Fraction, least: Fraction, factor: Fraction | None = None) -> None:
-        of_factor = "" if factor is None else f" of a factor up to {factor}"
-        super().__init__(f"no channel{of_factor} has a loss of at most {bound}: the least is {least}")
-        self.bound, self.least, self.factor = bound, least, factor
-
-    def __reduce__(self) -> tuple[type[Infeasible], tuple[object, ...]]:
-        return Infeasible, (self.bound, self.least, self.factor)
 
 
 def exact(number: object, name: str) -> Fraction:
@@ -86,7 +74,8 @@ class Task:
         if len(set(channel.columns)) != len(channel.columns):
             raise ValueError("two columns of the channel have one label")
         places = {label[0]: j for j, label in enumerate(channel.columns) if len(label) == 1}
-        if unknown := [label for label in channel.columns if len(label) != 1 or label[0] not in self.outputs]:
+        known = set(self.outputs)
+        if unknown := [label for label in channel.columns if len(label) != 1 or label[0] not in known]:
             raise ValueError(f"{unknown[0]!r} is no output of the task")
         cells = []
         for x in self.secrets:

@@ -85,6 +85,8 @@ def repair_command(file: Path, keep: Keep, finals: tuple[str, ...], changes: str
     click.echo(_said(str(file), found.floor), nl=False)
     for number, one in enumerate(found.found, 1):
         click.echo(_repaired(number, one), nl=False)
+    if not found.floor.is_reached and not found.found:
+        click.echo(f"no repair was found by {' and '.join(changes.split(','))}; that is a search, and another kind of change may do: --changes")
     for line, why in found.uncovered:
         click.echo(f"line {line} isn't changed: {why}")
     if output is not None and found.found:

@@ -8,7 +8,7 @@ from ..measured.lines import Lines
 from ..measured.models import DIVISION, KINDS, LOAD, OPERAND, STORE, TRANSFER
 from ..measured.places import Place
 
-__all__ = ["Hint", "hints"]
+__all__ = ["CodeHint", "code_hints"]
 
 TIME = "how long a division takes depends on its operands: multiply and shift in its place, or divide by what is public alone"
 PATTERNS = {
@@ -22,7 +22,7 @@ SENT = "what it gives out depends on the secret: another form of the code doesn'
 
 
 @dataclass(frozen=True)
-class Hint:
+class CodeHint:
     """A line of the source at which something is first told, the kinds of what is seen there, and what kind of repair would apply.
 
     ``left`` is how many classes are told apart where this line and what it controls show nothing.
@@ -37,6 +37,6 @@ class Hint:
         return "".join(f"{self.place}: {pattern}\n" for pattern in self.patterns)
 
 
-def hints(found: Lines) -> tuple[Hint, ...]:
+def code_hints(found: Lines) -> tuple[CodeHint, ...]:
     """What kind of repair would apply at each line that leaks, of ``Measurement.lines``; the line that tells most comes first."""
-    return tuple(Hint(one.place, one.kinds, tuple(dict.fromkeys(PATTERNS.get(kind, SENT) for kind in one.kinds)), one.left) for one in found.told)
+    return tuple(CodeHint(one.place, one.kinds, tuple(dict.fromkeys(PATTERNS.get(kind, SENT) for kind in one.kinds)), one.left) for one in found.told)

@@ -8,6 +8,7 @@ from collections.abc import Iterable, Iterator, Mapping, Sequence
 from contextlib import contextmanager
 from dataclasses import dataclass, field, replace
 from fractions import Fraction
+from functools import cached_property
 
 from ..arguments import seconds
 from ..channels import hyper_of_columns
@@ -93,7 +94,7 @@ def _several_of(one: str, count: int) -> str:
 class Marked:
     """A program with what it is for. ``keeps`` are the observations that stay, and ``finals`` the variables that have to end as they do.
 
-    All questions about it have to end by ``until``. ``distributed`` is how secret, final values and what is kept are distributed.
+    All questions about it have to end by ``until``.
     """
 
     program: Program
@@ -101,7 +102,12 @@ class Marked:
     keeps: tuple[Shown, ...]
     finals: tuple[str, ...]
     until: Deadline = NEVER
-    distributed: Mapping[tuple[Value, ...], Fraction] = field(default_factory=dict)
+
+    @cached_property
+    def distributed(self) -> Mapping[tuple[Value, ...], Fraction]:
+        """How secret, final values and what is kept are distributed. Raises ``BadPurpose`` where that can't be asked."""
+        with asked_in_variables():
+            return self.joint(self.with_marks())
 
     @property
     def secrets(self) -> tuple[str, ...]:
@@ -212,6 +218,15 @@ def quietly() -> Iterator[None]:
     with warnings.catch_warnings():
         warnings.simplefilter("ignore", AsItIsLeft)
         yield
+
+
+@contextmanager
+def asked_in_variables() -> Iterator[None]:
+    """Asks about what is kept. Raises ``BadPurpose`` where the program is refused with its variables."""
+    try:
+        yield
+    except Refusal as cause:
+        raise BadPurpose(f"what is kept can't be asked about, since it is held in variables of its own: {cause.kind}") from cause
 
 
 def _within(inner: Statement, outer: Statement) -> bool:
@@ -328,7 +343,10 @@ def _of_top(source: Source, groups: Mapping[tuple[int, int], Group]) -> list[Gro
 
 
 def _lines(places: Iterable[tuple[int, int]]) -> str:
-    return ", ".join(str(line) for line, _ in places)
+    """The lines of places, with their columns where two stand in one line."""
+    listed = list(places)
+    several = len({line for line, _ in listed}) < len(listed)
+    return ", ".join(f"{line}:{column}" if several else str(line) for line, column in listed)
 
 
 def marked(program: Program, keep: Keep = None, finals: Sequence[str] | None = None, until: Deadline = NEVER) -> Marked:
@@ -351,14 +369,11 @@ def marked(program: Program, keep: Keep = None, finals: Sequence[str] | None = N
         raise BadPurpose(f"there is no variable {unknown[0]}")
     bare = Marked(program, source, (), chosen, until)
     found = replace(bare, keeps=_shown(bare, _observations(program, source, keep)))
-    try:
+    with asked_in_variables():
         is_told = found.is_told(found.with_marks())
-        distributed = found.joint(found.with_marks())
-    except Refusal as cause:
-        raise BadPurpose(f"what is kept can't be asked about, since it is held in variables of its own: {cause.kind}") from cause
     if not is_told:
         raise BadPurpose("an observer can't tell what is kept, or whether it was shown, so it isn't what the program is for")
-    return replace(found, distributed=distributed)
+    return found
 
 
 def _shown(about_it: Marked, groups: Sequence[Group]) -> tuple[Shown, ...]:
@@ -410,7 +425,7 @@ def floor_of(about_it: Marked) -> Floor:
     secrets = len(about_it.secrets)
     columns: dict[tuple[Value, ...], dict[Value, Fraction]] = {}
     marks = len(about_it.marks)
-    for values, p in about_it.distributed.items():
+    for values, p in replace(about_it, finals=()).distributed.items():
         secret = values[0] if secrets == 1 else values[:secrets]
         column = columns.setdefault(values[len(values) - marks :] if marks else (), {})
         column[secret] = column.get(secret, Fraction(0)) + p

@@ -64,7 +64,7 @@ def rewritten(program: Program, change: Change, turns: Mapping[int, int]) -> Rew
         source = Source(model.function)
         lines = _Writer(source, program, translation, change, turns).lines()
         return Rewritten(source, Model(_loaded(source, lines), turns=model.turns, engine=model.engine), lines)
-    except (_Unwritten, KuifjeError):
+    except (_Unwritten, KuifjeError, SyntaxError):
         return None
 
 
@@ -75,41 +75,35 @@ class _Writer:
         self.source, self.translation = source, translation
         self.now = {i: [line] for i, line in enumerate(source.lines, 1)}
         self.text = read(program.text.decode())
-        nodes = {(node.lineno, node.col_offset + 1): node for node in ast.walk(source.tree) if isinstance(node, (ast.stmt, ast.Call))}
+        nodes = {(node.lineno, node.col_offset + 1): node for node in ast.walk(source.tree) if isinstance(node, (ast.If, ast.While))}
+        calls = {(node.value.lineno, node.value.col_offset + 1): node for node in ast.walk(source.tree) if isinstance(node, ast.Expr)}
         self.taken = {node.id for node in ast.walk(source.tree) if isinstance(node, ast.Name)} | set(source.locals)
         self.turns: dict[Place, int] = {}
         self.even: dict[Place, ast.If | ast.While] = {}
         self.dropped: dict[Place, ast.stmt] = {}
-        calls = {(node.value.lineno, node.value.col_offset + 1): node for node in ast.walk(source.tree) if isinstance(node, ast.Expr)}
         for statement in every(self.text.statements):
             if isinstance(statement, (If, While)) and statement.at in change.even:
-                place = self._place(statement.at)
-                node = nodes.get(place)
-                if not isinstance(node, (ast.If, ast.While)):
-                    raise _Unwritten
-                self.even[place] = node
+                place = self._place(statement.at, nodes)
+                self.even[place] = nodes[place]
                 self.turns[place] = max(self.turns.get(place, 0), turns.get(statement.at, 0))
             elif isinstance(statement, Observe) and statement.at in change.dropped:
-                self.dropped[place := self._place(statement.at)] = calls[place] if place in calls else self._unwritten()
-        self.hide = self._name_of(declare.hide)
+                place = self._place(statement.at, calls)
+                self.dropped[place] = calls[place]
+        self.hide = self._name_of_hide()
 
-    @staticmethod
-    def _unwritten() -> ast.stmt:
-        raise _Unwritten
-
-    def _place(self, at: int) -> Place:
-        """Where a statement of the text stands in the function; it must be the model's own."""
-        place = self.translation.place(self.text.line(at))
-        if place.caller is not None or place.file != self.source.file:
+    def _place(self, at: int, among: Mapping[Place, ast.stmt]) -> Place:
+        """Where a statement of the text stands in the function, which must be the model's own, as one of these statements."""
+        found = self.translation.place(self.text.line(at))
+        if found.caller is not None or found.file != self.source.file or (place := (found.line, found.column)) not in among:
             raise _Unwritten
-        return place.line, place.column
+        return place
 
-    def _name_of(self, function: object) -> str:
-        """What the function calls another one: by its name, or as a part of a module that it uses; else by a name that is imported."""
+    def _name_of_hide(self) -> str:
+        """What the function calls ``hide``: by its name, or as a part of a module that it uses; else by a name that is imported."""
         for node in ast.walk(self.source.tree):
             if isinstance(node, ast.Attribute) and self.source.called(node) in (declare.observe, declare.hide):
                 return f"{ast.unparse(node.value)}.hide"
-        if self.source.meaning("hide") is not function:
+        if self.source.meaning("hide") is not declare.hide:
             if self.source.meaning("hide") is not MISSING or "hide" in self.taken:
                 raise _Unwritten
             self._import()
@@ -136,14 +130,12 @@ class _Writer:
                 case ast.If():
                     self._hidden(node)
                 case ast.While():
-                    self._unrolled(node, self.turns[place] if place in self.turns else self._no_turns())
+                    if place not in self.turns:
+                        raise _Unwritten
+                    self._unrolled(node, self.turns[place])
                 case _:
                     self._passed(node)
         return self.now
-
-    @staticmethod
-    def _no_turns() -> int:
-        raise _Unwritten
 
     def _insert(self, line: int, column: int, text: str) -> None:
         """Writes something before a column, in bytes from 0, of a line that is one still."""
@@ -169,7 +161,7 @@ class _Writer:
             raise _Unwritten
         asked = ast.get_source_segment("".join(self.source.lines), node.test) or ""
         rest = self.source.lines[node.test.end_lineno - 1].encode()[node.test.end_col_offset :].decode().partition(":")[2].rstrip("\r\n")
-        on, turn, indent = self._fresh("on"), self._fresh("_"), " " * node.col_offset
+        on, turn, indent = self._fresh("on"), self._fresh("_"), self.source.lines[node.lineno - 1][: node.col_offset]
         head = [f"{on} = True", f"for {turn} in range({most}):", f"    {on} = {on} and ({asked})", f"    if {self.hide}({on}):{rest}"]
         self.now[node.lineno] = [f"{indent}{line}\n" for line in head]
         for line in range(node.lineno + 1, node.test.end_lineno + 1):
@@ -222,7 +214,7 @@ def _loaded(source: Source, lines: Mapping[int, list[str]]) -> FunctionType:
     file = f"{Path(source.file).name} (repaired {next(_COUNT)})"
     try:
         whole = compile("".join(text), file, "exec", before.co_flags & FUTURES | ast.PyCF_ALLOW_TOP_LEVEL_AWAIT, dont_inherit=True)
-    except (SyntaxError, ValueError):
+    except ValueError:
         raise _Unwritten from None
     first = _first(source)
     now = 1 + sum(len(texts) for at, texts in lines.items() if at < first) + len(lines[first]) - 1

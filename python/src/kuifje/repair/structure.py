@@ -2,17 +2,18 @@
 
 A conditional that is made even has no guard left. A loop takes as many turns as it ever does, under a flag that says whether it still goes on. What
 was observed in it is kept in a variable, and shown whether or not it would have been. A visible variable shows its value whether or not it changed.
+Where both branches show something, one value is shown in the place of either.
 """
 
 from __future__ import annotations
 
-from collections.abc import Iterable, Iterator, Mapping
+from collections.abc import Iterable, Iterator, Mapping, Sequence
 from dataclasses import dataclass, field
 from textwrap import indent
 from typing import Literal
 
 from ..source import Assign, Choose, Distribution, Flip, If, Observe, Skip, Statement, Sure, Type, Uniform, While, every
-from .kinds import NoType, first_value, type_of, type_text
+from .kinds import NoType, first_value, joined, type_of, type_text
 from .purposes import Marked, Shown, declared_text, fresh
 
 __all__ = ["Change", "Even", "Instead", "Moved", "Uncovered", "compounds", "parents"]
@@ -102,6 +103,7 @@ class Even:
     def __post_init__(self) -> None:
         self.source = self.about.source
         self.types: dict[str, Type] = {one.name: one.type for one in self.source.declarations}
+        self.visible = {one.name for one in self.source.declarations if one.visible} - self.change.hidden
         self.keeps = {one.at: shown for shown in self.about.keeps for one in shown.statements}
 
     # ---- texts
@@ -217,14 +219,59 @@ class Even:
         name = self.fresh("yes", "bool", "false")
         lines = self._guard(asked, guard, name)
         other = [statement for statement in otherwise if not isinstance(statement, Skip)]
-        if other:
-            no = self.fresh("no", "bool", "false")
-            lines.append(f"{no} := not {name};" if guard is None else f"{no} := {guard} and not {name};")
-        for statement in then:
-            lines += self.even(statement, name)
-        for statement in other:
-            lines += self.even(statement, no)
-        return lines
+        if not other:
+            return lines + self._under(then, name)
+        no = self.fresh("no", "bool", "false")
+        lines.append(f"{no} := not {name};" if guard is None else f"{no} := {guard} and not {name};")
+        at = [0, 0]
+        for i, j in self._pairs(then, other):
+            lines += self._under(then[at[0] : i], name) + self._under(other[at[1] : j], no)
+            lines += self._merged(then[i], other[j], name, no, guard)
+            at = [i + 1, j + 1]
+        return lines + self._under(then[at[0] :], name) + self._under(other[at[1] :], no)
+
+    def _under(self, statements: Sequence[Statement], guard: str) -> list[str]:
+        return [line for statement in statements for line in self.even(statement, guard)]
+
+    def _pairs(self, then: Sequence[Statement], other: Sequence[Statement]) -> list[tuple[int, int]]:
+        """What both branches show, as pairs of the numbers of their statements; none where they don't show as much, of one kind, in one order."""
+        shows = [[i for i, one in enumerate(side) if self._is_shown(one)] for side in (then, other)]
+        pairs = list(zip(shows[0], shows[1]))
+        alike = len(shows[0]) == len(shows[1]) and all(self._are_alike(then[i], other[j]) for i, j in pairs)
+        return pairs if alike and self.change.instead != "own" else []
+
+    def _is_shown(self, one: Statement) -> bool:
+        """Whether a statement itself shows something that isn't kept."""
+        if isinstance(one, Observe):
+            return one.at not in self.keeps and one.at not in self.change.dropped
+        return isinstance(one, Assign) and one.name in self.visible
+
+    def _are_alike(self, a: Statement, b: Statement) -> bool:
+        """Whether two statements that show something can be one that shows one value or the other."""
+        match a, b:
+            case (Assign(name, Sure()), Assign(other, Sure())):
+                return name == other
+            case (Observe(Sure() as value), Observe(Sure() as other_value)):
+                try:
+                    joined(type_of(value, self.types), type_of(other_value, self.types))
+                except NoType:
+                    return False
+                return True
+        return False
+
+    def _merged(self, a: Statement, b: Statement, yes: str, no: str, guard: str | None) -> list[str]:
+        """One statement that shows what either branch does."""
+        assert isinstance(a, (Assign, Observe)) and isinstance(b, (Assign, Observe))
+        first, second = self.text_of(a.value), self.text_of(b.value)
+        both = f"cond({yes}, {first}, {second})"
+        if isinstance(a, Assign):
+            return [f"{a.name} := {both if guard is None else f'cond({yes}, {first}, cond({no}, {second}, {a.name}))'};"]
+        if guard is None:
+            return [f"observe {both};"]
+        kind = joined(type_of(a.value, self.types), type_of(b.value, self.types))
+        name = self.fresh("shown", type_text(kind), first_value(kind))
+        instead = name if self.change.instead == "carried" else f"({first_value(kind)})"
+        return [f"{name} := cond({yes}, {first}, cond({no}, {second}, {instead}));", f"observe {name};"]
 
     def _loop(self, statement: While, asked: Distribution, body: tuple[Statement, ...], guard: str | None) -> list[str]:
         most = self.turns[statement.at]

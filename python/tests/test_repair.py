@@ -4,6 +4,7 @@ from __future__ import annotations
 
 import warnings
 from fractions import Fraction
+from itertools import product
 from pathlib import Path
 
 import pytest
@@ -12,9 +13,11 @@ from kuifje import Program, check
 from kuifje.errors import OutOfTime, Refusal
 from kuifje.measures import posterior_vulnerability
 from kuifje.repair import BadPurpose, floor, repair
+from kuifje.repair.kinds import type_of
 from kuifje.repair.purposes import marked, quietly
 from kuifje.repair.search import _Search
 from kuifje.repair.structure import Change, Even, compounds
+from kuifje.source import Range, read
 
 TOP = Path(__file__).resolve().parents[2]
 pytestmark = pytest.mark.usefixtures("built")
@@ -416,3 +419,15 @@ def test_the_gallery_has_the_repairs_that_are_proposed(path: str, keep: int | No
 
     best = repair(program_of(f"examples/{path}"), keep).best
     assert best is not None and without_comments(best.program.text) == without_comments((TOP / "examples" / repaired).read_bytes())
+
+
+def test_the_type_of_a_quotient_holds_each_of_its_values():
+    """Of div and mod the remainder is from 0 to below the divisor's absolute value, so (0 - 7) div (0 - 2) is 4."""
+    ends = [(a, b) for a in range(-5, 6) for b in range(a, 6)]
+    for (a, b), (c, d) in product(ends, [(c, d) for c, d in ends if (c, d) != (0, 0)]):
+        types = {"x": Range(a, b), "y": Range(c, d)}
+        remainders = [(x, y, x % abs(y)) for x in range(a, b + 1) for y in range(c, d + 1) if y]
+        for operator, values in (("mod", {r for _, _, r in remainders}), ("div", {(x - r) // y for x, y, r in remainders})):
+            found = type_of(read(f"var z : 0..1 := x {operator} y;").declarations[0].value, types)
+            assert isinstance(found, Range) and found.low <= min(values) and max(values) <= found.high
+            assert operator == "mod" or (found.low, found.high) == (min(values), max(values))

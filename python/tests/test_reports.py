@@ -101,7 +101,10 @@ def test_the_summary_by_hand(pins):
     assert "About old first, old second." in text
     assert "before (prior vulnerability), and 1/3 (0.3333) after (posterior vulnerability): multiplicative leakage 3, which is 1.585 bits" in text
     assert "Worst line line 5 (if first = 1 { observe second = 1; } else { skip; }): if it showed nothing, one guess would be right with" in text
-    assert "with probability 1/9 (0.1111). Best guess at its surest, which comes with probability 1/9 (0.1111), is (1, 1), right with probability 1." in text
+    assert (
+        "with probability 1/9 (0.1111). Best guess at its surest, which comes with probability 1/9 (0.1111), is (1, 1), right with probability 1."
+        in text
+    )
     assert text.index("Worst line") < text.index("Vulnerabilities and leakages")
 
 

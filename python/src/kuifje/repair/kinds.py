@@ -98,10 +98,10 @@ def _arithmetic(operator: str, parts: list[Type]) -> Range:
             choose = min if operator == "min" else max
             return Range(choose(a, c), choose(b, d))
         case "div":
-            found = [x // y for x in (a, b) for y in {c, d, *(y for y in (-1, 1) if c <= y <= d)} - {0}]
+            found = [x // y if y > 0 else -(x // -y) for x in (a, b) for y in {c, d, *(y for y in (-1, 1) if c <= y <= d)} - {0}]
         case "mod":
             greatest = max(abs(c), abs(d)) - 1
-            return Range(0, min(b, greatest) if a >= 0 else greatest) if c >= 0 else Range(-greatest, greatest)
+            return Range(0, min(b, greatest) if a >= 0 else greatest)
         case _:
             raise NoType(f"{operator} isn't known")
     if not found:

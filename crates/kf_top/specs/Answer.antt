@@ -180,8 +180,8 @@ abbrev pub AttackOn : GainOf TableTree → HyperTree → Step Shown
 AttackOn g h =
     After (NarrowGain g h) (λ m. PrintsSome (AllZip (IsAttack g) h.inners) (attack_text g h.target h.scale h.inners))
 
--- how much is seen of a program under a gain, and how much where each statement alone is silent, by the bytes and the source of its text; where
--- statements are silent, the gain is as wide as on the whole program
+-- how much is seen of a program under a gain, and how much where each statement alone is silent, by the bytes and the source of its text;
+-- where statements are silent, the gain is as wide as on the whole program
 abbrev pub LinesOn : ℕ → List ℕ → SourceTree → ProgramTree → GainOf TableTree → HyperTree → Step Shown
 LinesOn turns bytes tree p g h =
     After (NarrowGain g h) (λ m. PrintsSome (AreLines g turns tree p) (lines_text bytes (h.scale * over_of g)))

@@ -1,4 +1,4 @@
-use Rattle.std.proofs.Common.{ℕ, ◌*◌, List, Err, ap, length, map, refl, subst, ◌∙◌}
+use Rattle.std.proofs.Common.{◌≡◌, ℕ, ◌*◌, List, Err, ap, length, map, refl, subst, ◌∙◌}
 use Rattle.kf_ast.specs.declared.stmt.Stmt.{Stmt}
 use Rattle.kf_ast.specs.Stmts.{stmts}
 use Rattle.kf_ast.specs.Views.{source_tree, stmt_tree}
@@ -6,6 +6,7 @@ use Rattle.kf_core.specs.Sts.{sts}
 use Rattle.kf_frac.specs.Parts.{IsFraction}
 use Rattle.kf_gain.specs.Gains.{over_of}
 use Rattle.kf_gain.specs.Views.{gain_tree}
+use Rattle.kf_gain.specs.declared.gain.GainFault.TheVariants as fault
 use Rattle.kf_hyper.specs.Views.{inners_of, scale_of}
 use Rattle.kf_lines.specs.LineTexts.{lines_text}
 use Rattle.kf_lines.specs.Sites.{block_sites, program_sites}
@@ -32,7 +33,8 @@ pub returns-in-Err-clause-wide : goal.returns-in-Err-clause-wide
 returns-in-Err-clause-wide c wide =
     let hyper = c.in_ok-hyper.hyper in
     let is = c.in_ok-hyper.ensures in
-    wide_in c.args.cleared.now (gain_tree c.args.gain.now) (inners_of hyper) is.hyper (scale_of hyper) is.scale (c.in-Err.ensures.wide (c.in-Err.is ∙ wide))
+    let same : c.in-Err.fault ≡ fault.Wide = cc in
+    wide_in c.args.cleared.now (gain_tree c.args.gain.now) (inners_of hyper) is.hyper (scale_of hyper) is.scale (c.in-Err.ensures.wide (ap Err same))
 
 pub returns-clause-text : goal.returns-clause-text
 returns-clause-text c =

@@ -13,7 +13,11 @@ use kf_words::Job;
 use std::alloc::Global;
 
 /// Does the job: what is to be written, or why there is no answer.
-pub(crate) fn work<'a, F: Files>(alloc: Global, files: &mut F, job: &'a Job) -> Result<Done, Stop<'a>>
+pub(crate) fn work<'a, F: Files>(
+    alloc: Global,
+    files: &mut F,
+    job: &'a Job,
+) -> Result<Done, Stop<'a>>
     requires turns { HasTurns (task_of_job job.now) }
     requires range { IsInRange (task_of_job job.now).command }
     ensures answer { TaskAnswer (F.contents files.old) (F.faults files.old) (F.faults files.new) (task_of_job job.now) result }

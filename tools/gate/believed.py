@@ -3,7 +3,7 @@
     .ci/believed            compares the page with the sources, and prints lines and characters to believe, crate by crate and by what they are about
     .ci/believed --write    writes the page
 
-What has to be believed is found from the contract of `start`, the call that the program makes: the files of definitions that its clauses name,
+What has to be believed is found from the contract of `run`, the call that the program makes: the files of definitions that its clauses name,
 and those that these use. For each kind of answer docs/TRUST.md names, in one table, the definitions to begin with and the laws that the answer
 rests on; what these reach is listed in the order in which to read it. Three more lists have what isn't counted as believed: the files with which the
 traits of files and sinks state their clauses, those that the contract of `kuifje_run` reaches beside the others, for a caller from C, and those that
@@ -26,12 +26,12 @@ from .faults import end
 from .repository import CRATES, DOCS, TOP, crates
 
 TRUST, TABLES = DOCS / "TRUST.md", DOCS / "TRUST-TABLES.md"
-CONTRACT, FROM_C = CRATES / "kf_entry" / "src" / "entry.rt", CRATES / "kuifje_c" / "src" / "run.rt"
+CONTRACT, FROM_C = CRATES / "kf_top" / "src" / "top.rt", CRATES / "kuifje_c" / "src" / "run.rt"
 TRAITS = CRATES / "kf_io" / "src" / "traits.rt"
 MARK, MARK_FROM_C, LONGEST = "-- Believed: ", "-- Believed by a caller from C: ", 140
 SUBJECTS = {  # what the believed definitions are about, by crate, or by a crate's file, which goes before the crate
-    "the promise, loading, how a run ends": "kf_entry kf_io kf_load kf_top/Ends kf_top/Outcome",
-    "words": "kf_words kf_lines/Words",
+    "the promise, loading, how a run ends": "kf_io kf_load kf_top/Ends kf_top/Outcome",
+    "words": "kf_words",
     "syntax and types": "kf_ast kf_check kf_lex kf_parse kf_ops/Places kf_ops/Rows",
     "the meaning of programs": "kf_core kf_frac kf_ops/Values kf_value",
     "measures, channels, silence, refinement, priors": (
@@ -39,7 +39,7 @@ SUBJECTS = {  # what the believed definitions are about, by crate, or by a crate
     ),
     "which of several verdicts": "kf_refine/Equations kf_refine/Verdicts kf_simplex",
     "JSON, gain tables and certificates": "kf_cert kf_gain/Tables kf_json",
-    "texts and outcomes": "kf_lines/LineTexts kf_lines/Outcome kf_text kf_top/Answer",
+    "texts and outcomes": "kf_lines/LineTexts kf_text kf_top/Answer",
     "`make`": "kf_make",
 }
 IMPORT = re.compile(r"^\s*(?:ghost )?use Rattle\.(kf_\w+)\.specs\.(?!declared\b|contracts\b)(\w+)(?:\.\{(.*)\})?", re.MULTILINE)
@@ -248,7 +248,7 @@ class Tables:
             found = [path for path in reached(starts, seen) if path in self.believed]
             parts.append((kind, found))
             seen |= set(found)
-        promise = [path for path in reversed(reached(contract_of(CONTRACT, "start"))) if path not in seen]
+        promise = [path for path in reversed(reached(contract_of(CONTRACT, "run"))) if path not in seen]
         return [("The promise", promise), *parts]
 
     def counts(self) -> list[Row]:
@@ -309,7 +309,7 @@ class Tables:
         yield "### Laws\n"
         yield (
             "What the laws of [TRUST.md](TRUST.md#how-to-read-the-definitions) are stated with, beside the files above. "
-            "The contract of `start` doesn't reach these: they are for readers\n"
+            "The contract of `run` doesn't reach these: they are for readers\n"
             "who want what an answer means, and not only what it is. Some begin with `-- For bodies:` and are to be read all the same.\n"
         )
         yield definitions(self.laws)
@@ -355,7 +355,7 @@ def faults_of(believed: Collection[Path]) -> Iterator[str]:
     for path in sorted(believed):
         lines = path.read_text().splitlines()
         if not lines[0].startswith(MARK):
-            yield f"{name_of(path)}: reached from `start`, and not marked"
+            yield f"{name_of(path)}: reached from `run`, and not marked"
         for number, line in enumerate(lines[1:], 2):
             if len(line) > LONGEST and not line.startswith("use "):
                 yield f"{name_of(path)}:{number}: longer than {LONGEST} characters"
@@ -364,7 +364,7 @@ def faults_of(believed: Collection[Path]) -> Iterator[str]:
     caller = reached(contract_of(FROM_C, "kuifje_run"))
     for path in sorted(CRATES.glob("*/specs/*.antt")):
         if path.read_text().startswith(MARK) and path not in believed:
-            yield f"{name_of(path)}: marked, and not reached from `start`"
+            yield f"{name_of(path)}: marked, and not reached from `run`"
         if path.read_text().startswith(MARK_FROM_C) and path not in caller:
             yield f"{name_of(path)}: marked for a caller from C, and not reached from `kuifje_run`"
     known = {name for path in believed for name in (path.parent.parent.name, f"{path.parent.parent.name}/{path.stem}")}
@@ -396,7 +396,7 @@ def faults_on_pages() -> Iterator[str]:
 def main(words: Sequence[str]) -> None:
     """Compares the page with the sources, or writes it, and says what is wrong otherwise."""
     folders = [CRATES / name for name in crates()]
-    believed = set(reached(contract_of(CONTRACT, "start")))
+    believed = set(reached(contract_of(CONTRACT, "run")))
     for folder in folders:
         lines, characters = size_of([path for path in believed if path.parent.parent == folder])
         if lines:

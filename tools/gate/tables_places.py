@@ -56,6 +56,8 @@ def missing(what: str, words: Iterable[str], tables: Tables, form: str, *pattern
     if absent:
         yield f"{place}: {what} {', '.join(absent)} is missing there"
 
+PRESENCES = {"Absent": "no", "Optional": "may", "Required": "needs"}  # of --gain, as the code has it
+
 
 # ---- commands
 
@@ -68,22 +70,21 @@ def of_kf_words(tables: Tables) -> Iterator[str]:
     declared = sum(map(int, re.findall(r"; (\d+)\]", kind)))
     pieces = re.split(r'"([^"]*)"', body)
     by_word = dict(zip(pieces[1::2], pieces[2::2], strict=True))
-    # Until `lines` is a row of kf_words: its call has it. Delete these two lines when it is one.
-    apart = [] if "lines" in by_word else re.findall(r'"(lines)"', tables.text("crates/kf_lines/src/request.rt"))
-    due = [row for row in tables.commands if row.word not in apart]
-    yield from rows(code, pieces[1::2], [row.word for row in due], COMMANDS, are_declared=declared, name_a_command=body.count("CommandWord::"))
-    for row in due:
-        yield from differences(code, row, by_word.get(row.word, ""))
+    begun = len(re.findall(r"^    (?:\w+!)?\(", body, re.MULTILINE))
+    yield from rows(code, pieces[1::2], tables.words, COMMANDS, are_declared=declared, begin_a_row=begun)
+    under_gain = re.findall(r"values: (\d+)", part(tables.text(code), "macro_rules! under_gain {", "\n}", code))
+    for row in tables.commands:
+        yield from differences(code, row, by_word.get(row.word, ""), under_gain)
     body = part(tables.text(definition), "\ncommands =\n", "\n\n", definition)
-    yield from rows(definition, re.findall(r'"([^"]*)"', body), [row.word for row in due], COMMANDS, stand_in_the_list=body.count("∷"))
+    yield from rows(definition, re.findall(r'"([^"]*)"', body), tables.words, COMMANDS, stand_in_the_list=body.count("∷"))
 
 
-def differences(place: str, row: Command, text: str) -> Iterator[str]:
-    """What the rest of a command's row in the code says otherwise."""
-    gain = re.search(r"gain: (?:\w+::)?(\w+)", text)
+def differences(place: str, row: Command, text: str, under_gain: list[str]) -> Iterator[str]:
+    """What the rest of a command's row in the code says otherwise. A row under a gain has the number of values that all such rows have."""
+    gain = re.search(r"Presence::(\w+)", text)
     found = {
-        "values": re.findall(r"\b\d+\b", text),
-        "--gain": {"false": "no", "true": "needs"}.get(gain[1], gain[1].lower()) if gain else "no",
+        "values": re.findall(r"\b\d+\b", text) or under_gain,
+        "--gain": PRESENCES.get(gain[1], gain[1]) if gain else "no",
         "--json": "takes_json: true" in text,
     }
     wanted = {"values": [str(len(row.values))], "--gain": row.gain, "--json": row.json}

@@ -17,8 +17,8 @@ def test_nothing_is_found_where_nothing_is_wrong(repository: Repository, check: 
 @pytest.mark.parametrize(
     "name, old, new, naming",
     [
-        (MARKED, "-- Believed: ", "-- For bodies: ", "kf_make/specs/Making.antt: reached from `start`, and not marked"),
-        (BODIES, "-- For bodies: ", "-- Believed: ", "kf_io/specs/Counts.antt: marked, and not reached from `start`"),
+        (MARKED, "-- Believed: ", "-- For bodies: ", "kf_make/specs/Making.antt: reached from `run`, and not marked"),
+        (BODIES, "-- For bodies: ", "-- Believed: ", "kf_io/specs/Counts.antt: marked, and not reached from `run`"),
         ("crates/kf_eval/specs/Answers.antt", "-- For bodies: ", "-- Believed by a caller from C: ", "marked for a caller from C, and not reached"),
         (MARKED, "\nuse ", "\nunused = 1\nuse ", "TRUST-TABLES.md is stale"),
         (TABLES, "| `kf_make/specs/Making.antt` |", "| `kf_make/specs/Made.antt` |", "TRUST-TABLES.md is stale"),

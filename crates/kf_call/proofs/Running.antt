@@ -1,16 +1,17 @@
--- From what `start` ensures of two sinks that grow to what a call says.
+-- From what `run` ensures of two sinks that grow to what a call says.
 use Rattle.std.proofs.Common.{◌≡◌, ◌≢◌, ℕ, zero, suc, ◌<◌, Bool, false, IsTrue, ◌++◌, List, [], ◌∷◌, Some, Option, codes, refl, sym, ◌∙◌, subst, arith}
 use Rattle.std.proofs.lemmas.List.{append_cancel_left, append_cancel_right}
 use Rattle.kf_io.specs.declared.lists.FileEntry.{FileEntry}
 use Rattle.kf_load.specs.Steps.{message}
-use Rattle.kf_entry.specs.Asked.{Asked, asked_task}
 use Rattle.kf_top.specs.Ends.{Sunk, sunk, Answer, HasFailed, CausesOf, IsQuiet}
+use Rattle.kf_top.specs.Outcome.{Outcome}
 use Rattle.kf_laws.specs.EndsOver.{HeldAnswered}
 use Rattle.kf_laws.proofs.HeldFiles.{held_ends}
-use Rattle.kf_laws.specs.Held.{IsHeldAnswer}
+use Rattle.kf_laws.specs.Held.{IsAnswerOver}
 use Rattle.kf_call.specs.Contents.{IsMissing, contents_of}
 use Rattle.kf_call.specs.Runs.{took_all, Answers, HasRun, IsUnread}
 use Rattle.kf_call.specs.Sinks.{SinkState, empty_sink}
+use Rattle.kf_words.specs.Task.{task_of}
 
 -- ---- sinks
 
@@ -34,16 +35,16 @@ pub has_run : (words : List (List ℕ)) (files : List FileEntry) (missing : List
     (out err : Sunk) (out_bytes err_bytes : List ℕ) (status : ℕ)
     → told ≡ Some (contents_of files missing) → ((name : List ℕ) → before name ≡ 0)
     → out ≡ took_all out_bytes → err ≡ took_all err_bytes
-    → CausesOf (asked_task words) (Asked words) told before now out err status → IsQuiet out err status
+    → CausesOf (task_of words) (Outcome words) told before now out err status → IsQuiet out err status
     → HasRun words files missing out_bytes err_bytes status
 has_run words files missing told before now out err out_bytes err_bytes status is uncounted out_is err_is causes quiet =
     let none : before ≡ (λ name. 0) = λ i name. uncounted name i in
     record {
       unread = now;
-      causes = subst (λ t. CausesOf (asked_task words) (Asked words) t (λ name. 0) now (took_all out_bytes) (took_all err_bytes) status) is
-          (subst (λ b. CausesOf (asked_task words) (Asked words) told b now (took_all out_bytes) (took_all err_bytes) status) none
-          (subst (λ s. CausesOf (asked_task words) (Asked words) told before now (took_all out_bytes) s status) err_is
-          (subst (λ s. CausesOf (asked_task words) (Asked words) told before now s err status) out_is causes)));
+      causes = subst (λ t. CausesOf (task_of words) (Outcome words) t (λ name. 0) now (took_all out_bytes) (took_all err_bytes) status) is
+          (subst (λ b. CausesOf (task_of words) (Outcome words) told b now (took_all out_bytes) (took_all err_bytes) status) none
+          (subst (λ s. CausesOf (task_of words) (Outcome words) told before now (took_all out_bytes) s status) err_is
+          (subst (λ s. CausesOf (task_of words) (Outcome words) told before now s err status) out_is causes)));
       quiet = subst (λ s. IsQuiet (took_all out_bytes) s status) err_is (subst (λ s. IsQuiet s err status) out_is quiet);
     }
 
@@ -61,12 +62,12 @@ never_unwritten words files missing out err status run is = never_failed out (ru
 -- every status but read failed and want of memory is that of the defined answer
 pub decided : (words : List (List ℕ)) (files : List FileEntry) (missing out err : List ℕ) (status : ℕ)
     → HasRun words files missing out err status → status ≢ 12 → status ≢ 3
-    → IsHeldAnswer (asked_task words) (Asked words) (contents_of files missing) (record { status = status; out = out; err = err })
+    → IsAnswerOver words (contents_of files missing) (record { status = status; out = out; err = err })
 decided words files missing out err status run memory read =
     let written = never_unwritten words files missing out err status run in
-    let shown : HeldAnswered (asked_task words) (Asked words) (contents_of files missing) (took_all out) (took_all err) status =
-    (held_ends (asked_task words) (Asked words) (contents_of files missing) (λ name. 0) run.unread (took_all out) (took_all err) status run.causes).decided read written memory in
-    subst (IsHeldAnswer (asked_task words) (Asked words) (contents_of files missing))
+    let shown : HeldAnswered (task_of words) (Outcome words) (contents_of files missing) (took_all out) (took_all err) status =
+    (held_ends (task_of words) (Outcome words) (contents_of files missing) (λ name. 0) run.unread (took_all out) (took_all err) status run.causes).decided read written memory in
+    subst (IsAnswerOver words (contents_of files missing))
     (same_answer shown.answer status out err shown.shows.status_is shown.shows.out_took (shown.shows.err_took.whole (never_failed err)))
     shown.is_answer
 

@@ -1,28 +1,29 @@
 -- Believed by a caller from C: what a call did.
 use Rattle.std.specs.Prelude.{◌≡◌, ◌≢◌, ℕ, List, [], ◌++◌, Some, length, take, drop, codes, Contains}
 use Rattle.kf_io.specs.declared.lists.FileEntry.{FileEntry}
-use Rattle.kf_entry.specs.Asked.{Asked, asked_task}
-use Rattle.kf_laws.specs.Held.{IsHeldAnswer}
+use Rattle.kf_laws.specs.Held.{IsAnswerOver}
 use Rattle.kf_load.specs.Steps.{message}
 use Rattle.kf_top.specs.Ends.{Sunk, CausesOf, IsQuiet}
+use Rattle.kf_top.specs.Outcome.{Outcome}
 use Rattle.kf_call.specs.Contents.{IsMissing, contents_of}
 use Rattle.kf_words.specs.OfWords.{files_of_some}
+use Rattle.kf_words.specs.Task.{task_of}
 
 -- a sink that was empty, took these bytes and has refused none
 abbrev pub took_all : List ℕ → Sunk
 took_all bytes = record { bytes_before = Some []; bytes = Some bytes; faults_before = 0; faults = 0; room_before = 0 }
 
--- What `start` promises over these files and two such sinks, with these whole answers.
+-- What `run` promises over these files and two such sinks, with these whole answers.
 pub record HasRun (words : List (List ℕ)) (files : List FileEntry) (missing out err : List ℕ) (status : ℕ) : Type 0 where
   -- how often a read of each name has failed
   pub unread : List ℕ → ℕ
-  pub causes : CausesOf (asked_task words) (Asked words) (Some (contents_of files missing)) (λ name. 0) unread (took_all out) (took_all err) status
+  pub causes : CausesOf (task_of words) (Outcome words) (Some (contents_of files missing)) (λ name. 0) unread (took_all out) (took_all err) status
   pub quiet : IsQuiet (took_all out) (took_all err) status
 
 -- a file that the words name isn't there, and the line says which
 pub record IsUnread (words : List (List ℕ)) (files : List FileEntry) (out err : List ℕ) : Type 0 where
   pub name : List ℕ
-  pub named : Contains (files_of_some (asked_task words)) name
+  pub named : Contains (files_of_some (task_of words)) name
   pub missing : IsMissing files name
   pub out_is : out ≡ []
   pub err_is : err ≡ message name (codes ": read failed")
@@ -31,7 +32,7 @@ pub record IsUnread (words : List (List ℕ)) (files : List FileEntry) (out err 
 pub record Answers (words : List (List ℕ)) (files : List FileEntry) (missing out err : List ℕ) (status : ℕ) : Type 0 where
   pub run : HasRun words files missing out err status
   pub decided : status ≢ 3
-      → IsHeldAnswer (asked_task words) (Asked words) (contents_of files missing) (record { status = status; out = out; err = err })
+      → IsAnswerOver words (contents_of files missing) (record { status = status; out = out; err = err })
   pub unread : status ≡ 3 → IsUnread words files out err
 
 -- a buffer got the front of these bytes, of which there are so many, and kept the rest of what it held

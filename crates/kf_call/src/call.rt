@@ -8,8 +8,8 @@ use crate::line::is_of_missing;
 use crate::memory::Refused;
 use crate::sink::GrowingSink;
 use crate::spans::{FileSpans, Span, files_of, is_call, words_of};
-use kf_entry::start;
 use kf_io::FileList;
+use kf_top::run;
 use std::alloc::Global;
 
 /// The status where a file can't be read.
@@ -48,14 +48,14 @@ fn answer_over(alloc: Global, words: &[String], files: FileList) -> Result<Answe
     let mut files = CallFiles::new(alloc, files)?;
     let mut out = GrowingSink::new(alloc);
     let mut err = GrowingSink::new(alloc);
-    let status = start(alloc, words, &mut files, &mut out, &mut err);
+    let status = run(alloc, words, &mut files, &mut out, &mut err);
     if status == WANT_OF_MEMORY || out.has_failed() || err.has_failed() {
         return Err(Refused);
     }
     Ok(Answer { status, out, err })
 }
 
-// The answer to a call. The look whether a file that can't be read isn't among the files is there for the proof alone: `start` says that its
+// The answer to a call. The look whether a file that can't be read isn't among the files is there for the proof alone: `run` says that its
 // read failed, and not why.
 fn called(
     alloc: Global,

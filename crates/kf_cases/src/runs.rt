@@ -2,8 +2,8 @@ ghost use Rattle.std.specs.Prelude.{◌≢◌, ◌≤◌, IfOk, None};
 
 use crate::cases::{Case, NamedFile, Stream};
 use crate::errors::CaseError;
-use kf_entry::start;
 use kf_io::{ByteList, CallList, FileEntry, FileList, FileName, MemFiles, MemSink};
+use kf_top::run;
 use std::alloc::Global;
 
 /// What a run ended with.
@@ -70,6 +70,6 @@ pub fn run_case(alloc: Global, case: &Case) -> Result<Given, CaseError>
     let mut files = MemFiles::new(alloc, files, case.read_piece, fail)?;
     let mut out = sink_of(alloc, &case.out)?;
     let mut err = sink_of(alloc, &case.err)?;
-    let status = start(alloc, &words, &mut files, &mut out, &mut err);
+    let status = run(alloc, &words, &mut files, &mut out, &mut err);
     Ok(Given { status, out, err })
 }

@@ -77,7 +77,7 @@ module _ (one_cleared : (command : Command) (turns : ℕ) (programs : List File)
   is_said : (first second : List ℕ) (turns : ℕ) (answer : Answer) (p q : ProgramTree) → IsCoversAnswer contents first second turns answer p q → answer.status ≤ 1
       → IsSaid turns p q answer
   is_said first second turns answer p q asked few =
-      let w = command_shown reasoned contents one_cleared asked.words (asks_covers first second turns) answer (p ∷ q ∷ []) asked.asks asked.is_answer few asked.are_cleared in
+      let w = command_shown reasoned contents one_cleared asked.words (asks_covers first second turns) answer (p ∷ q ∷ []) (λ r outcome. outcome) asked.asks asked.is_answer few asked.are_cleared in
       let refined = w.2 in
       let a = refined.0 in
       let b = refined.2.0 in
@@ -185,5 +185,5 @@ quiet_no_better one_cleared reasoned no_more words others contents name from to 
     let outcome = w.2 in
     let are = outcome.1 in
     let cleared_too : ClearedOf Hyper turns (held contents (name ∷ [])) (Ok outcome.0) = (are.0, are.1, each_gives turns to are.0 outcome.0 are.2) in
-    let h = command_shown reasoned contents one_cleared words (on_file Hyper name turns) hyper outcome.0 asks is_hyper (omega (arith, none)) cleared_too in
+    let h = command_shown reasoned contents one_cleared words (on_file Hyper name turns) hyper outcome.0 (λ r is. is) asks is_hyper (omega (arith, none)) cleared_too in
     by_programs no_more from to turns hyper quiet order [] [] outcome.0 h.0 w.0 h.1 w.1 h.2 outcome.2

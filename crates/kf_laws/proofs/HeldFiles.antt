@@ -10,8 +10,8 @@ use Rattle.kf_top.specs.Ends.{Answer, AreNamed, CausesOf, Defined, IsAnswerTo, Q
 use Rattle.kf_top.specs.Outcome.{Outcome, TaskOutcome}
 use Rattle.kf_top.specs.Steps.{SomeOutcome}
 use Rattle.kf_words.specs.Task.{Task, tables_of, task_of}
-use Rattle.kf_laws.specs.EndsOver.{CausesEndOver, EndsOver, HeldAnswered}
-use Rattle.kf_laws.specs.Held.{IsAnswerOver, IsHeldAnswer, held, held_file, program_names, table_names}
+use Rattle.kf_laws.specs.EndsOver.{CausesEndOver, EndsOver, HeldAnswered, IsHeldAnswer}
+use Rattle.kf_laws.specs.Held.{IsAnswerOver, held, held_file, program_names, table_names}
 
 -- ---- lists
 

@@ -91,6 +91,6 @@ capacity_bounds one_cleared reasoned bounded leaked words others contents name g
     let w = task_shown reasoned contents others (on_file (Leak gain) name turns) leak asks' is_leak (omega (arith, none')) in
     let outcome = w.2 in
     let cleared : ClearedOf Capacity turns (held contents (name ∷ [])) (Ok outcome.0) = outcome.1 in
-    let h = command_shown reasoned contents one_cleared words (on_file Capacity name turns) capacity outcome.0 asks is_capacity (omega (arith, none)) cleared in
+    let h = command_shown reasoned contents one_cleared words (on_file Capacity name turns) capacity outcome.0 (λ r is. is) asks is_capacity (omega (arith, none)) cleared in
     let are = by_programs contents name gain turns capacity leak outcome.0 h.0 w.0 cleared h.1 w.1 h.2 outcome.2 in
     (are, is_within contents name gain turns capacity leak are bounded, meets contents name gain turns capacity leak are leaked)

@@ -1,6 +1,7 @@
 mod Accepted
 mod ClearedPrograms
 mod CoveringAll
+mod EachCommand
 pub mod HeldFiles
 mod LeakBounds
 mod OneAnswer

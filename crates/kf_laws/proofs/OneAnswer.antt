@@ -1,7 +1,8 @@
 -- Words and files have at most one defined answer.
 use Rattle.std.proofs.Common.{◌≡◌, ◌≢◌, ℕ, ◌<◌, ◌*◌, Bool, false, refl, arith, nat_le, if◌then◌else◌, List, [], ◌∷◌, length, codes, None, Some, Option, Result, Ok, Err, sym, ◌∙◌, ap, subst, ⊎_elim}
 use Rattle.std.specs.declared.cmp.Ordering.TheVariants.{Less}
-use Rattle.std.specs.List.{AllByRecursion as Every}
+use Rattle.std.specs.List.{AllByRecursion as Every, AllZip}
+use Rattle.std.specs.Str.{bytes_eq}
 use Rattle.std.specs.Ordering.{nat_cmp, ordering_reverse}
 use Rattle.std.proofs.lemmas.Cmp.{nat_cmp_total}
 use Rattle.std.proofs.lemmas.Map.Keys.{sorted_from_strictly_increasing}
@@ -34,12 +35,13 @@ use Rattle.kf_value.specs.Numbers.{target_size}
 use Rattle.kf_column.specs.declared.entry.Entry.{Entry}
 use Rattle.kf_column.specs.Hypers.{Inner}
 use Rattle.kf_core.specs.Joint.{Cell, joint_of}
+use Rattle.kf_core.specs.Rows.{IsHyperOf}
 use Rattle.kf_core.specs.Scale.{scale_of as run_scale}
 use Rattle.kf_gain.specs.declared.error.TableError.{TableError}
-use Rattle.kf_gain.specs.Gains.{GainOf, Bayes, Tries, Guessing, Table, TableTree}
+use Rattle.kf_gain.specs.Gains.{GainOf, Bayes, Tries, Guessing, Table, TableTree, over_of}
 use Rattle.kf_gain.specs.Laws.{OneAverage, OneReport}
 use Rattle.kf_gain.specs.TableLaws.{OneTable}
-use Rattle.kf_gain.specs.Vulnerabilities.{IsWidth, width}
+use Rattle.kf_gain.specs.Vulnerabilities.{IsPosterior, IsWidth, width}
 use Rattle.kf_report.specs.Reports.{Leakage, IsLeakage}
 use Rattle.kf_attack.specs.Attacks.{ReachTree, IsReach, AttackTree}
 use Rattle.kf_attack.specs.Laws.{OneAttacks, OneReach}
@@ -57,17 +59,23 @@ use Rattle.kf_load.specs.Texts.{File, Text, token_fault, syntax_fault, type_faul
 use Rattle.kf_load.specs.Refusals.{bad_text, Fault, TokensOf, SourceOf, ProgramOf, long_enough}
 use Rattle.kf_prior.specs.FullSources.{full_source}
 use Rattle.kf_quiet.specs.Laws.{OnlyOneBlames}
-use Rattle.kf_quiet.specs.Summaries.{SummaryTree}
+use Rattle.kf_quiet.specs.Summaries.{SummaryTree, IsSummary}
+use Rattle.kf_silent.specs.Laws.{OneSilent}
 use Rattle.kf_silent.specs.Quiet.{quiet_joint}
+use Rattle.kf_silent.specs.Silent.{silent_joint}
+use Rattle.kf_lines.specs.LineTexts.{lines_text}
+use Rattle.kf_lines.specs.Sites.{Site, program_sites}
+use Rattle.kf_lines.specs.Summaries.{AreLines, IsLine, LineTree, LinesTree}
 use Rattle.kf_run.specs.Laws.{OnlyOneTrail}
 use Rattle.kf_words.specs.Jobs.{IsInRange}
 use Rattle.kf_words.specs.Laws.{TasksInRange}
 use Rattle.kf_words.specs.Task.{Command, Composition, Hyper, Traces, Channel, Trail, Capacity, Compose, Leak, Attack, Reach, Make, Refine, Check, Covers, Quiet, Blame, Task, task_of}
-use Rattle.kf_top.specs.Answer.{Shown, usage, prints, other_target, wide_channel, HyperOf, initial, IsChannelTree, is_narrow, Composed, ComposedIn, table_word, bad_file, TableOf, GainIn, IsHyperTree, NarrowGain, OnHyper, PrintsSome, ReportOn, AttackOn, VerdictShown, RefineOutcome, CertIn, mark_shown, MarkIn, MarkOn, CommandOutcome}
-use Rattle.kf_top.specs.Outcome.{few_stores, ReadyOf, TaskOutcome}
+use Rattle.kf_top.specs.Answer.{Shown, usage, prints, other_target, wide_channel, HyperOf, initial, IsChannelTree, is_narrow, Composed, ComposedIn, table_word, bad_file, TableOf, GainIn, IsHyperTree, NarrowGain, OnHyper, PrintsSome, ReportOn, AttackOn, LinesOn, VerdictShown, RefineOutcome, CertIn, mark_shown, MarkIn, MarkOn, CommandOutcome}
+use Rattle.kf_top.specs.Outcome.{few_stores, LinesUnder, ProgramsOutcome, ReadyOf, TaskOutcome}
 use Rattle.kf_top.specs.Ends.{Answer, settled}
 use Rattle.kf_top.specs.Steps.{TracesOf, TrailOf, MadeOf, BlameOf, TableIn, cert_read, most_pivots, IsAnswer, FullTexts, ClearedOf, SomeOutcome, MadeOutcome, ChannelOf, CapacityIn, algebra_shown, VerdictOn, FullOf}
 use Rattle.kf_laws.proofs.ClearedPrograms.{AreClear}
+use Rattle.kf_laws.proofs.EachCommand.{each_command}
 use Rattle.kf_laws.proofs.OneComposed.{one_composed}
 use Rattle.kf_laws.proofs.ProperHypers.{AreProper, IsClear}
 
@@ -257,6 +265,59 @@ one_on_hyper : HypersAreOne → (turns : ℕ) (p : ProgramTree) (next : HyperTre
 one_on_hyper hypers_are_one turns p next one_next r s x y =
     one_next y.0 y.1 r s (subst (λ (h : HyperTree). next h r) (one_tree hypers_are_one turns p x.0 y.0 x.1 y.1) x.2) y.2
 
+-- ---- lines
+
+-- what is seen of a joint that has one hyper
+one_summary : OneReport → (g : GainOf TableTree) (joint : List Cell) → ((xs ys : List Inner) → IsHyperOf joint xs → IsHyperOf joint ys → xs ≡ ys)
+    → (s u : SummaryTree) → IsSummary g joint s → IsSummary g joint u → s ≡ u
+one_summary reports_are_one g joint one s u p q =
+    let same : p.inners ≡ q.inners = one p.inners q.inners p.is_hyper q.is_hyper in
+    let counted : s.inners ≡ u.inners = p.counted ∙ ap length same ∙ sym q.counted in
+    let posterior : s.posterior ≡ u.posterior =
+    (reports_are_one g q.inners s.posterior u.posterior).1 (subst (λ (is : List Inner). IsPosterior g is s.posterior) same p.posterior) q.posterior in
+    λ i. record { inners = counted i; posterior = posterior i }
+
+module _ (hypers_are_one : HypersAreOne) (silent_are_one : OneSilent) (reports_are_one : OneReport) (averages_are_one : OneAverage) (turns : ℕ) (p : ProgramTree)
+    (g : GainOf TableTree) where
+  one_line : (site : Site) (l m : LineTree) → IsLine g turns p site l → IsLine g turns p site m → l ≡ m
+  one_line site l m x y =
+      let at : l.at ≡ m.at = x.at ∙ sym y.at in
+      let left : l.left ≡ m.left =
+      one_summary reports_are_one g (silent_joint (bytes_eq site.path) turns p) (silent_are_one (bytes_eq site.path) turns p) l.left m.left x.left y.left in
+      λ i. record { at = at i; left = left i }
+
+  same_lines : (sites : List Site) (ls ms : List LineTree) → AllZip (IsLine g turns p) sites ls → AllZip (IsLine g turns p) sites ms → ls ≡ ms
+  same_lines [] [] [] x y = refl
+  same_lines [] [] (m ∷ ms) x y = absurd y
+  same_lines [] (l ∷ ls) ms x y = absurd x
+  same_lines (site ∷ sites) [] ms x y = absurd x
+  same_lines (site ∷ sites) (l ∷ ls) [] x y = absurd y
+  same_lines (site ∷ sites) (l ∷ ls) (m ∷ ms) x y =
+      let first = one_line site l m x.0 y.0 in
+      let others = same_lines sites ls ms x.1 y.1 in
+      λ i. first i ∷ others i
+
+  one_tree_of_lines : (tree : SourceTree) (l m : LinesTree) → AreLines g turns tree p l → AreLines g turns tree p m → l ≡ m
+  one_tree_of_lines tree l m x y =
+      let all : l.all ≡ m.all = one_summary reports_are_one g (joint_of turns p) (hypers_are_one (joint_of turns p)) l.all m.all x.whole y.whole in
+      let lines : l.lines ≡ m.lines = same_lines (program_sites tree p) l.lines m.lines x.each y.each in
+      λ i. record { all = all i; lines = lines i }
+
+  one_lines : (bytes : List ℕ) (tree : SourceTree) (h : HyperTree) → HasOne (LinesOn turns bytes tree p g h)
+  one_lines bytes tree h =
+      one_after (NarrowGain g h) (λ m. PrintsSome (AreLines g turns tree p) (lines_text bytes (h.scale * over_of g))) (one_narrow averages_are_one g h)
+      (λ m _ r s x y. x.2 ∙ ap (λ (l : LinesTree). prints (lines_text bytes (h.scale * over_of g) l)) (one_tree_of_lines tree x.0 y.0 x.1 y.1) ∙ sym y.2)
+
+one_lines_under : OneTable → HypersAreOne → OneSilent → OneReport → OneAverage → (word : GainOf (List ℕ)) (turns : ℕ) (tables : List File) (t : Text)
+    → HasOne (LinesUnder word turns tables t)
+one_lines_under tables_are_one hypers_are_one silent_are_one reports_are_one averages_are_one word turns tables t =
+    one_after (Gives (cleared turns t)) (λ p. After (GainIn p.target word tables) (λ g. OnHyper turns p (LinesOn turns t.bytes t.source p g))) (one_given (cleared turns t))
+    (λ p _. one_after (GainIn p.target word tables) (λ g. OnHyper turns p (LinesOn turns t.bytes t.source p g)) (one_gain tables_are_one p.target word tables)
+    (λ g _. one_on_hyper hypers_are_one turns p (LinesOn turns t.bytes t.source p g)
+    (λ h _. one_lines hypers_are_one silent_are_one reports_are_one averages_are_one turns p g t.bytes t.source h)))
+
+-- ---- refinements
+
 one_refine : HypersAreOne → OneVerdict → AreProper → (json : Bool) (turns : ℕ) (p q : ProgramTree) → IsClear turns p → IsClear turns q → HasOne (RefineOutcome json turns p q)
 one_refine hypers_are_one verdicts_are_one are_proper json turns p q clear clear' =
     one_on_hyper hypers_are_one turns p (λ a. OnHyper turns q (VerdictOn json a)) (λ a of_a.
@@ -421,12 +482,19 @@ module _ (reading : IsOneReading) (one : OneProgram) (both : NotBoth) (refusal :
 
   module _ (tables_are_one : OneTable) (rows_are_one : RowsAreOne) (hypers_are_one : HypersAreOne) (averages_are_one : OneAverage) (verdicts_are_one : OneVerdict) (marks_are_one : OneMark)
       (are_clear : AreClear) (are_proper : AreProper) (reports_are_one : OneReport) (trails_are_one : OnlyOneTrail) (attacks_are_one : OneAttacks) (reaches_are_one : OneReach)
-      (blames_are_one : OnlyOneBlames) (programs tables : List File) where
-    one_task : (task : Task) → IsInRange task.command → HasOne (TaskOutcome task programs tables)
-    one_task task has =
+      (blames_are_one : OnlyOneBlames) (silent_are_one : OneSilent) (programs tables : List File) where
+    one_on_programs : (task : Task) → IsInRange task.command → HasOne (ProgramsOutcome task.command task.turns programs tables)
+    one_on_programs task has =
         one_after (ClearedOf task.command task.turns programs) (CommandOutcome task.command task.turns tables) (one_cleared task.command task.turns programs)
         (λ ps is. one_command (one_made hypers_are_one) tables_are_one rows_are_one hypers_are_one averages_are_one verdicts_are_one marks_are_one are_proper reports_are_one trails_are_one
         attacks_are_one reaches_are_one blames_are_one task.turns task.command has tables ps (are_clear task.command task.turns programs ps is))
+
+    one_task : (task : Task) → IsInRange task.command → HasOne (TaskOutcome task programs tables)
+    one_task task has =
+        each_command HasOne task.turns tables task.command programs (λ _. one_on_programs task has)
+        (λ word file _ _. one_after (TextOf file) (LinesUnder word task.turns tables) (one_read file)
+        (λ t _. one_lines_under tables_are_one hypers_are_one silent_are_one reports_are_one averages_are_one word task.turns tables t))
+        (λ word _ _. one_given (Err usage))
 
     one_outcome : (task : Option Task) → ((t : Task) → task ≡ Some t → IsInRange t.command) → HasOne (SomeOutcome task programs tables)
     one_outcome None has = one_given (Err usage)

@@ -10,7 +10,7 @@ use Rattle.kf_load.specs.Steps.{Refused}
 use Rattle.kf_load.specs.Texts.{File}
 use Rattle.kf_top.specs.Answer.{CommandOutcome, Shown, VerdictShown, prints, verdict_refusal}
 use Rattle.kf_top.specs.Ends.{Answer, names_of, settled}
-use Rattle.kf_top.specs.Outcome.{TaskOutcome}
+use Rattle.kf_top.specs.Outcome.{ProgramsOutcome, TaskOutcome}
 use Rattle.kf_top.specs.Steps.{showing, ClearedOf, is_yes}
 use Rattle.kf_words.specs.Task.{Command, Task, tables_of, task_of}
 use Rattle.kf_laws.specs.Held.{IsAnswerOver, held}
@@ -66,16 +66,18 @@ module _ (reasoned : RefusalsAreReasoned) (contents : List ℕ → List ℕ) whe
       → (shown : Shown) × (answer ≡ showing shown) × TaskOutcome task (held contents task.files) (held contents (tables_of task.command)) (Ok shown)
   task_shown words task answer asks is few = shown_by words task answer asks few is.result is.settles (outcome_of_task contents words task answer asks is)
 
-  -- the same of a task whose programs are known
+  -- the same of a task on programs that are known
   pub command_shown : ((command : Command) (turns : ℕ) (programs : List File) → HasOne (ClearedOf command turns programs)) → (words : List (List ℕ)) (task : Task) (answer : Answer)
-      (ps : List ProgramTree) → task_of words ≡ Some task → IsAnswerOver words contents answer → answer.status ≤ 1 → ClearedOf task.command task.turns (held contents task.files) (Ok ps)
+      (ps : List ProgramTree) → ((r : Result Shown Refused) → TaskOutcome task (held contents task.files) (held contents (tables_of task.command)) r
+      → ProgramsOutcome task.command task.turns (held contents task.files) (held contents (tables_of task.command)) r)
+      → task_of words ≡ Some task → IsAnswerOver words contents answer → answer.status ≤ 1 → ClearedOf task.command task.turns (held contents task.files) (Ok ps)
       → (shown : Shown) × (answer ≡ showing shown) × CommandOutcome task.command task.turns (held contents (tables_of task.command)) ps (Ok shown)
-  command_shown one_cleared words task answer ps asks is few are =
+  command_shown one_cleared words task answer ps on_programs asks is few are =
       let w = task_shown words task answer asks is few in (
         w.0,
         w.1,
         next_of (ClearedOf task.command task.turns (held contents task.files)) (CommandOutcome task.command task.turns (held contents (tables_of task.command)))
-            (one_cleared task.command task.turns (held contents task.files)) ps are (Ok w.0) w.2,
+            (one_cleared task.command task.turns (held contents task.files)) ps are (Ok w.0) (on_programs (Ok w.0) w.2),
       )
 
 -- what is printed is what the answer has for out

@@ -1,6 +1,7 @@
 -- Words and files have some defined answer.
 use Rattle.std.proofs.Common.{◌≡◌, ◌⊎◌, ℕ, ◌≤◌, ◌*◌, nat_le, if◌then◌else◌, List, [], ◌∷◌, length, Bool, false, sym, ap, subst, None, Some, Option, Result, Ok, Err, codes, refl, ⊎_elim, inl, inr}
-use Rattle.std.specs.List.{AllByRecursion as Every}
+use Rattle.std.specs.List.{AllByRecursion as Every, AllZip}
+use Rattle.std.specs.Str.{bytes_eq}
 use Rattle.kf_lex.specs.declared.token.Token.{Token}
 use Rattle.kf_lex.specs.declared.token.LexError.{LexError}
 use Rattle.kf_lex.specs.declared.token.LexError.TheVariants as lexing
@@ -18,6 +19,8 @@ use Rattle.kf_core.specs.JointLaws.{RowsExist, HypersExist}
 use Rattle.kf_channel.specs.Laws.{SomeSecrets}
 use Rattle.kf_core.specs.Programs.{ProgramTree}
 use Rattle.kf_core.specs.Joint.{Cell, joint_of}
+use Rattle.kf_core.specs.Rows.{IsHyperOf}
+use Rattle.kf_column.specs.Hypers.{Inner}
 use Rattle.kf_core.specs.Scale.{scale_of as run_scale}
 use Rattle.kf_capacity.specs.Grids.{ChannelTree, channel_grid}
 use Rattle.kf_frac.specs.Fractions.{limit}
@@ -37,7 +40,13 @@ use Rattle.kf_make.specs.Making.{make_source}
 use Rattle.kf_prior.specs.FullSources.{full_source}
 use Rattle.kf_prior.specs.Laws.{FullIsBuilt}
 use Rattle.kf_quiet.specs.Laws.{SomeBlames}
+use Rattle.kf_quiet.specs.Summaries.{SummaryTree, IsSummary}
+use Rattle.kf_silent.specs.Laws.{SomeSilent}
 use Rattle.kf_silent.specs.Quiet.{quiet_joint}
+use Rattle.kf_silent.specs.Silent.{silent_joint}
+use Rattle.kf_lines.specs.LineTexts.{lines_text}
+use Rattle.kf_lines.specs.Sites.{Site, program_sites}
+use Rattle.kf_lines.specs.Summaries.{AreLines, IsLine, LineTree, LinesTree}
 use Rattle.kf_run.specs.Laws.{SomeTrail}
 use Rattle.kf_refine.specs.Refinements.{HyperTree}
 use Rattle.kf_refine.specs.Verdicts.{VerdictTree, IsVerdict}
@@ -53,14 +62,15 @@ use Rattle.kf_cert.specs.declared.cert.CertError.{CertError}
 use Rattle.kf_load.specs.Steps.{Refused, Step, After, Each, Gives, refusal}
 use Rattle.kf_load.specs.Texts.{File, Text, token_fault, syntax_fault, type_fault, IsBad, TextWith, TypedOf, TextOf, cleared, LongCleared, source_of}
 use Rattle.kf_load.specs.Refusals.{bad_text, Fault, fault, TokensOf, SourceOf, ProgramOf, long_enough}
-use Rattle.kf_top.specs.Answer.{Shown, usage, prints, shows, other_target, wide_channel, HyperOf, initial, IsChannelTree, is_narrow, Composed, ComposedIn, table_word, bad_file, TableOf, GainIn, NarrowGain, OnHyper, PrintsSome, ReportOn, AttackOn, IsHyperTree, verdict_refusal, VerdictShown, RefineOutcome, CertIn, mark_shown, MarkIn, MarkOn, CommandOutcome}
-use Rattle.kf_top.specs.Outcome.{few_stores, ReadyOf, TaskOutcome}
+use Rattle.kf_top.specs.Answer.{Shown, usage, prints, shows, other_target, wide_channel, HyperOf, initial, IsChannelTree, is_narrow, Composed, ComposedIn, table_word, bad_file, TableOf, GainIn, NarrowGain, OnHyper, PrintsSome, ReportOn, AttackOn, LinesOn, IsHyperTree, verdict_refusal, VerdictShown, RefineOutcome, CertIn, mark_shown, MarkIn, MarkOn, CommandOutcome}
+use Rattle.kf_top.specs.Outcome.{few_stores, LinesUnder, ProgramsOutcome, ReadyOf, TaskOutcome}
 use Rattle.kf_top.specs.Ends.{Answer, settled}
 use Rattle.kf_top.specs.Steps.{TracesOf, TrailOf, MadeOf, BlameOf, TableIn, cert_read, most_pivots, IsAnswer, FullTexts, ClearedOf, SomeOutcome, MadeOutcome, ChannelOf, CapacityIn, algebra_shown, is_yes, FullOf, VerdictOn}
 use Rattle.kf_words.specs.Jobs.{IsInRange}
 use Rattle.kf_words.specs.Laws.{TasksInRange}
 use Rattle.kf_words.specs.Task.{Command, Composition, Hyper, Traces, Channel, Trail, Capacity, Compose, Leak, Attack, Reach, Make, Refine, Check, Covers, Quiet, Blame, Task, task_of}
 use Rattle.kf_laws.proofs.ClearedPrograms.{AreClear, IsTyped, every_done, every_one, few_typed, texts_typed}
+use Rattle.kf_laws.proofs.EachCommand.{each_command}
 use Rattle.kf_laws.proofs.OneComposed.{some_composed}
 use Rattle.kf_laws.proofs.ProperHypers.{AreProper, IsClear}
 use Rattle.kf_text.specs.Texts.{hyper_text, trace_text, channel_text, trail_text, make_text}
@@ -240,6 +250,47 @@ module _ (averages_exist : SomeAverage) (g : GainOf TableTree) (h : HyperTree) (
       some_after (NarrowGain g h) (λ m. PrintsSome (AreAttacks g h.inners) (attack_text g h.target h.scale h.inners))
       (λ m _. (prints (attack_text g h.target h.scale h.inners attacks.0), (attacks.0, attacks.1, refl))) some_narrow
 
+-- ---- lines
+
+-- the laws of silent statements and of vulnerabilities, for a gain that has an action
+module _ (silent_exist : SomeSilent) (reports_exist : SomeReport) (g : GainOf TableTree) (has : HasActions g) (turns : ℕ) (p : ProgramTree) where
+  some_summary : (joint : List Cell) (inners : List Inner) → IsHyperOf joint inners → (s : SummaryTree) × IsSummary g joint s
+  some_summary joint inners is =
+      let z = (reports_exist g inners has).1 in
+      (record { inners = length inners; posterior = z.0 }, record { inners = inners; is_hyper = is; counted = refl; posterior = z.1 })
+
+  some_line : (site : Site) → (l : LineTree) × IsLine g turns p site l
+  some_line site =
+      let h = silent_exist (bytes_eq site.path) turns p in
+      let s = some_summary (silent_joint (bytes_eq site.path) turns p) h.0 h.1 in
+      (record { at = site.at; left = s.0 }, record { at = refl; left = s.1 })
+
+  each_line : (sites : List Site) → (ls : List LineTree) × AllZip (IsLine g turns p) sites ls
+  each_line [] = ([], tt)
+  each_line (site ∷ sites) =
+      let l = some_line site in
+      let ls = each_line sites in
+      (l.0 ∷ ls.0, (l.1, ls.1))
+
+  some_lines : SomeAverage → (bytes : List ℕ) (tree : SourceTree) (h : HyperTree) → IsHyperTree turns p h → HasSome (LinesOn turns bytes tree p g h)
+  some_lines averages_exist bytes tree h of_p =
+      let all = some_summary (joint_of turns p) h.inners of_p.is_hyper in
+      let ls = each_line (program_sites tree p) in
+      let l : LinesTree = record { all = all.0; lines = ls.0 } in
+      some_after (NarrowGain g h) (λ m. PrintsSome (AreLines g turns tree p) (lines_text bytes (h.scale * over_of g)))
+      (λ m _. (prints (lines_text bytes (h.scale * over_of g) l), (l, record { whole = all.1; each = ls.1 }, refl))) (some_narrow averages_exist g h has)
+
+module _ (tables_exist : SomeTable) (tables_have_actions : TablesHaveActions) (hypers_exist : HypersExist) (averages_exist : SomeAverage) (silent_exist : SomeSilent)
+    (reports_exist : SomeReport) where
+  some_lines_under : (word : GainOf (List ℕ)) (turns : ℕ) (tables : List File) (t : Text) → HasSome (LinesUnder word turns tables t)
+  some_lines_under word turns tables t =
+      some_after (Gives (cleared turns t)) (λ p. After (GainIn p.target word tables) (λ g. OnHyper turns p (LinesOn turns t.bytes t.source p g)))
+      (λ p _. some_after (GainIn p.target word tables) (λ g. OnHyper turns p (LinesOn turns t.bytes t.source p g))
+      (λ g is. some_on_hyper hypers_exist turns p (LinesOn turns t.bytes t.source p g)
+      (λ h of_p. some_lines silent_exist reports_exist g (read_gain tables_have_actions p.target word tables g is) turns p averages_exist t.bytes t.source h of_p))
+      (some_gain tables_exist p.target word tables))
+      (some_given (cleared turns t))
+
 -- ---- verdicts and certificates
 
 some_verdict_shown : VerdictsProve → (json : Bool) (a b : HyperTree) → IsProper a → IsProper b → (r : Result VerdictTree RefineError) → IsVerdict a b most_pivots r → HasSome (VerdictShown json a b r)
@@ -411,13 +462,20 @@ module _ (read : (src : List ℕ) → ((ts : List Token) × IsTokens src ts) ⊎
 
   module _ (tables_exist : SomeTable) (tables_have_actions : TablesHaveActions) (rows_exist : RowsExist) (secrets_exist : SomeSecrets) (hypers_exist : HypersExist) (averages_exist : SomeAverage)
       (verdicts_exist : SomeVerdict) (verdicts_prove : VerdictsProve) (read_sound : ReadSound) (marks_exist : SomeMark) (are_clear : AreClear) (are_proper : AreProper)
-      (reports_exist : SomeReport) (trails_exist : SomeTrail) (attacks_exist : SomeAttacks) (reaches_exist : SomeReach) (blames_exist : SomeBlames) (programs tables : List File) where
-    some_task : (task : Task) → IsInRange task.command → HasSome (TaskOutcome task programs tables)
-    some_task task has =
+      (reports_exist : SomeReport) (trails_exist : SomeTrail) (attacks_exist : SomeAttacks) (reaches_exist : SomeReach) (blames_exist : SomeBlames) (silent_exist : SomeSilent) (programs tables : List File) where
+    some_on_programs : (task : Task) → IsInRange task.command → HasSome (ProgramsOutcome task.command task.turns programs tables)
+    some_on_programs task has =
         some_after (ClearedOf task.command task.turns programs) (CommandOutcome task.command task.turns tables)
         (λ ps is. some_command (some_made hypers_exist) tables_exist tables_have_actions rows_exist secrets_exist hypers_exist averages_exist verdicts_exist verdicts_prove read_sound marks_exist
         are_proper reports_exist trails_exist attacks_exist reaches_exist blames_exist task.turns task.command has tables ps (are_clear task.command task.turns programs ps is))
         (some_cleared task.command task.turns programs)
+
+    some_task : (task : Task) → IsInRange task.command → HasSome (TaskOutcome task programs tables)
+    some_task task has =
+        each_command HasSome task.turns tables task.command programs (λ _. some_on_programs task has)
+        (λ word file _ _. some_after (TextOf file) (LinesUnder word task.turns tables)
+        (λ t _. some_lines_under tables_exist tables_have_actions hypers_exist averages_exist silent_exist reports_exist word task.turns tables t) (some_read file))
+        (λ word _ _. some_given (Err usage))
 
     some_outcome : (task : Option Task) → ((t : Task) → task ≡ Some t → IsInRange t.command) → HasSome (SomeOutcome task programs tables)
     some_outcome None has = some_given (Err usage)

@@ -116,7 +116,7 @@ module _ (structural : IsStructural) (c d c' d' : ChannelTree) (m n : ℕ) (x : 
 module _ (one_cleared : (command : Command) (turns : ℕ) (programs : List File) → HasOne (ClearedOf command turns programs)) (reasoned : RefusalsAreReasoned) where
   pub channel_is_printed : RowsAreOne → ChannelIsPrinted
   channel_is_printed rows_are_one words contents name turns answer p c asks is none has =
-      let w = command_shown reasoned contents one_cleared words (on_file Channel name turns) answer (p ∷ []) asks is (omega (arith, none)) has.is_cleared in
+      let w = command_shown reasoned contents one_cleared words (on_file Channel name turns) answer (p ∷ []) (λ r outcome. outcome) asks is (omega (arith, none)) has.is_cleared in
       channel_printed rows_are_one answer w.0 turns p c w.1 w.2 has.is_channel
 
   module _ (are_clear : AreClear) (are_proper : AreProper) where
@@ -131,7 +131,7 @@ module _ (one_cleared : (command : Command) (turns : ℕ) (programs : List File)
     is_compared contents turns first second answer c d is =
         let are = both_cleared turns is.json (held_file contents first) (held_file contents second) is.p is.q is.of_first.is_cleared is.of_second.is_cleared in
         let w =
-        command_shown reasoned contents one_cleared is.words (on_files (Refine is.json) (first ∷ second ∷ []) turns) answer (is.p ∷ is.q ∷ []) is.asks is.is_answer is.shown are in
+        command_shown reasoned contents one_cleared is.words (on_files (Refine is.json) (first ∷ second ∷ []) turns) answer (is.p ∷ is.q ∷ []) (λ r outcome. outcome) is.asks is.is_answer is.shown are in
         let refined = w.2 in
         let a = refined.0 in
         let b = refined.2.0 in

@@ -6,9 +6,8 @@ use Rattle.std.specs.Str.{bytes_eq}
 use Rattle.std.proofs.lemmas.List.{length-take-le}
 use Rattle.kf_gain.specs.Gains.{GainOf}
 use Rattle.kf_words.specs.Arguments.{Arguments, arguments_of}
-use Rattle.kf_words.specs.GainWords.{gain_named}
 use Rattle.kf_words.specs.Numbers.{block_of, probability_of, threshold_of}
-use Rattle.kf_words.specs.Task.{Command, Hyper, Traces, Channel, Trail, Capacity, Compose, Cascade, Parallel, Choice, Leak, Attack, Reach, Make, Refine, Check, Covers, Quiet, Blame, Task, CommandRow, on_files, files_only, with_gain, with_pair, commands, options_fit, row_task, task_of, task_of_values, observations_of}
+use Rattle.kf_words.specs.Task.{Command, Hyper, Traces, Channel, Trail, Capacity, Compose, Cascade, Parallel, Choice, Leak, Attack, Reach, Make, Refine, Check, Covers, Quiet, Blame, Lines, Presence, Optional, Required, Task, CommandRow, on_files, files_only, gain_or_bayes, with_gain, with_pair, commands, options_fit, row_task, task_of, task_of_values, observations_of}
 use Rattle.kf_words.specs.OfWords.{first_of, others_of, last_of, task_of_arguments, make_row, refine_row, check_row, row_of, turns_of}
 
 -- how many programs a command asks for
@@ -54,9 +53,9 @@ asked_fits command files ask turns same fits = subst (λ (f : ℕ → Task). IsF
 files_fit : (command : Command) (files : ℕ) → files ≡ programs_asked command → Fits (files_only command files)
 files_fit command files many values arguments ask turns long is = asked_fits command values ask turns (cc) (cc)
 
-gain_fits : (command : GainOf (List ℕ) → Command) (files : ℕ) → ((g : GainOf (List ℕ)) → files ≡ programs_asked (command g)) → Fits (with_gain command files)
-gain_fits command files many values arguments ask turns long is =
-    let g = mapped (λ g. on_files (command g) values) (option_and_then gain_named arguments.gain) ask is in
+gain_fits : (gain : Presence) (command : GainOf (List ℕ) → Command) (files : ℕ) → ((g : GainOf (List ℕ)) → files ≡ programs_asked (command g)) → Fits (with_gain gain command files)
+gain_fits gain command files many values arguments ask turns long is =
+    let g = mapped (λ g. on_files (command g) values) (gain_or_bayes arguments.gain) ask is in
     let asked = many g.0 in
     asked_fits (command g.0) values ask turns g.2 (cc)
 
@@ -97,7 +96,7 @@ all_fit = (
     (
       files_fit Channel 1 refl,
       (
-        gain_fits Leak 1 (λ g. refl),
+        gain_fits Required Leak 1 (λ g. refl),
         (
           files_fit Trail 1 refl,
           (
@@ -115,14 +114,17 @@ all_fit = (
                       (
                         pair_fits probability_of (λ num den. Compose (Choice num den)) 2 (λ num den. refl),
                         (
-                          gain_fits Attack 1 (λ g. refl),
+                          gain_fits Required Attack 1 (λ g. refl),
                           (
                             pair_fits threshold_of Reach 1 (λ num den. refl),
                             (
                               files_fit Covers 2 refl,
                               (
                                 pair_fits block_of Quiet 1 (λ from to. refl),
-                                (files_fit Blame 1 refl, tt),
+                                (
+                                  files_fit Blame 1 refl,
+                                  (gain_fits Optional Lines 1 (λ g. refl), tt),
+                                ),
                               ),
                             ),
                           ),

@@ -24,7 +24,9 @@ use Rattle.kf_make.specs.Laws.{MadeIsClear, MadeIsParsed, MadeIsTyped, MadeScale
 use Rattle.kf_make.specs.Made.{made_program, made_tree}
 use Rattle.kf_make.specs.Making.{make_source}
 use Rattle.kf_make.proofs.Refusing.{made_clears}
-use Rattle.kf_gain.specs.Gains.{GainOf, Bayes, Tries, Guessing, Table, TableTree}
+use Rattle.kf_gain.specs.Gains.{GainOf, Bayes, Tries, Guessing, Table, TableTree, over_of}
+use Rattle.kf_lines.specs.LineTexts.{lines_text}
+use Rattle.kf_lines.specs.Summaries.{AreLines}
 use Rattle.kf_refine.specs.Refinements.{HyperTree}
 use Rattle.kf_refine.specs.Verdicts.{VerdictTree, IsVerdict}
 use Rattle.kf_refine.specs.declared.verdict.RefineError.{RefineError}
@@ -44,16 +46,17 @@ use Rattle.kf_load.specs.Steps.{Refused, Step, After, Each, Gives}
 use Rattle.kf_load.specs.Texts.{File, Text, token_fault, syntax_fault, type_fault, IsBad, TextWith, TypedOf, TextOf, cause_word, cleared, LongCleared, source_of}
 use Rattle.kf_load.specs.Refusals.{bad_run, narrow, bytes_read, Fault, TokensOf, SourceOf, ProgramOf, long_enough}
 use Rattle.kf_prior.specs.FullSources.{full_source, initial_stores}
-use Rattle.kf_top.specs.Answer.{Shown, shows, other_target, wide_channel, initial, is_narrow, Composed, composed_grid, ComposedIn, table_word, TableOf, GainIn, NarrowGain, OnHyper, PrintsSome, ReportOn, AttackOn, VerdictShown, RefineOutcome, cert_word, CertIn, mark_shown, MarkOn, CommandOutcome}
-use Rattle.kf_top.specs.Outcome.{few_stores, ReadyOf, TaskOutcome}
+use Rattle.kf_top.specs.Answer.{Shown, shows, other_target, wide_channel, initial, is_narrow, Composed, composed_grid, ComposedIn, table_word, TableOf, GainIn, NarrowGain, OnHyper, PrintsSome, ReportOn, AttackOn, LinesOn, VerdictShown, RefineOutcome, cert_word, CertIn, mark_shown, MarkOn, CommandOutcome}
+use Rattle.kf_top.specs.Outcome.{few_stores, LinesUnder, ProgramsOutcome, ReadyOf, TaskOutcome}
 use Rattle.kf_top.specs.Ends.{AreNamed, names_of}
 use Rattle.kf_top.specs.Steps.{MadeOf, TableIn, cert_read, most_pivots, FullTexts, ClearedOf, MadeOutcome, ChannelOf, CapacityIn, algebra_shown, FullOf}
 use Rattle.kf_words.specs.Jobs.{IsInRange}
 use Rattle.kf_words.specs.Laws.{TasksInRange}
-use Rattle.kf_words.specs.Task.{Command, Composition, Cascade, Parallel, Choice, Hyper, Traces, Channel, Trail, Capacity, Compose, Leak, Attack, Reach, Make, Refine, Check, Covers, Quiet, Blame, Task, tables_of}
+use Rattle.kf_words.specs.Task.{Command, Composition, Cascade, Parallel, Choice, Hyper, Traces, Channel, Trail, Capacity, Compose, Leak, Attack, Reach, Make, Refine, Check, Covers, Quiet, Blame, Lines, Task, tables_of}
 use Rattle.kf_words.specs.OfWords.{named}
 use Rattle.kf_laws.specs.Refusals.{ReadFailed, TooLong, BadText, BadRun, WideScale, NotInitial, BadTable, WideGain, OtherTarget, ManyCells, WideTableau, ManyPivots, BadCert, WideCert, OtherRows, NoFit, ManyChannelCells, WideChannel, ManyStores, FewStatements, refusal_for, IsRefining, IsOnSameRows, IsOnCapacities, IsUnder, IsReasoned, RefusalsAreReasoned}
 use Rattle.kf_laws.proofs.ClearedPrograms.{every_done}
+use Rattle.kf_laws.proofs.EachCommand.{each_command}
 use Rattle.kf_laws.proofs.OneAnswer.{HasOne, next_of}
 use Rattle.kf_laws.proofs.TaskFiles.{IsFitting, programs_asked, tasks_fit}
 use Rattle.kf_check.specs.Variables.{IsBroken}
@@ -309,6 +312,11 @@ module _ (task : Task) where
         refused_after Reasoned (NarrowGain g is.0) (λ m. PrintsSome (AreAttacks g is.0.inners) (attack_text g is.0.target is.0.scale is.0.inners)) (narrow_refused g is.0)
         (λ m _ s h. absurd (never_shown s true _ h.2)) r is.2
 
+    lines_refused : (turns : ℕ) (bytes : List ℕ) (tree : SourceTree) (p : ProgramTree) (g : GainOf TableTree) → Refuses Reasoned (OnHyper turns p (LinesOn turns bytes tree p g))
+    lines_refused turns bytes tree p g r is =
+        refused_after Reasoned (NarrowGain g is.0) (λ m. PrintsSome (AreLines g turns tree p) (lines_text bytes (is.0.scale * over_of g))) (narrow_refused g is.0)
+        (λ m _ s h. absurd (never_shown s true _ h.2)) r is.2
+
   -- ---- channels
 
   initial_refused : (task.command ≡ Channel) ⊎ IsOnCapacities task.command → (p : ProgramTree) → Refuses Reasoned (Gives (initial p))
@@ -424,21 +432,21 @@ module _ (task : Task) where
     under_refused target word next under are later =
         refused_after Reasoned (GainIn target word tables) next (gain_refused tables listed target word under are) (λ g _. later g)
 
-    command_refused : (command : Command) → task.command ≡ command → names_of tables ≡ tables_of command → (ps : List ProgramTree) → length ps ≡ programs_asked command
+    command_refused : ((word : GainOf (List ℕ)) → task.command ≡ Lines word → ⊥) → (command : Command) → task.command ≡ command → names_of tables ≡ tables_of command → (ps : List ProgramTree) → length ps ≡ programs_asked command
         → Refuses Reasoned (CommandOutcome command turns tables ps)
-    command_refused Hyper asked are (p ∷ []) fit r is = absurd (never_shown r true _ is.2)
-    command_refused Traces asked are (p ∷ []) fit r is = absurd (never_shown r true _ is.2)
-    command_refused Channel asked are (p ∷ []) fit r is =
+    command_refused unlike Hyper asked are (p ∷ []) fit r is = absurd (never_shown r true _ is.2)
+    command_refused unlike Traces asked are (p ∷ []) fit r is = absurd (never_shown r true _ is.2)
+    command_refused unlike Channel asked are (p ∷ []) fit r is =
         refused_after Reasoned (Gives (initial p)) (λ p. ChannelOf p.target (joint_of turns p)) (initial_refused (inl asked) p) (λ q _ s h. absurd (never_shown s true _ h.2.2)) r is
-    command_refused Trail asked are (p ∷ []) fit r is = absurd (never_shown r true _ is.2)
-    command_refused Capacity asked are (p ∷ []) fit r is =
+    command_refused unlike Trail asked are (p ∷ []) fit r is = absurd (never_shown r true _ is.2)
+    command_refused unlike Capacity asked are (p ∷ []) fit r is =
         refused_after Reasoned (Gives (initial p)) (CapacityIn turns) (initial_refused (inr (inl asked)) p) (λ q _. capacity_refused asked turns q) r is
-    command_refused (Compose way) asked are (p ∷ q ∷ []) fit r is =
+    command_refused unlike (Compose way) asked are (p ∷ q ∷ []) fit r is =
         refused_after Reasoned (Gives (initial p)) (λ p. After (Gives (initial q)) (λ q. ComposedIn way turns p q)) (initial_refused (inr (inr (way, asked))) p)
         (λ first _. refused_after Reasoned (Gives (initial q)) (λ q. ComposedIn way turns first q) (initial_refused (inr (inr (way, asked))) q)
         (λ second _. composition_refused way asked turns first second)) r is
-    command_refused (Make count) asked are [] fit r is = made_answers count turns asked r is
-    command_refused (Leak word) asked are (p ∷ []) fit r is =
+    command_refused unlike (Make count) asked are [] fit r is = made_answers count turns asked r is
+    command_refused unlike (Leak word) asked are (p ∷ []) fit r is =
         under_refused p.target word (λ t. OnHyper turns p (ReportOn t)) (inl asked) (are ∙ leak_files word) (report_refused word (inl asked) turns p) r is
       where
         leak_files : (g : GainOf (List ℕ)) → tables_of (Leak g) ≡ gain_files g
@@ -446,21 +454,38 @@ module _ (task : Task) where
         leak_files (Tries k) = refl
         leak_files Guessing = refl
         leak_files (Table name) = refl
-    command_refused (Attack word) asked are (p ∷ []) fit r is =
-        under_refused p.target word (λ t. OnHyper turns p (AttackOn t)) (inr asked) (are ∙ attack_files word) (attack_refused word (inr asked) turns p) r is
+    command_refused unlike (Attack word) asked are (p ∷ []) fit r is =
+        under_refused p.target word (λ t. OnHyper turns p (AttackOn t)) (inr (inl asked)) (are ∙ attack_files word) (attack_refused word (inr (inl asked)) turns p) r is
       where
         attack_files : (g : GainOf (List ℕ)) → tables_of (Attack g) ≡ gain_files g
         attack_files Bayes = refl
         attack_files (Tries k) = refl
         attack_files Guessing = refl
         attack_files (Table name) = refl
-    command_refused (Reach num den) asked are (p ∷ []) fit r is = absurd (never_shown r true _ is.2.2)
-    command_refused (Refine json) asked are (p ∷ q ∷ []) fit r is = refine_refused (inr (json, asked)) json turns p q r is
-    command_refused (Check name) asked are (p ∷ q ∷ []) fit r is = check_refused name asked turns tables listed are p q r is
-    command_refused Covers asked are (p ∷ q ∷ []) fit r is = refine_refused (inl asked) false turns p q r is
-    command_refused (Quiet from to) asked are (p ∷ []) fit r is = absurd (never_shown r true _ is.2)
-    command_refused Blame asked are (p ∷ []) fit r is = absurd (never_shown r true _ is.2)
-    command_refused command asked are ps fit r is = absurd (omega (arith, fit))
+    command_refused unlike (Reach num den) asked are (p ∷ []) fit r is = absurd (never_shown r true _ is.2.2)
+    command_refused unlike (Refine json) asked are (p ∷ q ∷ []) fit r is = refine_refused (inr (json, asked)) json turns p q r is
+    command_refused unlike (Check name) asked are (p ∷ q ∷ []) fit r is = check_refused name asked turns tables listed are p q r is
+    command_refused unlike Covers asked are (p ∷ q ∷ []) fit r is = refine_refused (inl asked) false turns p q r is
+    command_refused unlike (Quiet from to) asked are (p ∷ []) fit r is = absurd (never_shown r true _ is.2)
+    command_refused unlike Blame asked are (p ∷ []) fit r is = absurd (never_shown r true _ is.2)
+    command_refused unlike (Lines word) asked are ps fit r is = absurd (unlike word asked)
+    command_refused unlike command asked are ps fit r is = absurd (omega (arith, fit))
+
+    -- `lines`, whose file is the only one
+    text_lines_refused : (word : GainOf (List ℕ)) → task.command ≡ Lines word → names_of tables ≡ tables_of (Lines word) → (file : File) → IsProgram file
+        → Refuses Reasoned (After (TextOf file) (LinesUnder word turns tables))
+    text_lines_refused word asked are file in' =
+        refused_after Reasoned (TextOf file) (LinesUnder word turns tables) (text_refused file in')
+        (λ t is. refused_after Reasoned (Gives (cleared turns t)) (λ p. After (GainIn p.target word tables) (λ g. OnHyper turns p (LinesOn turns t.bytes t.source p g)))
+        (cleared_refused turns t (text_named file t in' is))
+        (λ p _. under_refused p.target word (λ g. OnHyper turns p (LinesOn turns t.bytes t.source p g)) (inr (inr asked)) (are ∙ lines_files word)
+        (lines_refused word (inr (inr asked)) turns t.bytes t.source p)))
+      where
+        lines_files : (g : GainOf (List ℕ)) → tables_of (Lines g) ≡ gain_files g
+        lines_files Bayes = refl
+        lines_files (Tries k) = refl
+        lines_files Guessing = refl
+        lines_files (Table name) = refl
 
   -- ---- as many programs as files
 
@@ -476,12 +501,27 @@ module _ (task : Task) where
     programs_long ps is =
         ready_length task.command task.turns is.0 ps is.2 ∙ each_length TextOf programs is.0 is.1 ∙ sym (length-map programs (λ (f : File). f.name)) ∙ ap length are.0 ∙ fitting
 
+    are_programs : Every IsProgram programs
+    are_programs = subst (λ (names : List (List ℕ)). Every (λ (f : File). Contains names f.name) programs) are.0 (names_in programs)
+
+    are_tables : Every (λ f. Contains (tables_of task.command) f.name) tables
+    are_tables = subst (λ (names : List (List ℕ)). Every (λ (f : File). Contains names f.name) tables) are.1 (names_in tables)
+
+    programs_reasoned : ((word : GainOf (List ℕ)) → task.command ≡ Lines word → ⊥) → Refuses Reasoned (ProgramsOutcome task.command task.turns programs tables)
+    programs_reasoned unlike =
+        refused_after Reasoned (ClearedOf task.command task.turns programs) (CommandOutcome task.command task.turns tables) (clearing_refused programs are_programs)
+        (λ ps is. command_refused made_answers task.turns tables are_tables unlike task.command refl are.1 ps (programs_long ps is))
+
+    lines_reasoned : (word : GainOf (List ℕ)) (file : File) → task.command ≡ Lines word → programs ≡ file ∷ []
+        → Refuses Reasoned (After (TextOf file) (LinesUnder word task.turns tables))
+    lines_reasoned word file asked one =
+        text_lines_refused made_answers task.turns tables are_tables word asked (are.1 ∙ ap tables_of asked) file
+        (subst (λ (files : List File). Every IsProgram files) one are_programs).0
+
     pub task_reasoned : Refuses Reasoned (TaskOutcome task programs tables)
     task_reasoned =
-        refused_after Reasoned (ClearedOf task.command task.turns programs) (CommandOutcome task.command task.turns tables)
-        (clearing_refused programs (subst (λ (names : List (List ℕ)). Every (λ (f : File). Contains names f.name) programs) are.0 (names_in programs)))
-        (λ ps is. command_refused made_answers task.turns tables
-        (subst (λ (names : List (List ℕ)). Every (λ (f : File). Contains names f.name) tables) are.1 (names_in tables)) task.command refl are.1 ps (programs_long ps is))
+        each_command (Refuses Reasoned) task.turns tables task.command programs programs_reasoned lines_reasoned
+        (λ word asked many. absurd (many (sym (length-map programs (λ (f : File). f.name)) ∙ ap length are.0 ∙ fitting ∙ ap programs_asked asked)))
 
 -- ---- the made text is never refused
 

@@ -2,12 +2,17 @@
 use Rattle.std.specs.Prelude.{◌≡◌, ◌≢◌, ℕ, ◌≤◌, ◌<◌, List, length, Contains, Some}
 use Rattle.std.specs.declared.option.Option.{Option}
 use Rattle.kf_io.specs.Faults.{Rose}
-use Rattle.kf_laws.specs.Held.{IsHeldAnswer}
-use Rattle.kf_top.specs.Ends.{Answer, HasFailed, Question, Sunk, TookFront, Took, TookLine}
+use Rattle.kf_laws.specs.Held.{held, program_names, table_names}
+use Rattle.kf_top.specs.Ends.{Answer, HasFailed, IsAnswerTo, Question, Sunk, TookFront, Took, TookLine}
 use Rattle.kf_top.specs.Outcome.{Outcome}
 use Rattle.kf_top.specs.Steps.{HasCauses}
 use Rattle.kf_words.specs.Task.{Task, task_of}
 use Rattle.kf_words.specs.OfWords.{files_of_some}
+
+-- the defined answer to a question about a task's files, where these hold such contents
+abbrev pub IsHeldAnswer : Option Task → Question → (List ℕ → List ℕ) → Answer → Type 0
+IsHeldAnswer task question contents answer =
+    IsAnswerTo question (held contents (program_names task)) (held contents (table_names task)) answer
 
 pub record Shows (answer : Answer) (out err : Sunk) (status : ℕ) : Type 0 where
   pub status_is : status ≡ answer.status

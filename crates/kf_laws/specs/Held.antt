@@ -2,7 +2,7 @@
 use Rattle.std.specs.Prelude.{ℕ, List, [], map, None, Some}
 use Rattle.std.specs.declared.option.Option.{Option}
 use Rattle.kf_load.specs.Texts.{File}
-use Rattle.kf_top.specs.Ends.{Answer, IsAnswerTo, Question}
+use Rattle.kf_top.specs.Ends.{Answer, IsAnswerTo}
 use Rattle.kf_top.specs.Outcome.{Outcome}
 use Rattle.kf_words.specs.Task.{Task, tables_of, task_of}
 
@@ -23,11 +23,7 @@ abbrev pub table_names : Option Task → List (List ℕ)
 table_names None = []
 table_names (Some task) = tables_of task.command
 
--- the defined answer to a question about a task's files, where these hold such contents
-abbrev pub IsHeldAnswer : Option Task → Question → (List ℕ → List ℕ) → Answer → Type 0
-IsHeldAnswer task question contents answer =
-    IsAnswerTo question (held contents (program_names task)) (held contents (table_names task)) answer
-
 -- the defined answer to words over files that hold these contents
 abbrev pub IsAnswerOver : List (List ℕ) → (List ℕ → List ℕ) → Answer → Type 0
-IsAnswerOver words = IsHeldAnswer (task_of words) (Outcome words)
+IsAnswerOver words contents =
+    IsAnswerTo (Outcome words) (held contents (program_names (task_of words))) (held contents (table_names (task_of words)))

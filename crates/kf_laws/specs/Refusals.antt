@@ -8,7 +8,7 @@ use Rattle.kf_load.specs.Texts.{File}
 use Rattle.kf_top.specs.Ends.{AreNamed, Sunk, TookLine}
 use Rattle.kf_top.specs.Outcome.{TaskOutcome}
 use Rattle.kf_top.specs.Steps.{HasCauses}
-use Rattle.kf_words.specs.Task.{Command, Composition, Cascade, Parallel, Choice, Task, Channel, Capacity, Compose, Leak, Attack, Refine, Check, Covers, Quiet, task_of}
+use Rattle.kf_words.specs.Task.{Command, Composition, Cascade, Parallel, Choice, Task, Channel, Capacity, Compose, Leak, Attack, Lines, Refine, Check, Covers, Quiet, task_of}
 use Rattle.kf_words.specs.OfWords.{named}
 
 -- ---- reasons
@@ -100,7 +100,7 @@ IsOnCapacities command = (command ≡ Capacity) ⊎ IsComposing command
 
 -- it asks for this gain
 abbrev pub IsUnder : GainOf (List ℕ) → Command → Type 0
-IsUnder g command = (command ≡ Leak g) ⊎ (command ≡ Attack g)
+IsUnder g command = (command ≡ Leak g) ⊎ ((command ≡ Attack g) ⊎ (command ≡ Lines g))
 
 -- the reason is one that the task can have: of a file that it names, or of its command
 abbrev pub CanRefuse : Task → Reason → Type 0

@@ -17,6 +17,7 @@ use kf_prior::{full_laws, prior_laws};
 use kf_quiet::{blame_laws, quiet_laws};
 use kf_refine::{one_verdict, verdict_laws};
 use kf_run::trail_laws;
+use kf_silent::silent_hypers;
 use kf_words::tasks_in_range;
 
 /// A law of the definitions: whatever the words and whatever files there are, read or not, there is exactly one defined answer. It does
@@ -40,6 +41,7 @@ pub fn exactly_one_answer()
     reach_laws();
     full_laws();
     blame_laws();
+    silent_hypers();
     one_verdict();
     verdict_laws();
     cert_laws();

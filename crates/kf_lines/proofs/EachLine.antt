@@ -5,6 +5,7 @@ use Rattle.kf_ast.specs.declared.stmt.Stmt.{Stmt}
 use Rattle.kf_ast.specs.Views.{stmt_tree}
 use Rattle.kf_core.specs.declared.st.St.{St}
 use Rattle.kf_core.specs.Views.{st_items, st_tree}
+use Rattle.kf_core.specs.Joint.{joint_of}
 use Rattle.kf_core.specs.Rows.{IsHyperOf}
 use Rattle.kf_frac.specs.Fractions.{limit}
 use Rattle.kf_frac.specs.Parts.{IsFraction}
@@ -15,7 +16,7 @@ use Rattle.kf_column.specs.Hypers.{Inner}
 use Rattle.kf_lines.specs.Sites as spec
 use Rattle.kf_lines.specs.Sites.{sites as sites_of_statement, under}
 use Rattle.kf_lines.specs.Summaries.{LineTree}
-use Rattle.kf_lines.specs.Views.{AreLinesIn, IsLineIn, IsNarrowIn, ShowLines, site_of, AreLines}
+use Rattle.kf_lines.specs.Views.{AreLinesIn, HasWidth, IsLineIn, IsNarrowIn, IsWideIn, ShowLines, site_of, AreSiteLines}
 use Rattle.kf_lines.specs.declared.site.Site.{Site}
 use Rattle.kf_lines.specs.declared.summary.Line.{Line}
 use Rattle.kf_lines.proofs.Walking.{block_end, block_parts, left_sites}
@@ -53,6 +54,19 @@ module _ (cleared : Cleared) (g : GainOf TableTree) where
       let fits : scale * wide.0 ≤ limit = subst (λ (n : ℕ). n * wide.0 ≤ limit) (sym whole) (subst (λ (m : ℕ). whole_scale cleared * m ≤ limit) (sym same) narrow.2) in
       no_both (scale * wide.0) limit fits wide.2
 
+  -- how wide the gain is on the whole program, by a hyper of it
+  pub width_in : (inners : List Inner) → IsHyperOf (joint_of (turns_of cleared) (program_in cleared)) inners → (m : ℕ) → IsWidth g inners m
+      → HasWidth (joint_of (turns_of cleared) (program_in cleared)) g m
+  width_in inners is m width = record { inners = inners; is_hyper = is; is_width = width }
+
+  pub narrow_in : (inners : List Inner) → IsHyperOf (joint_of (turns_of cleared) (program_in cleared)) inners → (scale : ℕ) → scale ≡ whole_scale cleared
+      → (m : ℕ) × IsWidth g inners m × (scale * m ≤ limit) → IsNarrowIn cleared g
+  narrow_in inners is scale same w = (w.0, width_in inners is w.0 w.1, subst (λ (n : ℕ). n * w.0 ≤ limit) same w.2)
+
+  pub wide_in : (inners : List Inner) → IsHyperOf (joint_of (turns_of cleared) (program_in cleared)) inners → (scale : ℕ) → scale ≡ whole_scale cleared
+      → (m : ℕ) × IsWidth g inners m × (limit < scale * m) → IsWideIn cleared g
+  wide_in inners is scale same w = (w.0, width_in inners is w.0 w.1, subst (λ (n : ℕ). limit < n * w.0) same w.2)
+
   -- one more line
   pub line_more : (sites : List spec.Site) (lines : List Line) (site : spec.Site) (l : Line) → AreLinesIn cleared g sites lines → IsLineIn cleared g site l
       → AreLinesIn cleared g (sites ++ site ∷ []) (lines ++ l ∷ [])
@@ -63,7 +77,7 @@ module _ (cleared : Cleared) (g : GainOf TableTree) where
 
   -- the lines, apart from how they are shown
   pub trees_of : (sites : List spec.Site) (lines : List Line) → AreLinesIn cleared g sites lines
-      → (trees : List LineTree) × AreLines g (turns_of cleared) (program_in cleared) sites trees × ShowLines (whole_scale cleared * over_of g) trees lines
+      → (trees : List LineTree) × AreSiteLines g (turns_of cleared) (program_in cleared) sites trees × ShowLines (whole_scale cleared * over_of g) trees lines
   trees_of [] [] h = ([], tt, tt)
   trees_of [] (k ∷ ks) h = absurd h
   trees_of (s ∷ ss) [] h = absurd h

@@ -1,6 +1,3 @@
-mod Answering
-mod Asking
-mod Ending
 mod EachLine
 mod Texts
 mod Walking

@@ -2,7 +2,7 @@
 use Rattle.std.proofs.Common.{◌≡◌, ℕ, List, [], ◌∷◌, ◌++◌, codes, flat_map, refl, ◌∙◌}
 use Rattle.std.specs.Fmt.{decimal}
 use Rattle.kf_lines.specs.LineTexts.{line_text, lines_text}
-use Rattle.kf_lines.specs.Summaries.{LineTree}
+use Rattle.kf_lines.specs.Summaries.{LineTree, LinesTree}
 use Rattle.kf_lines.specs.Views.{ShowLines, ShowsSummary, own_line, own_lines, own_text_of, place_text}
 use Rattle.kf_lines.specs.declared.summary.Line.{Line}
 use Rattle.kf_lines.specs.declared.summary.Summary.{Summary}
@@ -28,9 +28,8 @@ module _ (bytes : List ℕ) (whole : ℕ) where
       let others = all_lines ts ls show.1 in
       λ i. first i ++ others i
 
-  pub same_lines : (t : SummaryTree) (s : Summary) (trees : List LineTree) (ls : List Line) → ShowsSummary whole t s → ShowLines whole trees ls
-      → own_lines bytes s ls ≡ lines_text bytes whole t trees
-  same_lines t s trees ls all show =
-      let first = one_summary (codes "all") t s all in
-      let others = all_lines trees ls show in
+  pub same_lines : (t : LinesTree) (s : Summary) (ls : List Line) → ShowsSummary whole t.all s → ShowLines whole t.lines ls → own_lines bytes s ls ≡ lines_text bytes whole t
+  same_lines t s ls all show =
+      let first = one_summary (codes "all") t.all s all in
+      let others = all_lines t.lines ls show in
       λ i. first i ++ others i

@@ -1,13 +1,11 @@
 //! Which line leaks, wherever it stands: how much is left of what is seen of a program where one statement alone is silent.
 #![tactic(auto)]
 
-mod answer;
-mod request;
+mod program;
 mod site;
 mod sites;
 mod summaries;
 mod summary;
 mod text;
-mod top;
 
-pub use top::lines;
+pub use program::program_lines;

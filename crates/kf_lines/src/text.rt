@@ -1,12 +1,11 @@
 //! The printed lines.
 
-ghost use Rattle.std.specs.Prelude.{◌≡◌, ◌≤◌, ◌++◌, ℕ, List, IfOk, OnOk, codes, flat_map, length};
+ghost use Rattle.std.specs.Prelude.{◌≡◌, ◌≤◌, ◌++◌, ℕ, IfOk, OnOk, codes, flat_map, length};
 ghost use Rattle.kf_lines.specs.LineTexts.{lines_text as text_of_lines};
-ghost use Rattle.kf_lines.specs.Summaries.{LineTree};
+ghost use Rattle.kf_lines.specs.Summaries.{LinesTree};
 ghost use Rattle.kf_text.specs.Texts.{line};
 ghost use Rattle.kf_text.specs.Views.{own_text};
 ghost use Rattle.kf_lines.specs.Views.{ShowLines, ShowsSummary, own_line, own_text_of, place_text};
-ghost use Rattle.kf_quiet.specs.Summaries.{SummaryTree};
 
 use crate::summary::{Line, LineList, Summary};
 use kf_frac::Frac;
@@ -65,8 +64,8 @@ pub(crate) fn lines_text(
     lines: &LineList,
 ) -> Result<Vec<u8>, Mem>
     requires { length bytes.now ≤ 1048576 }
-    ensures { (whole : ℕ) (summary : SummaryTree) (trees : List LineTree) → ShowsSummary whole summary all.now → ShowLines whole trees lines.now
-        → IfOk result (λ text. text.items ≡ text_of_lines bytes.now whole summary trees) }
+    ensures { (whole : ℕ) (tree : LinesTree) → ShowsSummary whole tree.all all.now → ShowLines whole tree.lines lines.now
+        → IfOk result (λ text. text.items ≡ text_of_lines bytes.now whole tree) }
 {
     let mut out = Vec::new(alloc);
     print_summary(alloc, b"all", all, &mut out)?;

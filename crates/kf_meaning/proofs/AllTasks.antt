@@ -15,7 +15,7 @@ use Rattle.kf_words.specs.GainWords.{gain_named}
 use Rattle.kf_words.specs.Jobs.{HasTurns}
 use Rattle.kf_words.specs.Laws.{TasksInRange}
 use Rattle.kf_words.specs.Numbers.{around, block_of, is_numeral, number_of, numeral_of, pair_of, probability_of, ratio_of, threshold_of}
-use Rattle.kf_words.specs.Task.{Command, Cascade, Parallel, Choice, Hyper, Traces, Channel, Trail, Capacity, Compose, Leak, Attack, Reach, Make, Refine, Check, Covers, Quiet, Blame, Task, CommandRow, commands, files_only, observations_of, on_files, options_fit, row_task, task_of_values, with_gain, with_pair}
+use Rattle.kf_words.specs.Task.{Command, Cascade, Parallel, Choice, Hyper, Traces, Channel, Trail, Capacity, Compose, Leak, Attack, Reach, Make, Refine, Check, Covers, Quiet, Blame, Lines, Presence, Optional, Required, Task, CommandRow, commands, files_only, gain_or_bayes, observations_of, on_files, options_fit, row_task, task_of_values, with_gain, with_pair}
 use Rattle.kf_words.specs.OfWords.{first_of, others_of, last_of, task_of_arguments, tries_of, table_of, check_row, make_row, refine_row, row_of, turns_of, in_range}
 use Rattle.kf_words.proofs.Numerals.{both}
 use Rattle.kf_words.proofs.TaskRanges.{given, mapped, passed, tested}
@@ -128,11 +128,15 @@ asked_keeps command files ask turns same has = subst (λ (f : ℕ → Task). Has
 files_keep : (command : Command) (files : ℕ) → ((k : ℕ) → k ≡ files → IsFor command k) → Keeps (files_only command files)
 files_keep command files has values arguments ask turns long is = asked_keeps command values ask turns (cc) (has (length values) long)
 
-gain_keeps : (command : GainOf (List ℕ) → Command) → ((g : GainOf (List ℕ)) (k : ℕ) → k ≡ 1 → IsGain g → IsFor (command g) k) → Keeps (with_gain command 1)
-gain_keeps command has values arguments ask turns long is =
-    let g = mapped (λ g. on_files (command g) values) (option_and_then gain_named arguments.gain) ask is in
-    let word = given gain_named arguments.gain g.0 g.1 in
-    asked_keeps (command g.0) values ask turns g.2 (has g.0 (length values) long (gain_in word.0 g.0 word.2))
+default_gain_in : (word : Option (List ℕ)) (g : GainOf (List ℕ)) → gain_or_bayes word ≡ Some g → IsGain g
+default_gain_in None g is = let same : Bayes ≡ g = cc in subst IsGain same tt
+default_gain_in (Some word) g is = gain_in word g is
+
+gain_keeps : (gain : Presence) (command : GainOf (List ℕ) → Command) → ((g : GainOf (List ℕ)) (k : ℕ) → k ≡ 1 → IsGain g → IsFor (command g) k)
+    → Keeps (with_gain gain command 1)
+gain_keeps gain command has values arguments ask turns long is =
+    let g = mapped (λ g. on_files (command g) values) (gain_or_bayes arguments.gain) ask is in
+    asked_keeps (command g.0) values ask turns g.2 (has g.0 (length values) long (default_gain_in arguments.gain g.0 g.1))
 
 make_keeps : Keeps make_row
 make_keeps values arguments ask turns long is =
@@ -186,7 +190,7 @@ all_keep = (
     (
       files_keep Channel 1 (plain 1),
       (
-        gain_keeps Leak (λ g k many is. (many, is)),
+        gain_keeps Required Leak (λ g k many is. (many, is)),
         (
           files_keep Trail 1 (plain 1),
           (
@@ -204,14 +208,17 @@ all_keep = (
                       (
                         choice_keeps,
                         (
-                          gain_keeps Attack (λ g k many is. (many, is)),
+                          gain_keeps Required Attack (λ g k many is. (many, is)),
                           (
                             reach_keeps,
                             (
                               files_keep Covers 2 (plain 2),
                               (
                                 quiet_keeps,
-                                (files_keep Blame 1 (plain 1), tt),
+                                (
+                                  files_keep Blame 1 (plain 1),
+                                  (gain_keeps Optional Lines (λ g k many is. (many, is)), tt),
+                                ),
                               ),
                             ),
                           ),

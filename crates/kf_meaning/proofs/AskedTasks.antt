@@ -5,7 +5,7 @@ use Rattle.std.specs.Fmt.{decimal}
 use Rattle.std.proofs.lemmas.Bool.{le-leb}
 use Rattle.kf_gain.specs.Gains.{GainOf}
 use Rattle.kf_words.specs.Numbers.{block_of, probability_of, threshold_of}
-use Rattle.kf_words.specs.Task.{Command, Cascade, Parallel, Choice, Hyper, Traces, Channel, Trail, Capacity, Compose, Leak, Attack, Reach, Make, Refine, Check, Covers, Quiet, Blame, files_only, observations_of, on_files, task_of, with_gain, with_pair}
+use Rattle.kf_words.specs.Task.{Command, Cascade, Parallel, Choice, Hyper, Traces, Channel, Trail, Capacity, Compose, Leak, Attack, Reach, Make, Refine, Check, Covers, Quiet, Blame, Lines, Presence, Optional, Required, files_only, fits, observations_of, on_files, task_of, with_gain, with_pair}
 use Rattle.kf_words.specs.OfWords.{check_row, make_row, refine_row, row_of}
 use Rattle.kf_meaning.specs.Tasks.{IsFor, WordsAskForTheirTask, DifferentWords, gain_word, IsGain, pair_word, words_of}
 use Rattle.kf_meaning.proofs.Numerals.{number_read, pair_read}
@@ -78,12 +78,13 @@ module _ (turns : ℕ) (some : 1 ≤ turns) (few : turns ≤ 65535) where
   plain_two word command f g found =
       asked _ word (f ∷ g ∷ []) None false turns (files_only command 2) (on_files command (f ∷ g ∷ [])) (three_values t word f g) found refl refl some few
 
-  gained : (word : List ℕ) (command : GainOf (List ℕ) → Command) (g : GainOf (List ℕ)) (f : List ℕ) → IsGain g → row_of word ≡ Some (with_gain command 1)
+  gained : (word : List ℕ) (gain : Presence) → fits gain true ≡ true → (command : GainOf (List ℕ) → Command) (g : GainOf (List ℕ)) (f : List ℕ) → IsGain g
+      → row_of word ≡ Some (with_gain gain command 1)
       → task_of (codes "kuifje" ∷ (codes "--turns=" ++ decimal turns) ∷ (codes "--gain=" ++ gain_word g) ∷ codes "--" ∷ word ∷ f ∷ [])
       ≡ Some (on_files (command g) (f ∷ []) turns)
-  gained word command g f is found =
-      asked _ word (f ∷ []) (Some (gain_word g)) false turns (with_gain command 1) (on_files (command g) (f ∷ [])) (under_gain t word f (gain_word g)) found refl
-      (ap (option_map (λ g. on_files (command g) (f ∷ []))) (gain_read g is)) some few
+  gained word gain may command g f is found =
+      asked _ word (f ∷ []) (Some (gain_word g)) false turns (with_gain gain command 1) (on_files (command g) (f ∷ [])) (under_gain t word f (gain_word g)) found
+      (ap (λ b. b && true) may) (ap (option_map (λ g. on_files (command g) (f ∷ []))) (gain_read g is)) some few
 
   paired : (word : List ℕ) (pair : List ℕ → Option (ℕ × ℕ)) (command : ℕ → ℕ → Command) (f w : List ℕ) (m n : ℕ) → pair w ≡ Some (m, n)
       → row_of word ≡ Some (with_pair pair command 2)
@@ -125,8 +126,9 @@ module _ (turns : ℕ) (some : 1 ≤ turns) (few : turns ≤ 65535) where
   reads (Compose Cascade) files is = two_files (Reads (Compose Cascade)) files is (λ f g. plain_two (codes "cascade") (Compose Cascade) f g refl)
   reads (Compose Parallel) files is = two_files (Reads (Compose Parallel)) files is (λ f g. plain_two (codes "parallel") (Compose Parallel) f g refl)
   reads (Compose (Choice m n)) files is = two_files (Reads (Compose (Choice m n))) files is.0 (λ f g. chosen f g m n is.1 is.2 is.3)
-  reads (Leak g) files is = one_file (Reads (Leak g)) files is.0 (λ f. gained (codes "leak") Leak g f is.1 refl)
-  reads (Attack g) files is = one_file (Reads (Attack g)) files is.0 (λ f. gained (codes "attack") Attack g f is.1 refl)
+  reads (Leak g) files is = one_file (Reads (Leak g)) files is.0 (λ f. gained (codes "leak") Required refl Leak g f is.1 refl)
+  reads (Attack g) files is = one_file (Reads (Attack g)) files is.0 (λ f. gained (codes "attack") Required refl Attack g f is.1 refl)
+  reads (Lines g) files is = one_file (Reads (Lines g)) files is.0 (λ f. gained (codes "lines") Optional refl Lines g f is.1 refl)
   reads (Reach m n) files is =
       one_file (Reads (Reach m n)) files is.0
       (λ f. paired (codes "reach") threshold_of Reach f (pair_word m (codes "/") n) m n (threshold_read m n is.1 is.2 is.3) refl)

@@ -2,7 +2,7 @@
 use Rattle.std.specs.Prelude.{◌≡◌, ◌≢◌, ℕ, ◌<◌, ◌≤◌, ◌^◌, true, List, [], ◌∷◌, ◌++◌, Some, codes, length}
 use Rattle.std.specs.Fmt.{decimal}
 use Rattle.kf_gain.specs.Gains.{GainOf, Bayes, Tries, Guessing, Table}
-use Rattle.kf_words.specs.Task.{Command, Cascade, Parallel, Choice, Hyper, Traces, Channel, Trail, Capacity, Compose, Leak, Attack, Reach, Make, Refine, Check, Covers, Quiet, Blame, Task, task_of}
+use Rattle.kf_words.specs.Task.{Command, Cascade, Parallel, Choice, Hyper, Traces, Channel, Trail, Capacity, Compose, Leak, Attack, Reach, Make, Refine, Check, Covers, Quiet, Blame, Lines, Task, task_of}
 
 -- ---- words
 
@@ -35,11 +35,13 @@ values_of (Check cert) files = codes "check" ∷ cert ∷ files
 values_of Covers files = codes "covers" ∷ files
 values_of (Quiet from to) files = codes "quiet" ∷ (files ++ pair_word from (codes "..") to ∷ [])
 values_of Blame files = codes "blame" ∷ files
+values_of (Lines g) files = codes "lines" ∷ files
 
 -- its options beside the bound on turns
 abbrev pub options_of : Command → List (List ℕ)
 options_of (Leak g) = (codes "--gain=" ++ gain_word g) ∷ []
 options_of (Attack g) = (codes "--gain=" ++ gain_word g) ∷ []
+options_of (Lines g) = (codes "--gain=" ++ gain_word g) ∷ []
 options_of (Refine true) = codes "--json" ∷ []
 options_of command = []
 
@@ -62,6 +64,7 @@ IsFor (Compose (Choice num den)) files = (files ≡ 2) × (1 ≤ num) × (num < 
 IsFor (Compose way) files = files ≡ 2
 IsFor (Leak g) files = (files ≡ 1) × IsGain g
 IsFor (Attack g) files = (files ≡ 1) × IsGain g
+IsFor (Lines g) files = (files ≡ 1) × IsGain g
 IsFor (Reach num den) files = (files ≡ 1) × (1 ≤ num) × (num ≤ den) × (den < 10 ^ 9)
 IsFor (Make n) files = (files ≡ 0) × (1 ≤ n) × (n ≤ 60)
 IsFor (Refine json) files = files ≡ 2

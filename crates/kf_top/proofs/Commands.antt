@@ -10,9 +10,9 @@ use Rattle.kf_load.specs.Texts.{File, LongCleared, Text, TextOf, cleared}
 use Rattle.kf_load.specs.declared.refusal.Stop as load_code
 use Rattle.kf_load.proofs.Faults.{is_long}
 use Rattle.kf_load.specs.declared.refusal.Stop.TheVariants as load_stop
-use Rattle.kf_top.specs.Answer.{CommandOutcome}
+use Rattle.kf_top.specs.Answer.{CommandOutcome, Shown}
 use Rattle.kf_top.specs.Ends.{names_of}
-use Rattle.kf_top.specs.Outcome.{ReadyOf}
+use Rattle.kf_top.specs.Outcome.{FilesOutcome, ProgramsOutcome, ReadyOf}
 use Rattle.kf_top.specs.Stops.{Answers, Stopped, lifted}
 use Rattle.kf_top.specs.TaskAnswers.{FilesAnswer, MayFail, TaskAnswer, stop_in}
 use Rattle.kf_top.specs.Views.{command_of, command_on_two, least_of, shown}
@@ -26,7 +26,7 @@ use Rattle.kf_top.specs.declared.refusal.Stop.TheVariants as stop
 use Rattle.kf_words.specs.Task.{Command, Covers, Make, on_files, tables_of}
 use Rattle.kf_words.specs.OfWords.{on_file}
 use Rattle.kf_top.proofs.Readings.{lift_fails, some_files}
-use Rattle.kf_top.proofs.Steps.{alone, each_alone, first_stops, next_answers}
+use Rattle.kf_top.proofs.Steps.{alone, answers_by, each_alone, first_stops, next_answers}
 use Rattle.kf_top.specs.Steps.{ClearedOf, MadeOutcome}
 
 -- ---- what a command makes of its texts
@@ -68,10 +68,34 @@ cleared_two q turns files (Ok ps) h = (h.0, h.1, ready_two q turns h.0 (Ok ps) h
 cleared_two q turns files (Err r) (inl h) = inl h
 cleared_two q turns files (Err r) (inr h) = inr (h.0, h.1, ready_two q turns h.0 (Err r) h.2)
 
+-- ---- what is about programs, and not about texts
+
+-- what the command comes to for programs is what it comes to
+abbrev IsOnPrograms : Command → ℕ → List File → Type 0
+IsOnPrograms command turns programs =
+    (tables : List File) (r : Result Shown Refused) → ProgramsOutcome command turns programs tables r → FilesOutcome command turns programs tables r
+
+on_one_program : (q : AboutOne) (turns : ℕ) (programs : List File) → IsOnPrograms (command_of q) turns programs
+on_one_program one.Hyper turns programs tables r h = h
+on_one_program one.Traces turns programs tables r h = h
+on_one_program one.Channel turns programs tables r h = h
+on_one_program one.Trail turns programs tables r h = h
+on_one_program (one.Leak gain) turns programs tables r h = h
+on_one_program (one.Attack gain) turns programs tables r h = h
+on_one_program (one.Reach num den) turns programs tables r h = h
+on_one_program one.Capacity turns programs tables r h = h
+on_one_program (one.Quiet from to) turns programs tables r h = h
+on_one_program one.Blame turns programs tables r h = h
+
+pub on_two_programs : (q : AboutTwo) (turns : ℕ) (programs : List File) → IsOnPrograms (command_on_two q) turns programs
+on_two_programs (two.Refine json) turns programs tables r h = h
+on_two_programs (two.Check cert) turns programs tables r h = h
+on_two_programs (two.Compose way) turns programs tables r h = h
+
 -- ---- tasks
 
 module _ (told : Option (List ℕ → List ℕ)) (before now : List ℕ → ℕ) (command : Command) (turns : ℕ) (names : List (List ℕ)) (programs : List File)
-    (named : names_of programs ≡ names) (read : All (WasRead told before now) programs) where
+    (named : names_of programs ≡ names) (read : All (WasRead told before now) programs) (on_programs : IsOnPrograms command turns programs) where
   -- what its command answers about its programs
   pub task_answers : (r : Result Done Stop) → All (λ file. MayFail file.reading (stop_in r)) programs → (ps : List ProgramTree) → ClearedOf command turns programs (Ok ps)
       → FilesAnswer told before now (tables_of command) shown r (λ tables. CommandOutcome command turns tables ps)
@@ -83,7 +107,8 @@ module _ (told : Option (List ℕ → List ℕ)) (before now : List ℕ → ℕ)
     tables_named = h.named;
     read = All-append (WasRead told before now) programs h.files read h.read;
     fails = All-append (λ file. MayFail file.reading (stop_in r)) programs h.files fails h.fails;
-    answer = next_answers shown (ClearedOf command turns programs) (CommandOutcome command turns h.files) r ps cleared h.answer;
+    answer = answers_by shown (ProgramsOutcome command turns programs h.files) (FilesOutcome command turns programs h.files) (on_programs h.files) r
+        (next_answers shown (ClearedOf command turns programs) (CommandOutcome command turns h.files) r ps cleared h.answer);
   }
 
   -- what stops its programs
@@ -98,7 +123,8 @@ module _ (told : Option (List ℕ → List ℕ)) (before now : List ℕ → ℕ)
         tables_named = others.named;
         read = All-append (WasRead told before now) programs others.files read others.read;
         fails = All-append (λ file. MayFail file.reading (Some s)) programs others.files fails others.fails;
-        answer = first_stops (ClearedOf command turns programs) (CommandOutcome command turns others.files) s h;
+        answer = answers_by shown (ProgramsOutcome command turns programs others.files) (FilesOutcome command turns programs others.files) (on_programs others.files) (Err s)
+            (first_stops (ClearedOf command turns programs) (CommandOutcome command turns others.files) s h);
       }
 
 -- ---- one program
@@ -117,7 +143,8 @@ module _ (told : Option (List ℕ → List ℕ)) (before now : List ℕ → ℕ)
       → TaskAnswer told before now (on_file (command_of q) name turns) r
   one_answers often turned p r h answer =
       let file = file_as read (Some h.0) in
-      task_answers told before now (command_of q) turns (name ∷ []) (file ∷ []) (ap (λ (n : List ℕ). n ∷ []) same) (single (WasRead told before now) file h.1) r
+      task_answers told before now (command_of q) turns (name ∷ []) (file ∷ []) (ap (λ (n : List ℕ). n ∷ []) same) (single (WasRead told before now) file h.1)
+      (on_one_program q turns (file ∷ [])) r
       (single (λ f. MayFail f.reading (stop_in r)) file tt)
       (p ∷ []) (its_cleared file (Ok p) h.2)
       (subst (λ (n : ℕ). FilesAnswer told before now (tables_of (command_of q)) shown r (λ tables. CommandOutcome (command_of q) n tables (p ∷ []))) turned answer)
@@ -132,12 +159,14 @@ module _ (told : Option (List ℕ → List ℕ)) (before now : List ℕ → ℕ)
       → TaskAnswer told before now (on_file (command_of q) name turns) (Err (lifted s))
   one_stops s h =
       let file = file_as read h.0 in
-      task_stops told before now (command_of q) turns (name ∷ []) (file ∷ []) (ap (λ (n : List ℕ). n ∷ []) same) (single (WasRead told before now) file h.1.read) (lifted s)
+      task_stops told before now (command_of q) turns (name ∷ []) (file ∷ []) (ap (λ (n : List ℕ). n ∷ []) same) (single (WasRead told before now) file h.1.read)
+      (on_one_program q turns (file ∷ [])) (lifted s)
       (single (λ f. MayFail f.reading (Some (lifted s))) file (lift_fails h.0 s h.1.fails)) (stops_alone file s h.2)
 
 -- ---- two programs
 
-module _ (told : Option (List ℕ → List ℕ)) (before now : List ℕ → ℕ) (command : Command) (turns : ℕ) (first second one two : List ℕ) (same : one ≡ first) (same_too : two ≡ second) where
+module _ (told : Option (List ℕ → List ℕ)) (before now : List ℕ → ℕ) (command : Command) (turns : ℕ) (on_programs : (programs : List File) → IsOnPrograms command turns programs)
+    (first second one two : List ℕ) (same : one ≡ first) (same_too : two ≡ second) where
   both : (P : File → Type 0) (f g : File) → P f → P g → All P (f ∷ g ∷ [])
   both P f g h k = All-cons P f (g ∷ []) h (All-cons P g [] k (All-nil P))
 
@@ -152,7 +181,8 @@ module _ (told : Option (List ℕ → List ℕ)) (before now : List ℕ → ℕ)
   two_answer ps r u v h k cleared answer =
       let f = file_as one (Some u) in
       let g = file_as two (Some v) in
-      task_answers told before now command turns (first ∷ second ∷ []) (f ∷ g ∷ []) pair_named (both (WasRead told before now) f g h k) r
+      task_answers told before now command turns (first ∷ second ∷ []) (f ∷ g ∷ []) pair_named (both (WasRead told before now) f g h k)
+      (on_programs (f ∷ g ∷ [])) r
       (both (λ e. MayFail e.reading (stop_in r)) f g tt tt) ps cleared answer
 
   -- what stops them
@@ -163,7 +193,8 @@ module _ (told : Option (List ℕ → List ℕ)) (before now : List ℕ → ℕ)
   two_stop s step turn h =
       let f = file_as one h.0 in
       let g = file_as two h.1 in
-      task_stops told before now command turns (first ∷ second ∷ []) (f ∷ g ∷ []) pair_named (both (WasRead told before now) f g h.2.read h.3.read) (lifted s)
+      task_stops told before now command turns (first ∷ second ∷ []) (f ∷ g ∷ []) pair_named (both (WasRead told before now) f g h.2.read h.3.read)
+      (on_programs (f ∷ g ∷ [])) (lifted s)
       (both (λ e. MayFail e.reading (Some (lifted s))) f g (lift_fails h.0 s h.2.fails) (lift_fails h.1 s h.3.fails)) (turn (f ∷ g ∷ []) h.4)
 
 pub stops_two : (q : AboutTwo) (turns : ℕ) (s : load_code.Stop) (files : List File) → load.Stopped s (After (Each TextOf files) (Each (λ t. Gives (cleared turns t))))
@@ -215,7 +246,7 @@ module _ (told : Option (List ℕ → List ℕ)) (before now : List ℕ → ℕ)
   pub texts_stop : (s : load_code.Stop)
       → ((u v : Option (List ℕ)) × load.ReadingFor told before now s one u × load.ReadingFor told before now s two v × load.Stopped s (Each TextOf (file_as one u ∷ file_as two v ∷ [])))
       → TaskAnswer told before now (on_files Covers (first ∷ second ∷ []) turns) (Err (lifted s))
-  texts_stop s h = two_stop told before now Covers turns first second one two same same_too s (Each TextOf) (stops_texts Covers turns s) h
+  texts_stop s h = two_stop told before now Covers turns (λ programs tables r answer. answer) first second one two same same_too s (Each TextOf) (stops_texts Covers turns s) h
 
 -- what the made text comes to is what its task comes to, which names no file
 pub made_answer : (told : Option (List ℕ → List ℕ)) (before now : List ℕ → ℕ) (count turns : ℕ) (r : Result Done Stop) → Answers shown r (MadeOutcome count turns)

@@ -1,12 +1,13 @@
-pub mod Steps
+mod Steps
 mod Blocks
 mod Capacities
 mod Commands
-pub mod Ends
+mod Ends
 mod FullTexts
-pub mod Leakage
-mod Lines
+mod Leakage
+mod LineAnswers
 mod Made
 mod Reach
-pub mod Readings
+mod Readings
+mod StderrLines
 mod Verdicts

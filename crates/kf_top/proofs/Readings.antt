@@ -23,7 +23,7 @@ use Rattle.kf_top.specs.TaskAnswers.{Counts, FileAnswer, FilesAnswer, MayFail, S
 use Rattle.kf_top.specs.declared.refusal.Refusal.TheVariants as refusal
 use Rattle.kf_top.specs.declared.refusal.Stop.{Stop}
 use Rattle.kf_top.specs.declared.refusal.Stop.TheVariants as stop
-use Rattle.kf_words.specs.Task.{Attack, Leak, tables_of}
+use Rattle.kf_words.specs.Task.{Attack, Leak, Lines, tables_of}
 use Rattle.kf_top.proofs.Steps.{first_stops, lift_stops, next_answers}
 use Rattle.kf_top.specs.Steps.{TableIn}
 
@@ -196,6 +196,12 @@ leak_tables Bayes = refl
 leak_tables (Tries k) = refl
 leak_tables Guessing = refl
 leak_tables (Table name) = refl
+
+pub lines_tables : (g : GainOf (List ℕ)) → names_in g ≡ tables_of (Lines g)
+lines_tables Bayes = refl
+lines_tables (Tries k) = refl
+lines_tables Guessing = refl
+lines_tables (Table name) = refl
 
 pub attack_tables : (g : GainOf (List ℕ)) → names_in g ≡ tables_of (Attack g)
 attack_tables Bayes = refl

@@ -7,6 +7,7 @@ use Rattle.std.specs.Result.{result_map_both}
 use Rattle.kf_frac.specs.Fractions.{limit}
 use Rattle.kf_frac.specs.Rules.{Unless}
 use Rattle.kf_value.specs.Targets.{Item}
+use Rattle.kf_ast.specs.Sources.{SourceTree}
 use Rattle.kf_core.specs.Joint.{Cell, joint_of}
 use Rattle.kf_core.specs.Programs.{ProgramTree}
 use Rattle.kf_core.specs.Pushing.{IsTrail}
@@ -18,11 +19,13 @@ use Rattle.kf_capacity.specs.Grids.{ChannelTree, GridTree, channel_grid, capacit
 use Rattle.kf_capacity.specs.Compositions.{IsCascade, IsParallel, IsChoice, ComposeFault, Fit, Targets, Rows, Cells, Wide}
 use Rattle.kf_gain.specs.declared.error.TableError.{TableError}
 use Rattle.kf_gain.specs.declared.error.TableError.TheVariants as table
-use Rattle.kf_gain.specs.Gains.{GainOf, Bayes, Tries, Guessing, Table, TableTree}
+use Rattle.kf_gain.specs.Gains.{GainOf, Bayes, Tries, Guessing, Table, TableTree, over_of}
 use Rattle.kf_gain.specs.Tables.{IsTable}
 use Rattle.kf_gain.specs.Vulnerabilities.{IsWidth}
 use Rattle.kf_report.specs.Reports.{IsLeakage}
 use Rattle.kf_attack.specs.Attacks.{IsReach, IsAttack}
+use Rattle.kf_lines.specs.LineTexts.{lines_text}
+use Rattle.kf_lines.specs.Summaries.{AreLines}
 use Rattle.kf_load.specs.Steps.{Refused, Step, After, Gives, refusal}
 use Rattle.kf_load.specs.Texts.{File, TypedOf, cleared, source_of}
 use Rattle.kf_make.specs.Making.{make_source}
@@ -177,6 +180,12 @@ abbrev pub AttackOn : GainOf TableTree → HyperTree → Step Shown
 AttackOn g h =
     After (NarrowGain g h) (λ m. PrintsSome (AllZip (IsAttack g) h.inners) (attack_text g h.target h.scale h.inners))
 
+-- how much is seen of a program under a gain, and how much where each statement alone is silent, by the bytes and the source of its text;
+-- where statements are silent, the gain is as wide as on the whole program
+abbrev pub LinesOn : ℕ → List ℕ → SourceTree → ProgramTree → GainOf TableTree → HyperTree → Step Shown
+LinesOn turns bytes tree p g h =
+    After (NarrowGain g h) (λ m. PrintsSome (AreLines g turns tree p) (lines_text bytes (h.scale * over_of g)))
+
 -- ---- verdicts
 
 -- why there is no verdict; want of memory is none of the causes
@@ -232,7 +241,7 @@ MarkOn turns p q c = OnHyper turns p (λ a. OnHyper turns q (λ b. MarkIn a b c)
 -- ---- commands
 
 -- what a command comes to for its programs, and for the files that it reads beside them; `task_of` gives each command as many of both as it
--- has here
+-- has here. `lines` is about texts, and has no case
 abbrev pub CommandOutcome : Command → ℕ → List File → List ProgramTree → Step Shown
 CommandOutcome Hyper turns tables (p ∷ []) = HyperOf p.target (scale_of turns p) (joint_of turns p)
 CommandOutcome Traces turns tables (p ∷ []) = PrintsSome (AreRowsOf (joint_of turns p)) (trace_text p.target (scale_of turns p))

@@ -22,11 +22,12 @@ use Rattle.kf_refine.specs.declared.verdict.RefineError.{RefineError}
 use Rattle.kf_text.specs.CapacityTexts.{algebra_text, capacity_text}
 use Rattle.kf_text.specs.Texts.{channel_text, trace_text, trail_text, make_text}
 use Rattle.kf_text.specs.BlameTexts.{blame_text}
-use Rattle.kf_top.specs.Answer.{Shown, PrintsSome, TableOf, IsChannelTree, IsHyperTree, VerdictShown, bad_file, cert_word, is_narrow, prints, usage, wide_channel}
+use Rattle.kf_top.specs.Answer.{Shown, GainIn, LinesOn, OnHyper, PrintsSome, TableOf, IsChannelTree, IsHyperTree, VerdictShown, bad_file, cert_word, is_narrow, prints, usage, wide_channel}
 use Rattle.kf_top.specs.Ends.{Answer, IsAnswerTo, Sunk, CausesOf}
 use Rattle.kf_top.specs.Outcome.{Outcome, few_stores, ReadyOf, TaskOutcome}
 use Rattle.kf_quiet.specs.Blames.{AreBlames}
-use Rattle.kf_gain.specs.Gains.{TableTree}
+use Rattle.kf_ast.specs.Sources.{SourceTree}
+use Rattle.kf_gain.specs.Gains.{GainOf, TableTree}
 use Rattle.kf_cert.specs.Certificates.{CertTree}
 use Rattle.kf_cert.specs.declared.cert.CertError.{CertError}
 use Rattle.kf_cert.specs.declared.mark.Mark.{Mark}
@@ -70,6 +71,10 @@ MadeOf count scale joint = PrintsSome (IsHyperOf joint) (make_text count scale)
 -- how much is seen of a program, whose loops turn at most so often, and how much where each statement in turn is quiet
 abbrev pub BlameOf : ℕ → ProgramTree → Step Shown
 BlameOf turns p = PrintsSome (AreBlames turns p) (blame_text (scale_of turns p))
+
+-- the gain's table is read, and then the lines of a cleared program are printed
+abbrev pub LinesAfter : GainOf (List ℕ) → ℕ → List ℕ → SourceTree → ProgramTree → List File → Step Shown
+LinesAfter gain turns bytes tree p tables = After (GainIn p.target gain tables) (λ g. OnHyper turns p (LinesOn turns bytes tree p g))
 
 -- the gain table in a file
 abbrev pub TableIn : List Item → File → Step TableTree

@@ -4,7 +4,7 @@ use crate::refusal::Refusal;
 
 /// What goes to standard error, as one line.
 #[derive(Debug, Drop)]
-pub enum Notice<'a> {
+pub(crate) enum Notice<'a> {
     /// The words ask for nothing that there is.
     Usage,
     /// The words and the files' bytes have no answer.
@@ -18,7 +18,7 @@ pub enum Notice<'a> {
 /// The status of a run, and what goes to standard error, if anything does. It is made with no standard error in reach, so no fault
 /// of that can change the status.
 #[derive(Debug, Drop)]
-pub struct End<'a> {
-    pub status: u8,
-    pub notice: Option<Notice<'a>>,
+pub(crate) struct End<'a> {
+    pub(crate) status: u8,
+    pub(crate) notice: Option<Notice<'a>>,
 }

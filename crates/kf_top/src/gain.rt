@@ -54,7 +54,7 @@ fn table_in<'a, F: Files>(
 }
 
 /// The gain of this word, whose table is read now.
-pub fn gain_in<'a, F: Files>(
+pub(crate) fn gain_in<'a, F: Files>(
     alloc: Global,
     files: &mut F,
     target: &Target,

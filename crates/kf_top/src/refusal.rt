@@ -9,7 +9,7 @@ use std::alloc::{AllocError, AllocFailed};
 
 /// Why the words and the files' bytes have no answer.
 #[derive(Debug, Drop)]
-pub enum Refusal<'a> {
+pub(crate) enum Refusal<'a> {
     /// A file holds no program that can be run.
     Load(LoadRefusal<'a>),
     /// Some item of the target isn't read before the statements.
@@ -44,7 +44,7 @@ pub enum Refusal<'a> {
 
 /// Why there is no answer.
 #[derive(Debug, Drop)]
-pub enum Stop<'a> {
+pub(crate) enum Stop<'a> {
     /// The words and the files' bytes have none.
     Refused(Refusal<'a>),
     /// Out of memory.
@@ -52,7 +52,7 @@ pub enum Stop<'a> {
 }
 
 /// Why there is no program, as why there is no answer.
-pub fn lift(stop: LoadStop<'_>) -> Stop<'_>
+pub(crate) fn lift(stop: LoadStop<'_>) -> Stop<'_>
     ensures { result ≡ lifted stop.entry }
 {
     match stop {
@@ -114,7 +114,7 @@ impl<T: Drop> From<AllocFailed<T>> for Stop<'_> {
 
 /// What goes to standard output, and whether the answer is yes.
 #[derive(Drop)]
-pub struct Done {
-    pub yes: bool,
-    pub bytes: Vec<u8>,
+pub(crate) struct Done {
+    pub(crate) yes: bool,
+    pub(crate) bytes: Vec<u8>,
 }

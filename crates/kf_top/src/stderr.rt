@@ -190,7 +190,7 @@ fn write_notice<E: Sink>(err: &mut E, notice: &Notice<'_>)
 }
 
 /// The last step of a run: writes the line, if there is one, and gives the status that it was given, whatever becomes of the line.
-pub fn report<E: Sink>(end: End<'_>, err: &mut E) -> u8
+pub(crate) fn report<E: Sink>(end: End<'_>, err: &mut E) -> u8
     ensures status { result ≡ end.entry.status }
     ensures line { TookNotice end.entry.notice (sunk E.taken E.faults E.room err.old err.new) }
 {

@@ -1,6 +1,7 @@
 ghost use Rattle.std.specs.Prelude.{◌≡◌, ◌≤◌, ℕ, List, None, Some, IfOk, IsErrOf, map, string_bytes};
 ghost use Rattle.kf_top.specs.Answer.{usage as usage_refusal};
-ghost use Rattle.kf_top.specs.Ends.{sunk, IsQuiet, Sunk, TookNothing};
+ghost use Rattle.kf_top.specs.Ends.{sunk, CausesOf, IsQuiet, Sunk, TookNothing};
+ghost use Rattle.kf_top.specs.Outcome.{Outcome};
 ghost use Rattle.kf_top.specs.Written.{EndsAs, IsRefused, WrittenOf, want_of_memory};
 ghost use Rattle.kf_top.specs.Steps.{HasCauses};
 ghost use Rattle.kf_words.specs.Task.{task_of};
@@ -16,8 +17,8 @@ use kf_io::{Failed, Files, Sink, write_all};
 use kf_words::{Job, WordsError, read_words};
 use std::alloc::Global;
 
-/// How a run ends whose words ask for nothing that can be done: the words are wrong, or memory is wanting.
-pub fn unasked<'a>(error: WordsError) -> End<'a>
+// How a run ends whose words ask for nothing that can be done: the words are wrong, or memory is wanting.
+fn unasked<'a>(error: WordsError) -> End<'a>
     ensures usage { error ≡ words_error.Usage → EndsAs (IsRefused usage_refusal) result }
     ensures memory { error ≡ words_error.Mem → EndsAs (IsRefused want_of_memory) result }
     ensures quiet { (out : Sunk) → TookNothing out → EndsAs (IsQuiet out) result }
@@ -35,8 +36,8 @@ pub fn unasked<'a>(error: WordsError) -> End<'a>
     }
 }
 
-/// Writes an answer to `out`, if there is one, and says how the run ends.
-pub fn settle<'a, O: Sink>(answer: Result<Done, Stop<'a>>, out: &mut O) -> End<'a>
+// Writes an answer to `out`, if there is one, and says how the run ends.
+fn settle<'a, O: Sink>(answer: Result<Done, Stop<'a>>, out: &mut O) -> End<'a>
     ensures written { EndsAs (WrittenOf answer.entry (sunk O.taken O.faults O.room out.old out.new)) result }
     ensures quiet { EndsAs (IsQuiet (sunk O.taken O.faults O.room out.old out.new)) result }
     ensures bound { result.status ≤ 13 }
@@ -99,7 +100,8 @@ pub fn run<F: Files, O: Sink, E: Sink>(
     out: &mut O,
     err: &mut E,
 ) -> u8
-    ensures causes { HasCauses (map string_bytes words.now) (F.contents files.old) (F.faults files.old) (F.faults files.new)
+    ensures causes { CausesOf (task_of (map string_bytes words.now)) (Outcome (map string_bytes words.now))
+        (F.contents files.old) (F.faults files.old) (F.faults files.new)
         (sunk O.taken O.faults O.room out.old out.new) (sunk E.taken E.faults E.room err.old err.new) result }
     ensures quiet { IsQuiet (sunk O.taken O.faults O.room out.old out.new) (sunk E.taken E.faults E.room err.old err.new) result }
     ensures bound { result ≤ 13 }

@@ -6,13 +6,18 @@ use crate::about::{AboutOne, AboutTwo, about_one, about_two};
 use crate::capacity::Composition;
 use crate::covers::covers;
 use crate::hyper::made_hyper;
+use crate::lines::lines;
 use crate::refusal::{Done, Stop};
 use kf_io::Files;
 use kf_words::Job;
 use std::alloc::Global;
 
 /// Does the job: what is to be written, or why there is no answer.
-pub fn work<'a, F: Files>(alloc: Global, files: &mut F, job: &'a Job) -> Result<Done, Stop<'a>>
+pub(crate) fn work<'a, F: Files>(
+    alloc: Global,
+    files: &mut F,
+    job: &'a Job,
+) -> Result<Done, Stop<'a>>
     requires turns { HasTurns (task_of_job job.now) }
     requires range { IsInRange (task_of_job job.now).command }
     ensures answer { TaskAnswer (F.contents files.old) (F.faults files.old) (F.faults files.new) (task_of_job job.now) result }
@@ -116,5 +121,6 @@ pub fn work<'a, F: Files>(alloc: Global, files: &mut F, job: &'a Job) -> Result<
             about_two(alloc, files, a, b, AboutTwo::Compose(way), *turns)
         }
         Job::Covers { a, b, turns } => covers(alloc, files, a, b, *turns),
+        Job::Lines { file, gain, turns } => lines(alloc, files, file, gain, *turns),
     }
 }

@@ -5,11 +5,10 @@ use Rattle.std.specs.Map.{lookup}
 use Rattle.std.specs.Str.{bytes_eq}
 use Rattle.kf_gain.specs.Gains.{GainOf}
 use Rattle.kf_words.specs.Arguments.{Arguments, arguments_of}
-use Rattle.kf_words.specs.GainWords.{gain_named}
 use Rattle.kf_words.specs.Jobs.{HasTurns, IsInRange}
 use Rattle.kf_words.specs.Laws.{TasksInRange}
 use Rattle.kf_words.specs.Numbers.{block_of, number_of, numeral_of, pair_of, probability_of, ratio_of, threshold_of}
-use Rattle.kf_words.specs.Task.{Command, Hyper, Traces, Channel, Trail, Capacity, Compose, Cascade, Parallel, Choice, Leak, Attack, Reach, Make, Refine, Check, Covers, Quiet, Blame, Task, CommandRow, on_files, files_only, with_gain, with_pair, commands, options_fit, row_task, task_of_values, observations_of}
+use Rattle.kf_words.specs.Task.{Command, Hyper, Traces, Channel, Trail, Capacity, Compose, Cascade, Parallel, Choice, Leak, Attack, Reach, Make, Refine, Check, Covers, Quiet, Blame, Lines, Presence, Optional, Required, Task, CommandRow, on_files, files_only, gain_or_bayes, with_gain, with_pair, commands, options_fit, row_task, task_of_values, observations_of}
 use Rattle.kf_words.proofs.Numerals.{both}
 use Rattle.kf_words.specs.OfWords.{first_of, others_of, last_of, default_turns, task_of_arguments, make_row, refine_row, check_row, row_of, turns_of, in_range}
 
@@ -91,9 +90,9 @@ asked_keeps command files ask turns same has = subst (λ (f : ℕ → Task). Has
 files_keep : (command : Command) (files : ℕ) → IsInRange command → Keeps (files_only command files)
 files_keep command files has values arguments ask turns is = asked_keeps command values ask turns (cc) has
 
-gain_keeps : (command : GainOf (List ℕ) → Command) (files : ℕ) → ((g : GainOf (List ℕ)) → IsInRange (command g)) → Keeps (with_gain command files)
-gain_keeps command files has values arguments ask turns is =
-    let g = mapped (λ g. on_files (command g) values) (option_and_then gain_named arguments.gain) ask is in
+gain_keeps : (gain : Presence) (command : GainOf (List ℕ) → Command) (files : ℕ) → ((g : GainOf (List ℕ)) → IsInRange (command g)) → Keeps (with_gain gain command files)
+gain_keeps gain command files has values arguments ask turns is =
+    let g = mapped (λ g. on_files (command g) values) (gain_or_bayes arguments.gain) ask is in
     asked_keeps (command g.0) values ask turns g.2 (has g.0)
 
 make_keeps : Keeps make_row
@@ -127,7 +126,7 @@ all_keep = (
     (
       files_keep Channel 1 tt,
       (
-        gain_keeps Leak 1 (λ g. tt),
+        gain_keeps Required Leak 1 (λ g. tt),
         (
           files_keep Trail 1 tt,
           (
@@ -145,14 +144,17 @@ all_keep = (
                       (
                         pair_keeps probability_of (λ num den. Compose (Choice num den)) 3 probability_in,
                         (
-                          gain_keeps Attack 1 (λ g. tt),
+                          gain_keeps Required Attack 1 (λ g. tt),
                           (
                             pair_keeps threshold_of Reach 2 threshold_in,
                             (
                               files_keep Covers 2 tt,
                               (
                                 pair_keeps block_of Quiet 2 block_in,
-                                (files_keep Blame 1 tt, tt),
+                                (
+                                  files_keep Blame 1 tt,
+                                  (gain_keeps Optional Lines 1 (λ g. tt), tt),
+                                ),
                               ),
                             ),
                           ),

@@ -4,7 +4,6 @@ use Rattle.std.specs.Option.{option_map_or}
 use Rattle.std.specs.Str.{bytes_eq}
 use Rattle.kf_gain.specs.Gains.{GainOf}
 use Rattle.kf_words.specs.Arguments as spec
-use Rattle.kf_words.specs.GainWords.{gain_named}
 use Rattle.kf_words.specs.Numbers.{block_of, probability_of, threshold_of}
 use Rattle.kf_words.specs.Task as task
 use Rattle.kf_words.specs.OfWords as of_words
@@ -13,6 +12,8 @@ use Rattle.kf_words.specs.declared.commands.CommandWord.{CommandWord}
 use Rattle.kf_words.specs.declared.commands.CommandWord.TheVariants as word
 use Rattle.kf_words.specs.declared.commands.CommandRow.{CommandRow}
 use Rattle.kf_words.specs.declared.commands.OneFile.{OneFile}
+use Rattle.kf_words.specs.declared.commands.Presence.{Presence}
+use Rattle.kf_words.specs.declared.commands.Presence.TheVariants as presence
 use Rattle.kf_words.specs.declared.commands.OneFile.TheVariants as one
 use Rattle.kf_words.specs.declared.commands.TwoFiles.{TwoFiles}
 use Rattle.kf_words.specs.declared.commands.TwoFiles.TheVariants as two
@@ -63,6 +64,7 @@ on_two two.Covers = task.Covers
 abbrev pub on_gain : UnderGain → GainOf (List ℕ) → task.Command
 on_gain under.Leak g = task.Leak g
 on_gain under.Attack g = task.Attack g
+on_gain under.Lines g = task.Lines g
 
 -- commands whose last value is a pair of numbers
 abbrev pub pair_task : WithPair → List (List ℕ) → Option (ℕ → task.Task)
@@ -78,7 +80,7 @@ abbrev pub task_meant : CommandWord → List (List ℕ) → spec.Arguments → O
 task_meant (word.OneFile command) names arguments = Some (task.on_files (on_one command) names)
 task_meant (word.TwoFiles command) names arguments = Some (task.on_files (on_two command) names)
 task_meant (word.UnderGain command) names arguments =
-    option_map (λ g. task.on_files (on_gain command g) names) (option_and_then gain_named arguments.gain)
+    option_map (λ g. task.on_files (on_gain command g) names) (task.gain_or_bayes arguments.gain)
 task_meant (word.WithPair command) words arguments = pair_task command words
 task_meant word.Make words arguments =
     option_map (λ n. task.on_files (task.Make n) []) (option_and_then task.observations_of (of_words.first_of words))
@@ -86,10 +88,15 @@ task_meant word.Refine names arguments = Some (task.on_files (task.Refine argume
 task_meant word.Check names arguments =
     option_map (λ cert. task.on_files (task.Check cert) (of_words.others_of names)) (of_words.first_of names)
 
+abbrev pub presence_meant : Presence → task.Presence
+presence_meant presence.Absent = task.Absent
+presence_meant presence.Optional = task.Optional
+presence_meant presence.Required = task.Required
+
 abbrev pub row_meant : CommandRow → task.CommandRow
 row_meant row = record {
   values = row.values;
-  needs_gain = row.needs_gain;
+  gain = presence_meant row.gain;
   takes_json = row.takes_json;
   task = task_meant row.command;
 }

@@ -32,6 +32,7 @@ task_of_job (job.Choice a b num den turns) = task.on_files (task.Compose (task.C
 task_of_job (job.Covers a b turns) = task.on_files task.Covers (a ∷ b ∷ []) turns
 task_of_job (job.Quiet file from to turns) = of_words.on_file (task.Quiet from to) file turns
 task_of_job (job.Blame file turns) = of_words.on_file task.Blame file turns
+task_of_job (job.Lines file gain turns) = of_words.on_file (task.Lines (gain_of gain)) file turns
 
 -- the bound on turns is from 1 to 65,535
 abbrev pub HasTurns : task.Task → Type 0

@@ -5,7 +5,7 @@ use Rattle.std.specs.Map.{lookup}
 use Rattle.std.specs.Str.{bytes_eq}
 use Rattle.std.specs.List.{last_or}
 use Rattle.std.specs.Option.{option_map_or}
-use Rattle.kf_gain.specs.Gains.{GainOf, Table}
+use Rattle.kf_gain.specs.Gains.{GainOf, Bayes, Table}
 use Rattle.kf_words.specs.Arguments.{Arguments, arguments_of}
 use Rattle.kf_words.specs.GainWords.{gain_named}
 use Rattle.kf_words.specs.Numbers.{number_of, probability_of, threshold_of, block_of}
@@ -48,6 +48,8 @@ pub data Command : Type 0 where
   Quiet : ℕ → ℕ → Command
   -- how much is left of what is seen where each outermost statement in turn shows nothing
   Blame : Command
+  -- the same under a gain for each statement, wherever it stands, with its place in the text
+  Lines : GainOf (List ℕ) → Command
 
 -- a command, the files of its programs, and how often a loop may turn
 pub record Task : Type 0 where
@@ -63,31 +65,42 @@ on_files command files turns = record { command = command; files = files; turns 
 abbrev pub tables_of : Command → List (List ℕ)
 tables_of (Leak (Table name)) = name ∷ []
 tables_of (Attack (Table name)) = name ∷ []
+tables_of (Lines (Table name)) = name ∷ []
 tables_of (Check name) = name ∷ []
 tables_of command = []
 
 -- ---- the table of commands
 
--- what stands after a command's word: how many values, whether `--gain` must, and whether `--json` may; and which task it is, by these
--- values and the options, once its turns are known
+-- whether an option stands after a command's word: it may not, it may, or it must
+pub data Presence : Type 0 where
+  Absent : Presence
+  Optional : Presence
+  Required : Presence
+
+-- what stands after a command's word: how many values, whether `--gain`, and whether `--json` may; and which task it is, by these values
+-- and the options, once its turns are known
 pub record CommandRow : Type 0 where
   pub values : ℕ
-  pub needs_gain : Bool
+  pub gain : Presence
   pub takes_json : Bool
   pub task : List (List ℕ) → Arguments → Option (ℕ → Task)
 
 -- the row of a command with so many values, without options, and with this task
 abbrev pub plain_row : ℕ → (List (List ℕ) → Arguments → Option (ℕ → Task)) → CommandRow
-plain_row values task = record { values = values; needs_gain = false; takes_json = false; task = task }
+plain_row values task = record { values = values; gain = Absent; takes_json = false; task = task }
 
 -- the row of a command on `files` files and nothing else
 abbrev pub files_only : Command → ℕ → CommandRow
 files_only command files = plain_row files (λ names arguments. Some (on_files command names))
 
--- the row of a command on n files, under the gain that `--gain` names
-abbrev pub with_gain : (GainOf (List ℕ) → Command) → ℕ → CommandRow
-with_gain command n =
-    record (plain_row n (λ names a. option_map (λ g. on_files (command g) names) (option_and_then gain_named a.gain))) { needs_gain = true }
+-- the gain that `--gain` names; where it doesn't stand, one guess at the value
+abbrev pub gain_or_bayes : Option (List ℕ) → Option (GainOf (List ℕ))
+gain_or_bayes word = option_map_or gain_named word (Some Bayes)
+
+-- the row of a command on n files, under that gain
+abbrev pub with_gain : Presence → (GainOf (List ℕ) → Command) → ℕ → CommandRow
+with_gain gain command n =
+    record (plain_row n (λ names a. option_map (λ g. on_files (command g) names) (gain_or_bayes a.gain))) { gain = gain }
 
 -- a number of observations, from 1 to 60
 abbrev pub observations_of : List ℕ → Option ℕ
@@ -103,20 +116,25 @@ with_pair pair command values = plain_row values (λ words arguments.
 abbrev pub commands : List (List ℕ × CommandRow)
 commands =
     (codes "hyper", files_only Hyper 1) ∷ (codes "traces", files_only Traces 1) ∷ (codes "channel", files_only Channel 1)
-    ∷ (codes "leak", with_gain Leak 1) ∷ (codes "trail", files_only Trail 1)
+    ∷ (codes "leak", with_gain Required Leak 1) ∷ (codes "trail", files_only Trail 1)
     ∷ (codes "make", plain_row 1 (λ words a. option_map (λ n. on_files (Make n) []) (option_and_then observations_of (slice_get words 0))))
     ∷ (codes "refine", record (plain_row 2 (λ names a. Some (on_files (Refine a.json) names))) { takes_json = true })
     ∷ (codes "check", plain_row 3 (λ names a. option_map (λ cert. on_files (Check cert) (drop 1 names)) (slice_get names 0)))
     ∷ (codes "capacity", files_only Capacity 1)
     ∷ (codes "cascade", files_only (Compose Cascade) 2) ∷ (codes "parallel", files_only (Compose Parallel) 2)
-    ∷ (codes "choice", with_pair probability_of (λ num den. Compose (Choice num den)) 3) ∷ (codes "attack", with_gain Attack 1)
+    ∷ (codes "choice", with_pair probability_of (λ num den. Compose (Choice num den)) 3) ∷ (codes "attack", with_gain Required Attack 1)
     ∷ (codes "reach", with_pair threshold_of Reach 2) ∷ (codes "covers", files_only Covers 2) ∷ (codes "quiet", with_pair block_of Quiet 2)
-    ∷ (codes "blame", files_only Blame 1) ∷ []
+    ∷ (codes "blame", files_only Blame 1) ∷ (codes "lines", with_gain Optional Lines 1) ∷ []
 
--- `--gain` stands exactly where it is needed, and `--json` only where it is taken
+-- whether an option may stand, or be missing
+abbrev pub fits : Presence → Bool → Bool
+fits Absent stands = not stands
+fits Optional stands = true
+fits Required stands = stands
+
+-- `--gain` stands only where it may and wherever it must, and `--json` only where it is taken
 abbrev pub options_fit : CommandRow → Arguments → Bool
-options_fit row arguments =
-    (if row.needs_gain then is_some arguments.gain else not (is_some arguments.gain)) && (row.takes_json || not arguments.json)
+options_fit row arguments = fits row.gain (is_some arguments.gain) && (row.takes_json || not arguments.json)
 
 -- ---- the task of the words
 

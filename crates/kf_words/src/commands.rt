@@ -3,9 +3,9 @@ ghost use Rattle.std.specs.Prelude.{◌≡◌, map, option_map, IfSome};
 ghost use Rattle.std.specs.Map.{lookup};
 ghost use Rattle.std.specs.List.{AllByRecursion as Each};
 ghost use Rattle.std.specs.Str.{bytes_eq};
-ghost use Rattle.kf_words.specs.Task.{commands as commands_by_word, options_fit as fit};
+ghost use Rattle.kf_words.specs.Task.{commands as commands_by_word, fits as does_fit, options_fit as fit};
 ghost use Rattle.kf_words.specs.OfWords.{row_of as row_of_word};
-ghost use Rattle.kf_words.specs.CommandViews.{row_meant, arguments_meant, values_of};
+ghost use Rattle.kf_words.specs.CommandViews.{row_meant, arguments_meant, presence_meant, values_of};
 
 use crate::arguments::Arguments;
 
@@ -33,6 +33,7 @@ pub(crate) enum TwoFiles {
 pub(crate) enum UnderGain {
     Leak,
     Attack,
+    Lines,
 }
 
 /// A command whose last value is a pair of numbers, and whose others are files.
@@ -55,14 +56,22 @@ pub(crate) enum CommandWord {
     Check,
 }
 
+/// Whether an option stands after a command's word: it may not, it may, or it must.
+#[derive(Clone, Copy)]
+pub(crate) enum Presence {
+    Absent,
+    Optional,
+    Required,
+}
+
 /// What stands after a command's word.
 #[derive(Clone, Copy)]
 pub(crate) struct CommandRow {
     pub(crate) command: CommandWord,
     /// How many values stand after the word: files, and maybe a number, a probability or a block.
     pub(crate) values: usize,
-    /// Whether `--gain` must stand; elsewhere it may not.
-    pub(crate) needs_gain: bool,
+    /// Whether `--gain` stands.
+    pub(crate) gain: Presence,
     /// Whether `--json` may stand.
     pub(crate) takes_json: bool,
 }
@@ -75,7 +84,22 @@ macro_rules! plain {
             CommandRow {
                 command: $command,
                 values: $values,
-                needs_gain: false,
+                gain: Presence::Absent,
+                takes_json: false,
+            },
+        )
+    };
+}
+
+// The word and the row of a command on one file under a gain.
+macro_rules! under_gain {
+    ($word:literal, $command:expr, $gain:expr) => {
+        (
+            $word,
+            CommandRow {
+                command: CommandWord::UnderGain($command),
+                values: 1,
+                gain: $gain,
                 takes_json: false,
             },
         )
@@ -83,19 +107,11 @@ macro_rules! plain {
 }
 
 /// The table: each command's word, and what stands after it.
-const COMMANDS: &[(&str, CommandRow); 17] = &[
+const COMMANDS: &[(&str, CommandRow); 18] = &[
     plain!("hyper", CommandWord::OneFile(OneFile::Hyper), 1),
     plain!("traces", CommandWord::OneFile(OneFile::Traces), 1),
     plain!("channel", CommandWord::OneFile(OneFile::Channel), 1),
-    (
-        "leak",
-        CommandRow {
-            command: CommandWord::UnderGain(UnderGain::Leak),
-            values: 1,
-            needs_gain: true,
-            takes_json: false,
-        },
-    ),
+    under_gain!("leak", UnderGain::Leak, Presence::Required),
     plain!("trail", CommandWord::OneFile(OneFile::Trail), 1),
     plain!("make", CommandWord::Make, 1),
     (
@@ -103,7 +119,7 @@ const COMMANDS: &[(&str, CommandRow); 17] = &[
         CommandRow {
             command: CommandWord::Refine,
             values: 2,
-            needs_gain: false,
+            gain: Presence::Absent,
             takes_json: true,
         },
     ),
@@ -112,19 +128,12 @@ const COMMANDS: &[(&str, CommandRow); 17] = &[
     plain!("cascade", CommandWord::TwoFiles(TwoFiles::Cascade), 2),
     plain!("parallel", CommandWord::TwoFiles(TwoFiles::Parallel), 2),
     plain!("choice", CommandWord::WithPair(WithPair::Choice), 3),
-    (
-        "attack",
-        CommandRow {
-            command: CommandWord::UnderGain(UnderGain::Attack),
-            values: 1,
-            needs_gain: true,
-            takes_json: false,
-        },
-    ),
+    under_gain!("attack", UnderGain::Attack, Presence::Required),
     plain!("reach", CommandWord::WithPair(WithPair::Reach), 2),
     plain!("covers", CommandWord::TwoFiles(TwoFiles::Covers), 2),
     plain!("quiet", CommandWord::WithPair(WithPair::Quiet), 2),
     plain!("blame", CommandWord::OneFile(OneFile::Blame), 1),
+    under_gain!("lines", UnderGain::Lines, Presence::Optional),
 ];
 
 // The table by a call, since a clause can name no constant that holds texts.
@@ -155,9 +164,20 @@ pub(crate) fn row_of(word: &str) -> Option<CommandRow>
     first_row(commands(), word)
 }
 
-/// Whether `--gain` stands exactly where it is needed, and `--json` only where it is taken.
+// Whether an option may stand, or be missing.
+fn fits(presence: Presence, stands: bool) -> bool
+    ensures { result ≡ does_fit (presence_meant presence) stands }
+{
+    match presence {
+        Presence::Absent => !stands,
+        Presence::Optional => true,
+        Presence::Required => stands,
+    }
+}
+
+/// Whether `--gain` stands only where it may and wherever it must, and `--json` only where it is taken.
 pub(crate) fn options_fit(row: CommandRow, arguments: &Arguments<'_, '_>) -> bool
     ensures { result ≡ fit (row_meant row) (arguments_meant arguments.now) }
 {
-    row.needs_gain == arguments.gain.is_some() && (row.takes_json || !arguments.json)
+    fits(row.gain, arguments.gain.is_some()) && (row.takes_json || !arguments.json)
 }

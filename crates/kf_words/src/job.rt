@@ -108,4 +108,11 @@ pub enum Job {
         file: Name,
         turns: u32,
     },
+    /// How much is seen of a program under a gain, and how much where each statement that may show something, wherever it stands, shows
+    /// nothing.
+    Lines {
+        file: Name,
+        gain: GainWord,
+        turns: u32,
+    },
 }

@@ -1,9 +1,8 @@
 //! The job of a command and the values after its word.
-ghost use Rattle.std.specs.Prelude.{◌≡◌, [], ◌∷◌, IfOk, IfSome, IsSomeAnd, None, Ok, length, map, option_map, option_and_then};
+ghost use Rattle.std.specs.Prelude.{◌≡◌, [], ◌∷◌, IfOk, IfSome, IsSomeAnd, None, Ok, length, map, option_map};
 ghost use Rattle.kf_words.specs.CommandViews.{arguments_meant, on_gain, on_one, on_two, pair_task, task_meant, values_of};
-ghost use Rattle.kf_words.specs.GainWords.{gain_named};
 ghost use Rattle.kf_words.specs.Jobs.{gain_of, task_of_job, IsInRange};
-ghost use Rattle.kf_words.specs.Task.{Check, Refine, on_files};
+ghost use Rattle.kf_words.specs.Task.{Check, Refine, gain_or_bayes, on_files};
 
 use crate::arguments::Arguments;
 use crate::commands::{CommandWord, OneFile, TwoFiles, UnderGain, WithPair};
@@ -35,12 +34,12 @@ fn two_names(alloc: Global, a: &str, b: &str) -> Result<(Name, Name), Mem>
     beside(name_of(alloc, a)?, name_of(alloc, b))
 }
 
-// The gain that `--gain` names where it stands.
+// The gain that `--gain` names; where it doesn't stand, one guess.
 fn gain_of_option(alloc: Global, word: Option<&str>) -> Result<Option<GainWord>, Mem>
-    ensures { IfOk result (λ gain. option_map gain_of gain ≡ option_and_then gain_named (option_map (λ w. w.now) word.entry)) }
+    ensures { IfOk result (λ gain. option_map gain_of gain ≡ gain_or_bayes (option_map (λ w. w.now) word.entry)) }
 {
     match word {
-        None => Ok(None),
+        None => Ok(Some(GainWord::Bayes)),
         Some(word) => parse_gain(alloc, word),
     }
 }
@@ -80,6 +79,7 @@ fn under_gain(command: UnderGain, file: Name, gain: GainWord, turns: u32) -> Job
     match command {
         UnderGain::Leak => Job::Leak { file, gain, turns },
         UnderGain::Attack => Job::Attack { file, gain, turns },
+        UnderGain::Lines => Job::Lines { file, gain, turns },
     }
 }
 
@@ -152,8 +152,8 @@ fn check_job(alloc: Global, cert: &str, a: &str, b: &str, turns: u32) -> Result<
     Ok(Some(Job::Check { cert, a, b, turns }))
 }
 
-/// The job of a command and the values after its word, files' names or numbers; none where a value is no such number, or where the command
-/// needs a gain and `--gain` names none.
+/// The job of a command and the values after its word, files' names or numbers; none where a value is no such number, or where
+/// `--gain` names no gain.
 pub(crate) fn job_on(
     alloc: Global,
     command: CommandWord,

@@ -1,8 +1,8 @@
 //! The program: real files and the standard streams under the proved call.
 #![tactic(auto)]
 
-use kf_entry::start;
 use kf_io::{HostFiles, HostSink};
+use kf_top::run;
 use std::env;
 use std::io::ErrorKind;
 use std::process::ExitCode;
@@ -27,5 +27,5 @@ fn main(rt: HostRuntime) -> ExitCode {
     let mut files = HostFiles::new(&rt);
     let mut out = HostSink::new(rt.stdout());
     let mut err = HostSink::new(rt.stderr());
-    ExitCode::from(start(rt.alloc(), &words, &mut files, &mut out, &mut err))
+    ExitCode::from(run(rt.alloc(), &words, &mut files, &mut out, &mut err))
 }

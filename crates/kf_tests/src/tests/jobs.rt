@@ -32,6 +32,15 @@ fn attack_by(gain: &GainWord) -> &'static str {
     }
 }
 
+// The command `lines` with its gain.
+fn lines_by(gain: &GainWord) -> &'static str {
+    match gain {
+        GainWord::Bayes => "lines bayes",
+        GainWord::Table(_) => "lines table",
+        _ => "lines",
+    }
+}
+
 // The command `reach` with its probability.
 fn reached(num: u32, den: u32) -> &'static str {
     match (num, den) {
@@ -72,6 +81,7 @@ fn parts(job: &Job) -> (&'static str, &str, u32) {
         Job::Covers { a, turns, .. } => ("covers", a.as_str(), *turns),
         Job::Quiet { file, turns, .. } => ("quiet", file.as_str(), *turns),
         Job::Blame { file, turns } => ("blame", file.as_str(), *turns),
+        Job::Lines { file, gain, turns } => (lines_by(gain), file.as_str(), *turns),
         Job::Cascade { a, turns, .. } => ("cascade", a.as_str(), *turns),
         Job::Parallel { a, turns, .. } => ("parallel", a.as_str(), *turns),
         Job::Choice {
@@ -116,7 +126,7 @@ fn asks_for(rt: &(impl Abort + AllocGlobal), line: &str, want: &Parts) -> bool {
     }
 }
 
-const TAKEN: [(&str, Parts); 27] = [
+const TAKEN: [(&str, Parts); 29] = [
     ("kuifje hyper p.kf", ("hyper", "p.kf", 1024)),
     ("kuifje traces p.kf", ("traces", "p.kf", 1024)),
     ("kuifje channel p.kf", ("channel", "p.kf", 1024)),
@@ -129,6 +139,11 @@ const TAKEN: [(&str, Parts); 27] = [
     (
         "kuifje --gain table:g.json attack p.kf",
         ("attack table", "p.kf", 1024),
+    ),
+    ("kuifje --turns 5 lines p.kf", ("lines bayes", "p.kf", 5)),
+    (
+        "kuifje --gain table:g.json lines p.kf",
+        ("lines table", "p.kf", 1024),
     ),
     ("kuifje reach p.kf 01/001", ("reach 1/1", "p.kf", 1024)),
     (
@@ -224,7 +239,7 @@ fn is_usage(rt: &(impl Abort + AllocGlobal), line: &str) -> bool {
     matches!(job_of(rt, line), Err(WordsError::Usage))
 }
 
-const REFUSED: [&str; 50] = [
+const REFUSED: [&str; 52] = [
     "",
     "kuifje",
     "hyper p.kf",
@@ -255,6 +270,8 @@ const REFUSED: [&str; 50] = [
     "kuifje refine p.kf q.kf --gain bayes",
     "kuifje attack p.kf",
     "kuifje attack p.kf --gain bayes --json",
+    "kuifje lines p.kf --json",
+    "kuifje lines p.kf --gain none",
     "kuifje reach p.kf",
     "kuifje reach p.kf 3/2",
     "kuifje reach p.kf 1/2 --gain bayes",

@@ -21,10 +21,11 @@ returns c words programs tables =
     let attack = c.attack_laws.ensures in
     let reach = c.reach_laws.ensures in
     let blame = c.blame_laws.ensures in
+    let silent = c.silent_hypers.ensures in
     let clear : AreClear = are_clear c.full_laws.ensures.built typed.checked typed.sizes program.built in
     let proper : AreProper = are_proper joint.whole run.positive run.least in
     let one = one_answer read program.one refused.both refused.refusal typed.one typed.typed table.one joint.one_rows joint.one_hyper average.one verdict.one mark.one clear proper
-    gain.one trail.only attack.one reach.one blame.only programs tables c.tasks_in_range.ensures words in
+    gain.one trail.only attack.one reach.one blame.only silent.only programs tables c.tasks_in_range.ensures words in
     let some = some_answer read.read refused.either program.built typed.either typed.told c.full_laws.ensures.built table.some table.actions joint.rows c.some_secrets.ensures joint.hyper average.some
-    verdict.some c.verdict_laws.ensures.prove c.cert_laws.ensures.read_sound mark.some clear proper gain.some trail.some attack.some reach.some blame.some programs tables c.tasks_in_range.ensures words in
+    verdict.some c.verdict_laws.ensures.prove c.cert_laws.ensures.read_sound mark.some clear proper gain.some trail.some attack.some reach.some blame.some silent.some programs tables c.tasks_in_range.ensures words in
     (some.0, some.1, λ other is. one other some.0 is some.1)

@@ -6,7 +6,7 @@ use Rattle.kf_load.specs.Texts.{TextOf, cleared}
 use Rattle.kf_load.specs.Views.{programs_in}
 use Rattle.kf_support.specs.Cleared.{turns_of}
 use Rattle.kf_top.specs.Views.{command_on_two}
-use Rattle.kf_top.proofs.Commands.{cleared_two, stops_two, turned, two_answer, two_stop}
+use Rattle.kf_top.proofs.Commands.{cleared_two, on_two_programs, stops_two, turned, two_answer, two_stop}
 use Rattle.kf_top.proofs.Readings.{counts_from, files_from, lift_counts, more_names, stop_counts_as}
 use Rattle.kf_top.specs.Stops.{lifted}
 use Rattle.kf_top.specs.declared.refusal.Done.{Done}
@@ -19,7 +19,7 @@ returns-in-Ok-clause-answer g c =
     let pair = c.in-Ok.pair in
     let h = c.in-Ok.ensures.answer in
     let command = command_on_two c.args.question in
-    two_answer _ _ _ command c.args.turns c.args.first.now c.args.second.now c.as_str.result.now c.as_str-2.result.now c.as_str.ensures c.as_str-2.ensures
+    two_answer _ _ _ command c.args.turns (on_two_programs c.args.question c.args.turns) c.args.first.now c.args.second.now c.as_str.result.now c.as_str-2.result.now c.as_str.ensures c.as_str-2.ensures
     (programs_in pair) c.answer_two-answer.result h.0 h.1 h.2 h.3 (cleared_two c.args.question c.args.turns
     (file_as c.as_str.result.now (Some h.0) ∷ file_as c.as_str-2.result.now (Some h.1) ∷ []) (Ok (programs_in pair)) h.4)
     (turned _ _ _ command (turns_of pair.first) c.args.turns c.in-Ok.ensures.first_turns (programs_in pair) c.answer_two-answer.result
@@ -34,7 +34,7 @@ returns-in-Ok-clause-counts g c =
 
 pub returns-in-Err-clause-answer : goal.returns-in-Err-clause-answer
 returns-in-Err-clause-answer g c =
-    rw c.lift.ensures (two_stop _ _ _ (command_on_two c.args.question) c.args.turns c.args.first.now c.args.second.now c.as_str.result.now c.as_str-2.result.now
+    rw c.lift.ensures (two_stop _ _ _ (command_on_two c.args.question) c.args.turns (on_two_programs c.args.question c.args.turns) c.args.first.now c.args.second.now c.as_str.result.now c.as_str-2.result.now
     c.as_str.ensures c.as_str-2.ensures c.in-Err.stop (λ files. After (Each TextOf files) (Each (λ t. Gives (cleared c.args.turns t))))
     (stops_two c.args.question c.args.turns c.in-Err.stop) c.in-Err.ensures.answer)
 

@@ -1,6 +1,6 @@
 use Rattle.std.proofs.Common.{List, ℕ, subst}
 use Rattle.kf_top.specs.Ends.{sunk, TookLine}
-use Rattle.kf_top.proofs.Lines.{channel_cells_line}
+use Rattle.kf_top.proofs.StderrLines.{channel_cells_line}
 use Rattle.kf_top.proofs.stderr.write_channel_cells.Goals as goal
 
 pub returns : goal.returns

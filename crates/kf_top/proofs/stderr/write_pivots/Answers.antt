@@ -1,6 +1,6 @@
 use Rattle.std.proofs.Common.{List, ℕ, subst}
 use Rattle.kf_top.specs.Ends.{sunk, TookLine}
-use Rattle.kf_top.proofs.Lines.{pivots_line}
+use Rattle.kf_top.proofs.StderrLines.{pivots_line}
 use Rattle.kf_top.proofs.stderr.write_pivots.Goals as goal
 
 pub returns : goal.returns

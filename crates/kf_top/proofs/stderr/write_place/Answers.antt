@@ -1,6 +1,6 @@
 use Rattle.std.proofs.Common.{List, ℕ, subst}
 use Rattle.kf_top.specs.Ends.{sunk, TookLine}
-use Rattle.kf_top.proofs.Lines.{bad_line}
+use Rattle.kf_top.proofs.StderrLines.{bad_line}
 use Rattle.kf_top.proofs.stderr.write_place.Goals as goal
 
 pub returns : goal.returns

@@ -1,6 +1,6 @@
 use Rattle.std.proofs.Common.{List, ℕ, subst}
 use Rattle.kf_top.specs.Ends.{sunk, TookLine}
-use Rattle.kf_top.proofs.Lines.{stores_line}
+use Rattle.kf_top.proofs.StderrLines.{stores_line}
 use Rattle.kf_top.proofs.stderr.write_stores.Goals as goal
 
 pub returns : goal.returns

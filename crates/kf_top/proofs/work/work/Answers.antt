@@ -104,3 +104,9 @@ returns-in-Make-clause-answer g c = rw c.in-Make.is (made_answer _ _ _ c.in-Make
 
 pub returns-in-Make-clause-counts : goal.returns-in-Make-clause-counts
 returns-in-Make-clause-counts g c = rw c.in-Make.is (counts_next [] _ _ c.made_hyper.result refl c.made_hyper.ensures.read)
+
+pub returns-in-Lines-clause-answer : goal.returns-in-Lines-clause-answer
+returns-in-Lines-clause-answer g c = rw c.in-Lines.is c.lines.ensures.answer
+
+pub returns-in-Lines-clause-counts : goal.returns-in-Lines-clause-counts
+returns-in-Lines-clause-counts g c = rw c.in-Lines.is c.lines.ensures.counts

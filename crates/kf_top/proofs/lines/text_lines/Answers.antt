@@ -10,10 +10,10 @@ use Rattle.kf_top.specs.Stops.{lifted}
 use Rattle.kf_top.specs.TaskAnswers.{names_in}
 use Rattle.kf_top.specs.declared.refusal.Done.{Done}
 use Rattle.kf_words.specs.Jobs.{gain_of}
-use Rattle.kf_lines.proofs.Answering.{not_cleared, once_cleared}
+use Rattle.kf_top.proofs.LineAnswers.{not_cleared, once_cleared}
 use Rattle.kf_top.proofs.Readings.{counts_next}
 use Rattle.kf_top.proofs.Steps.{lift_own}
-use Rattle.kf_lines.proofs.answer.text_lines.Goals as goal
+use Rattle.kf_top.proofs.lines.text_lines.Goals as goal
 
 pub returns-clause-answer : goal.returns-clause-answer
 returns-clause-answer g c =

@@ -7,9 +7,9 @@ use Rattle.kf_support.specs.Cleared.{turns_of}
 use Rattle.kf_top.specs.TaskAnswers.{names_in}
 use Rattle.kf_value.specs.Views.{items_of}
 use Rattle.kf_words.specs.Jobs.{gain_of}
-use Rattle.kf_lines.proofs.Answering.{all_there, no_gain}
+use Rattle.kf_top.proofs.LineAnswers.{all_there, no_gain}
 use Rattle.kf_top.proofs.Readings.{counts_next, gain_about}
-use Rattle.kf_lines.proofs.answer.gain_lines.Goals as goal
+use Rattle.kf_top.proofs.lines.gain_lines.Goals as goal
 
 pub returns-in_err-gain-clause-answer : goal.returns-in_err-gain-clause-answer
 returns-in_err-gain-clause-answer g c =

@@ -1,33 +1,34 @@
-//! What is answered about the lines of a file's program.
+//! Which line leaks: how much is seen of a file's program under a gain, and how much where each of its statements is silent.
 
 ghost use Rattle.std.specs.Prelude.{◌≡◌, ◌≤◌, IfErr, length};
 ghost use Rattle.kf_ast.specs.Views.{source_tree};
 ghost use Rattle.kf_gain.specs.Views.{gain_tree};
-ghost use Rattle.kf_lines.specs.Outcome.{LinesIn, LinesUnder, TaskLines};
-ghost use Rattle.kf_lines.specs.Views.{LinesAfter, task_of_request};
 ghost use Rattle.kf_load.specs.Stops.{IsProper};
 ghost use Rattle.kf_load.specs.Views.{program_in, text_of};
 ghost use Rattle.kf_support.specs.Cleared.{turns_of};
+ghost use Rattle.kf_top.specs.Answer.{LinesOn, OnHyper};
+ghost use Rattle.kf_top.specs.Outcome.{LinesUnder};
+ghost use Rattle.kf_top.specs.Steps.{LinesAfter};
 ghost use Rattle.kf_top.specs.Stops.{Answers, IsOwn};
-ghost use Rattle.kf_top.specs.TaskAnswers.{AnswerTo, Counts, FilesAnswer, names_in};
+ghost use Rattle.kf_top.specs.TaskAnswers.{Counts, FilesAnswer, TaskAnswer, names_in};
 ghost use Rattle.kf_top.specs.Views.{shown};
-ghost use Rattle.kf_words.specs.Jobs.{HasTurns, gain_of};
-ghost use Rattle.kf_words.specs.OfWords.{named};
+ghost use Rattle.kf_words.specs.Jobs.{gain_of};
+ghost use Rattle.kf_words.specs.OfWords.{named, on_file};
+ghost use Rattle.kf_words.specs.Task.{Lines};
 
-use crate::request::Request;
-use crate::summaries::{lines_of, summary_of};
-use crate::text::lines_text;
+use crate::gain::gain_in;
+use crate::refusal::{Done, Refusal, Stop, lift};
 use kf_ast::Source;
 use kf_gain::{Gain, GainFault};
 use kf_io::Files;
+use kf_lines::program_lines;
 use kf_load::{Text, cleared_text, text_of_file};
-use kf_run::hyper_of;
 use kf_support::Cleared;
-use kf_top::{Done, Refusal, Stop, gain_in, lift};
+use kf_value::Name;
 use kf_words::GainWord;
 use std::alloc::Global;
 
-// The lines of a cleared program with these bytes and this source, under a gain.
+// The lines of a cleared program whose text has these bytes and this source, under a gain.
 fn lines_under<'a>(
     alloc: Global,
     bytes: &[u8],
@@ -36,19 +37,15 @@ fn lines_under<'a>(
     gain: &Gain,
 ) -> Result<Done, Stop<'a>>
     requires short { length bytes.now ≤ 1048576 }
-    ensures answer { Answers shown result (LinesIn (turns_of cleared.now) bytes.now (source_tree source.now) (program_in cleared.now) (gain_tree gain.now)) }
+    ensures answer { Answers shown result (OnHyper (turns_of cleared.now) (program_in cleared.now)
+        (LinesOn (turns_of cleared.now) bytes.now (source_tree source.now) (program_in cleared.now) (gain_tree gain.now))) }
     ensures read { IfErr result IsOwn }
 {
-    let hyper = hyper_of(alloc, cleared)?;
-    let all = match summary_of(alloc, &hyper, gain) {
-        Ok(all) => all,
-        Err(GainFault::Wide) => return Err(Stop::Refused(Refusal::WideGain)),
-        Err(GainFault::Mem) => return Err(Stop::Mem),
-    };
-    drop(hyper);
-    let lines = lines_of(alloc, cleared, source.body.as_slice(), gain)?;
-    let bytes = lines_text(alloc, bytes, &all, &lines)?;
-    Ok(Done { yes: true, bytes })
+    match program_lines(alloc, bytes, source, cleared, gain) {
+        Ok(bytes) => Ok(Done { yes: true, bytes }),
+        Err(GainFault::Wide) => Err(Stop::Refused(Refusal::WideGain)),
+        Err(GainFault::Mem) => Err(Stop::Mem),
+    }
 }
 
 // The lines of a cleared program under a gain, whose table is read now.
@@ -96,20 +93,23 @@ fn text_lines<'a, F: Files>(
     }
 }
 
-/// What is answered to a request. The gain's table is read after the program is cleared.
-pub(crate) fn answer_to<'a, F: Files>(
+/// The lines of a file's program under a gain, whose table is read after the program is cleared.
+pub(crate) fn lines<'a, F: Files>(
     alloc: Global,
     files: &mut F,
-    request: &'a Request,
+    file: &'a Name,
+    word: &'a GainWord,
+    turns: u32,
 ) -> Result<Done, Stop<'a>>
-    requires turns { HasTurns (task_of_request request.now) }
-    ensures answer { AnswerTo (F.contents files.old) (F.faults files.old) (F.faults files.new) (task_of_request request.now)
-        (TaskLines (task_of_request request.now).command (task_of_request request.now).turns) result }
-    ensures counts { Counts (named (task_of_request request.now)) (F.faults files.old) (F.faults files.new) result }
+    requires some_turns { 1 ≤ turns }
+    requires few_turns { turns ≤ 65535 }
+    ensures answer { TaskAnswer (F.contents files.old) (F.faults files.old) (F.faults files.new)
+        (on_file (Lines (gain_of word.now)) file.now turns) result }
+    ensures counts { Counts (named (on_file (Lines (gain_of word.now)) file.now turns)) (F.faults files.old) (F.faults files.new) result }
 {
-    let name = request.file.as_str();
+    let name = file.as_str();
     match text_of_file(alloc, files, name) {
-        Ok(text) => text_lines(alloc, files, name, text, &request.gain, request.turns),
+        Ok(text) => text_lines(alloc, files, name, text, word, turns),
         Err(stop) => Err(lift(stop)),
     }
 }

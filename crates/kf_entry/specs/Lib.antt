@@ -1,4 +1,0 @@
--- Believed
-pub mod Asked
--- For bodies
-pub mod Either

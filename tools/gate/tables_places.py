@@ -56,6 +56,7 @@ def missing(what: str, words: Iterable[str], tables: Tables, form: str, *pattern
     if absent:
         yield f"{place}: {what} {', '.join(absent)} is missing there"
 
+
 PRESENCES = {"Absent": "no", "Optional": "may", "Required": "needs"}  # of --gain, as the code has it
 
 

@@ -15,7 +15,7 @@ from gate.tables_rows import Fault, Tables
 TOP = Path(__file__).resolve().parents[2]
 TABLES = ".ci/tables"
 CODE, ROW = "crates/kf_words/src/commands.rt", '    plain!("blame", CommandWord::OneFile(OneFile::Blame), 1),\n'
-TASK, TASK_ROW = "crates/kf_words/specs/Task.antt", '    ∷ (codes "blame", files_only Blame 1) ∷ []\n'
+TASK, TASK_ROW = "crates/kf_words/specs/Task.antt", '    ∷ (codes "blame", files_only Blame 1) ∷ (codes "lines", with_gain Optional Lines 1) ∷ []\n'
 OPS, LEXER, TOKENS = "crates/kf_ops/src/table.rt", "crates/kf_lex/src/words.rt", "crates/kf_lex/src/token.rt"
 COMMANDS, REFUSALS, KEYWORDS = "share/commands.toml", "share/refusals.toml", "share/keywords.toml"
 MANUAL, PAGE, PACKAGE = "share/man/kuifje.1", "web/src/words.mjs", "python/src/kuifje/vocabulary.py"
@@ -209,18 +209,30 @@ def test_rows_of_the_code_are_read_in_whatever_form(repository: Repository, row:
 @pytest.mark.parametrize(
     "name, old, new, naming",
     [
-        (CODE, ROW, ROW.replace('"blame"', "BLAME"), "16 rows can be read, and 17 name a command"),
+        (CODE, ROW, ROW.replace('"blame"', "BLAME"), "17 rows can be read, and 18 begin a row"),
         (CODE, ROW, ROW.replace('"blame"', "BLAME"), "blame is missing there, and stands in share/commands.toml"),
-        (CODE, ROW, "", "16 rows can be read, and 17 are declared"),
+        (CODE, ROW, "", "17 rows can be read, and 18 are declared"),
         (CODE, ROW, ROW + ROW, "blame stands there twice"),
         (CODE, ROW, ROW.replace(", 1)", ", 2)"), "blame has values ['2'], and in share/commands.toml ['1']"),
-        (CODE, "needs_gain: true", "needs_gain: false", "leak has --gain no, and in share/commands.toml needs"),
-        (CODE, "needs_gain: true", "gain: Gain::May", "leak has --gain may, and in share/commands.toml needs"),
+        (CODE, "UnderGain::Leak, Presence::Required", "UnderGain::Leak, Presence::Absent", "leak has --gain no, and in share/commands.toml needs"),
+        (CODE, "UnderGain::Leak, Presence::Required", "UnderGain::Leak, Presence::Optional", "leak has --gain may, and in share/commands.toml needs"),
+        (
+            CODE,
+            "UnderGain::Lines, Presence::Optional",
+            "UnderGain::Lines, Presence::Required",
+            "lines has --gain needs, and in share/commands.toml may",
+        ),
+        (
+            CODE,
+            "values: 1,\n                gain: $gain",
+            "values: 2,\n                gain: $gain",
+            "leak has values ['2'], and in share/commands.toml ['1']",
+        ),
         (CODE, "takes_json: true", "takes_json: false", "refine has --json False, and in share/commands.toml True"),
         (CODE, "const COMMANDS: ", "const TABLE: ", "'const COMMANDS: ' stands there 0 times"),
-        (TASK, TASK_ROW, TASK_ROW.replace('codes "blame"', "blame"), "16 rows can be read, and 17 stand in the list"),
+        (TASK, TASK_ROW, TASK_ROW.replace('codes "blame"', "blame"), "17 rows can be read, and 18 stand in the list"),
         (TASK, "\ncommands =\n", "\ncommands = \n", "'\\ncommands =\\n' stands there 0 times"),
-        ("crates/kf_lines/src/request.rt", '!= "lines"', '!= "lines-of"', f"{CODE}: lines is missing there"),
+        (CODE, 'under_gain!("lines"', 'under_gain!("lines-of"', f"{CODE}: lines is missing there"),
         ("crates/kf_words/src/arguments.rt", '.long("turns")', '.long("turn")', "turns is missing there, and stands in share/commands.toml"),
         ("crates/kf_words/src/arguments.rt", '.long("turns")', ".long(TURNS)", "2 rows can be read, and 3 options are made"),
         ("crates/kf_words/src/gain_words.rt", 'word == "guessing"', 'word == "guesses"', "guesses stands there, and not in share/commands.toml"),
@@ -241,17 +253,6 @@ def test_a_command_that_the_code_or_another_place_has_otherwise(repository: Repo
         word = naming.split(" is missing")[0].split()[-1]
         repository.write(name, (repository.top / name).read_text().replace(word, f"no {word[1:]}"))
     refused(repository, naming)
-
-
-def test_lines_may_be_a_row_of_the_words_too(repository: Repository) -> None:
-    """Until it is one, its own call has it."""
-    row = '    ("lines", CommandRow { command: CommandWord::UnderGain(UnderGain::Lines), values: 1, gain: Gain::May, takes_json: false }),\n'
-    repository.spoil(CODE, ROW, ROW + row)
-    repository.spoil(CODE, "; 17]", "; 18]")
-    repository.spoil(TASK, TASK_ROW, TASK_ROW.replace("∷ []\n", '∷ (codes "lines", may_gain Lines 1) ∷ []\n'))
-    assert run(repository.top, False) == ([], [])
-    repository.spoil(CODE, "Gain::May", "Gain::Needs")
-    refused(repository, "lines has --gain needs, and in share/commands.toml may")
 
 
 @pytest.mark.parametrize(

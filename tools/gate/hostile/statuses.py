@@ -20,7 +20,8 @@ LINES = {
     4: r"kuifje: write failed\n",
     5: rf"kuifje: NAME:\d+:\d+: ({FAULTS_OF_A_TEXT})\n",
     6: rf"kuifje: NAME:\d+:\d+: ({FAULTS_OF_A_RUN})\n",
-    7: rf"kuifje: (NAME: scale passes {WIDTH}|gain passes {WIDTH}|certificate passes {WIDTH}|channel passes {WIDTH}|tableau passes 2\^62 after \d+ pivots)\n",
+    7: rf"kuifje: (NAME: scale passes {WIDTH}|gain passes {WIDTH}|certificate passes {WIDTH}|channel passes {WIDTH}|"
+    r"tableau passes 2\^62 after \d+ pivots)\n",
     8: r"kuifje: (NAME: \d+ stores|tableau has \d+ cells|channel has \d+ cells|more than 20000 pivots)\n",
     9: r"kuifje: NAME: (Json|Wide|Empty|Unknown|Twice|Form [1-7])\n",
     10: r"kuifje: (target is not initial|targets differ|rows differ|channels do not fit)\n",

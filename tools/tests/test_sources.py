@@ -56,7 +56,7 @@ def test_what_is_read_beside_the_believed_is_named(repository: Repository, name:
         (MAP, "| `kf_lex` | `kf_ops`", "| `kf_lex` | `kf_value`", "kf_lex: stands on `kf_ops`"),
         (MAP, "`kf_run/src/pushes.rt`", "`kf_run/src/pushing.rt`", "no src/pushing.rt in kf_run"),
         ("docs/TRUST.md", "`kf_laws::told_answers`", "`kf_laws::all_answers`", "no all_answers in kf_laws"),
-        ("docs/decisions/lines.md", "`kf_lines::lines`", "`kf_lines::all_lines`", "no all_lines in kf_lines"),
+        ("docs/decisions/fixed-surface.md", "`program_lines`; the variant", "`kf_lines::all_lines`; the variant", "no all_lines in kf_lines"),
         ("crates/kf_traces/README.md", "`src/parts.rt`", "`src/parting.rt`", "no src/parting.rt in kf_traces"),
         ("crates/kf_traces/README.md", "`traced_laws`", "`traces_laws`", "no traces_laws in kf_traces"),
         ("crates/kf_cert/README.md", "`shows`", "`showing`", "no showing in kf_cert"),

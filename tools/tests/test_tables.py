@@ -154,7 +154,7 @@ def test_a_command_of_the_code_alone(repository: Repository, word: str) -> None:
     repository.spoil(TASK, TASK_ROW, TASK_ROW.replace("∷ []\n", f'∷ (codes "{word}", files_only Blame 1) ∷ []\n'))
     faults = refused(repository, f"{CODE}: {word} stands there, and not in {COMMANDS}")
     assert f"{TASK}: {word} stands there, and not in {COMMANDS}" in faults
-    assert f"{CODE}: 18 rows can be read, and 17 are declared" in faults
+    assert f"{CODE}: 19 rows can be read, and 18 are declared" in faults
 
 
 def test_a_command_of_the_table_alone_is_missed_wherever_it_stands_by_hand(repository: Repository) -> None:

@@ -111,7 +111,7 @@ def test_a_package_that_there_is_not_fails_and_the_others_are_installed(machine:
     assert status == 1 and said.splitlines()[-1] == "tools: missing are esbuild" and "Unable to locate package esbuild" in said
 
 
-@pytest.mark.parametrize("page", ["README.md", "python/README.md", "docs/PAGE.md", "audit/coq/README.md"])
+@pytest.mark.parametrize("page", ["docs/BUILDING.md", "python/README.md", "docs/PAGE.md", "audit/coq/README.md"])
 def test_pages_take_the_packages_from_the_list(page: str) -> None:
     text = (TOP / page).read_text()
     assert ".ci/tools " in text and not re.search(r"apt(-get)? install (?!\./|--no-install-recommends \$\(|\$\()", text)

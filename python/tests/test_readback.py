@@ -2,11 +2,10 @@
 
 import re
 from collections import Counter
-from importlib.machinery import SourceFileLoader
-from importlib.util import module_from_spec, spec_from_loader
 from pathlib import Path
 
 import pytest
+from gate import case_files, pages
 
 from kuifje import Channel, Hyper, Program, texts
 
@@ -33,14 +32,6 @@ KINDS = {
 }
 
 
-def script(name):
-    """A script of .ci as a module."""
-    loader = SourceFileLoader(f"ci_{name}", str(TOP / ".ci" / name))
-    module = module_from_spec(spec_from_loader(loader.name, loader))
-    loader.exec_module(module)
-    return module
-
-
 def is_read_back(words, text):
     """Reads an answer back, and gives the command that it is of; certificates are files of their own."""
     command = next(word for word in words if word in KINDS)
@@ -52,17 +43,17 @@ def is_read_back(words, text):
 
 def test_answers_of_cases_are_read_back():
     """Each case that has an answer: its status is 0 or 1."""
-    read, found = script("cases"), Counter()
-    for path in sorted((TOP / "crates" / "kf_cases" / "data").iterdir()):
-        for case in read.cases_of(path.read_text()):
-            if case["status"] <= 1:
-                found[is_read_back([word.decode() for word in case["argv"][1:]], case["out"].decode())] += 1
+    found = Counter()
+    for path in case_files.case_files():
+        for case in case_files.cases_of(path.read_text()):
+            if case.status <= 1:
+                found[is_read_back([word.decode() for word in case.argv[1:]], case.out.decode())] += 1
     assert sum(found.values()) > 5000 and found.keys() >= KINDS.keys(), found
 
 
 def test_answers_of_pages_are_read_back():
     """Each command of a page that is one of the program's alone, where it has an answer."""
-    pages, found = script("pages"), Counter()
+    found = Counter()
     for page in sorted(page for page in TOP.rglob("*.md") if "/." not in str(page.relative_to(TOP))):
         for block in pages.blocks_of(page.read_text(), lambda *_: None):
             for _, command, shown in block.commands() if block.word in pages.RUN else ():

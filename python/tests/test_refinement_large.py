@@ -39,7 +39,7 @@ def decided(a, b, seconds=300.0):
     """What is decided of two programs, in the time that it may take; of a no, what ``leak`` says of its table."""
     hypers = {id(of): of.hyper() for of in (a, b)}
     known = pytest.MonkeyPatch()
-    known.setattr(decisions, "_hyper", lambda of, _: hypers[id(of)])
+    known.setattr(decisions, "hyper_of", lambda of, _: hypers[id(of)])
     start = time.process_time()
     try:
         found = decide(a, b, seconds)

@@ -557,7 +557,7 @@ def knows_the_words(page: Page) -> None:
     """The editor colours the words that the other editors of share/ colour."""
     grammar = json.loads(example("share/textmate/kuifje.tmLanguage.json"))
     listed = {word for it in grammar["patterns"] for group in re.findall(r"\(([a-z|]+)\)", it["match"]) for word in group.split("|")}
-    own = set(re.findall(r'"([a-z]+)"', example("web/src/programs.mjs").split("export const WORDS")[1].split("};")[0]))
+    own = set(re.findall(r'"([a-z]+)"', example("web/src/words.mjs").split("export const WORDS")[1].split("};")[0]))
     expect(listed == own, f"the editors differ in {listed ^ own}")
 
 

@@ -190,3 +190,22 @@ def test_hints_at_lines_of_compiled_code() -> None:
     found = code_hints(Lines((one, two), Interval(1, 2), 4, None, True, 1))
     assert [(str(hint.place), hint.left, len(hint.patterns)) for hint in found] == [("check.c:4", 3, 2), ("check.c:9", 2, 1)]
     assert "select by a mask" in str(found[0]) and str(found[1]).startswith("check.c:9: how long a division takes")
+
+
+def test_a_model_in_a_file_by_the_commands(tmp_path: Path) -> None:
+    """The first of two letters that is wrong is seen; of nine words two classes are left by what is kept."""
+    testing = pytest.importorskip("click.testing")
+    from kuifje.lab import main
+
+    file = tmp_path / "words.py"
+    file.write_text(
+        "from kuifje.model import Secret, model, observe, uniform\n\n\n@model\ndef early(word: Secret = [uniform(range(3))] * 2):\n"
+        "    same = True\n    for i in range(2):\n        if same:\n            same = word[i] == 0\n    observe(same)\n"
+    )
+    floors = testing.CliRunner().invoke(main, ["floor", f"{file}:early", "--keep", "10"])
+    said = "one guess is right with 1/3, before a run with 1/9, and with 2/9 by what is kept alone\nabove the floor by 1/9\n"
+    assert (floors.exit_code, floors.output) == (1, f"{file}:early: {said}")
+    repaired = testing.CliRunner().invoke(main, ["repair", f"{file}:early", "--keep", "10"])
+    assert repaired.exit_code == 0 and "repair 1 (structure): one guess is right with 2/9; at the floor" in repaired.output
+    assert "-        if same:\n+        if hide(same):\n" in repaired.output
+    assert testing.CliRunner().invoke(main, ["floor", f"{file}:late", "--keep", "10"]).exit_code == 2

@@ -13,7 +13,6 @@ import warnings
 from collections.abc import Callable
 from concurrent.futures import ProcessPoolExecutor
 from fractions import Fraction
-from importlib.util import module_from_spec, spec_from_file_location
 from pathlib import Path
 from typing import Any
 
@@ -24,8 +23,9 @@ from .errors import KuifjeError
 from .observations import plan
 from .lints import SLOW, lint
 from .measured.command import measure
+from .named import program_named
 from .orders import order
-from .program import Program, program_of
+from .program import Program
 from .questions import AsItIsLeft
 from .repair.commands import floor_command, repair_command
 from .values import parse_value
@@ -80,31 +80,6 @@ def _write(text: str, output: Path | None) -> None:
         raise OSError(f"{output or 'standard output'}: {cause.strerror}") from None
 
 
-def _program(file: Path, turns: int) -> Program:
-    """The program in a file, or of a model in a Python file, ``FILE.py:NAME``, which is run. Raises ``ValueError`` where there is no such model."""
-    name, is_model, function = str(file).rpartition(":")
-    if not (is_model and name.endswith(".py")):
-        return Program.from_file(file, turns=turns)
-    from .model import Model
-
-    spec = spec_from_file_location(Path(name).stem, name)
-    assert spec is not None and spec.loader is not None  # of a file that ends with .py
-    module = module_from_spec(spec)
-    try:
-        spec.loader.exec_module(module)
-    except OSError as cause:
-        raise OSError(f"{name}: {cause.strerror}") from None
-    except Exception as cause:
-        raise ValueError(f"{name} can't be run: {type(cause).__name__}: {cause}") from None
-    found = getattr(module, function, None)
-    if not isinstance(found, Model):
-        raise ValueError(f"{name} has no model {function}")
-    try:
-        return program_of(function, found)
-    except TypeError as cause:
-        raise ValueError(f"{name}: {cause}") from None
-
-
 @main.command()
 @click.argument("files", type=FILE, nargs=-1, required=True)
 @click.option("--title", default="What programs leak", show_default=True, help="The report's title.")
@@ -114,7 +89,7 @@ def report(files: tuple[Path, ...], title: str, output: Path | None, turns: int,
     """Writes all that is found about programs as one HTML file that opens anywhere. A file may be a model in Python, FILE.py:NAME, which is run."""
     from . import reports
 
-    _write(reports.report([_program(file, turns) for file in files], title, timeout), output)
+    _write(reports.report([program_named(file, turns) for file in files], title, timeout), output)
 
 
 @main.command("leak")
@@ -125,7 +100,7 @@ def report(files: tuple[Path, ...], title: str, output: Path | None, turns: int,
 def leak_(file: Path, gain: str, printed: bool, turns: int, timeout: float | None) -> None:
     """Prints prior and posterior vulnerability, multiplicative and additive leakage; of one guess in bits, too, which are rounded. The file may be a
     model in Python, FILE.py:NAME, which is run."""
-    found = _program(file, turns).leak(gain, timeout)
+    found = program_named(file, turns).leak(gain, timeout)
     click.echo(str(found) if printed else leakage_lines(found), nl=False)
 
 

@@ -9,7 +9,7 @@ from pathlib import Path
 import click
 
 from ..measures import posterior_vulnerability, prior_vulnerability
-from ..program import Program
+from ..named import program_named
 from .purposes import Floor, Keep, Place, floor
 from .search import CHANGES, Repair, repair
 
@@ -62,8 +62,11 @@ def _repaired(number: int, one: Repair) -> str:
 @KEEP
 @click.option("--turns", type=int, default=1024, show_default=True, help="How many turns a loop may take.")
 def floor_command(file: Path, keep: Keep, turns: int) -> None:
-    """Says how far a program leaks beyond what it is for. Ends with 1 where it leaks more."""
-    found = floor(Program.from_file(file, turns=turns), keep)
+    """Says how far a program leaks beyond what it is for. Ends with 1 where it leaks more.
+
+    FILE may be a model in Python, FILE.py:NAME, which is run; lines are then those of its Python.
+    """
+    found = floor(program_named(file, turns), keep)
     click.echo(_said(str(file), found), nl=False)
     sys.exit(0 if found.is_reached else 1)
 
@@ -73,15 +76,16 @@ def floor_command(file: Path, keep: Keep, turns: int) -> None:
 @KEEP
 @click.option("--finals", multiple=True, metavar="NAME", help="A variable that has to end as it does; all where none is named.")
 @click.option("--changes", default="structure", show_default=True, help=f"The kinds of changes, of {','.join(CHANGES)}.")
-@click.option("--seconds", type=float, default=30, show_default=True, help="How long the search may take.")
+@click.option("--seconds", type=float, default=10, show_default=True, help="How long the search may take.")
 @click.option("-o", "--output", type=FILE, help="Where the text of the first repair is written.")
 @click.option("--turns", type=int, default=1024, show_default=True, help="How many turns a loop may take.")
 def repair_command(file: Path, keep: Keep, finals: tuple[str, ...], changes: str, seconds: float, output: Path | None, turns: int) -> None:
     """Proposes programs that do the same, still show what this one is for, and leak less.
 
-    Ends with 1 where the program is above the floor and none was found.
+    Ends with 1 where the program is above the floor and none was found. FILE may be a model in Python, FILE.py:NAME, which is run; lines are then
+    those of its Python, and so is the change where it can be written there.
     """
-    found = repair(Program.from_file(file, turns=turns), keep, finals or None, tuple(changes.split(",")), seconds)
+    found = repair(program_named(file, turns), keep, finals or None, tuple(changes.split(",")), seconds)
     click.echo(_said(str(file), found.floor), nl=False)
     for number, one in enumerate(found.found, 1):
         click.echo(_repaired(number, one), nl=False)

@@ -287,7 +287,7 @@ def repair(
     keep: Keep = None,
     finals: Sequence[str] | None = None,
     changes: Sequence[str] = ("structure",),
-    seconds: float = 30.0,
+    seconds: float = 10.0,
 ) -> Repairs:
     """Programs that do what this one does, still show what it is for, and leak less.
 

@@ -3,6 +3,7 @@
 from dataclasses import replace
 from fractions import Fraction
 from itertools import product
+from pathlib import Path
 from random import Random
 
 import pytest
@@ -151,3 +152,21 @@ def test_arguments() -> None:
         distance(NOTHING, Program("var y : 0..7 := uniform 0..7;\nabout old y;\n"))
     with pytest.raises(TypeError, match="a is a Program, a model or a Hyper"):
         ratio("x", PIN)  # type: ignore[arg-type]
+
+
+def test_the_command(tmp_path: Path) -> None:
+    """A guard that tells 3 of eight values doubles what one guess is worth, from 1/8 to 2/8; the other way round nothing is more."""
+    testing = pytest.importorskip("click.testing")
+    from kuifje.lab import main
+
+    for name, program in (("nothing", NOTHING), ("pin", PIN)):
+        (tmp_path / f"{name}.kf").write_bytes(program.text)
+    nothing, pin = (str(tmp_path / f"{name}.kf") for name in ("nothing", "pin"))
+    found = testing.CliRunner().invoke(main, ["more", nothing, pin])
+    assert (found.exit_code, found.output.splitlines()[:2]) == (1, ["times 2", "plus 0"])
+    assert "matrix 1 2\n1/2 1/2\n" in found.output and "\nrest 0\nactions 2\n" in found.output
+    found = testing.CliRunner().invoke(main, ["more", nothing, pin, "--plus"])
+    assert (found.exit_code, found.output.splitlines()[:2]) == (1, ["times 1", "plus 1/8"])
+    found = testing.CliRunner().invoke(main, ["more", pin, nothing])
+    assert (found.exit_code, found.output.splitlines()[:2]) == (0, ["times 1", "plus 0"])
+    assert testing.CliRunner().invoke(main, ["more", pin, str(tmp_path / "none.kf")]).exit_code == 2

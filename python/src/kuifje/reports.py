@@ -27,7 +27,7 @@ from .orders import Order, order
 from .program import Program
 from .questions import AsItIsLeft, target_of, warning_of
 from .texts import Attack, Hyper, Leakage, Lines, Move, Printed, format_number, html_table
-from .wording import bits, leakage_rows
+from .field_words import bits, leakage_rows
 
 __all__ = ["report"]
 

@@ -389,7 +389,7 @@ class Leakage(Printed):
         )
 
     def _repr_html_(self) -> str:
-        from .wording import leakage_rows
+        from .field_words import leakage_rows
 
         return html_table(leakage_rows(self), self.question)
 

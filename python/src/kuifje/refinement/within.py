@@ -23,7 +23,7 @@ from ..design.near import near_least
 from ..design.tableau import Tableau
 from ..errors import KuifjeError
 from ..program import Program, Writable
-from ..texts import Action, GainTable, Hyper, Matrix
+from ..texts import Action, GainTable, Hyper, Matrix, Verdict
 from ..values import Value, ascending
 from .decisions import asked_for, hyper_of
 
@@ -47,6 +47,12 @@ class Within:
     plus: Fraction
     matrix: Matrix | None
     table: GainTable
+
+    def __str__(self) -> str:
+        """Factor and amount, then the matrix and the table as ``refine`` prints such."""
+        proofs = [Verdict(True, self.matrix, None)] if self.matrix is not None else []
+        texts = [str(proof).partition("\n")[2] for proof in [*proofs, Verdict(False, None, self.table)]]
+        return f"times {'none' if self.times is None else self.times}\nplus {self.plus}\n{''.join(texts)}"
 
 
 @dataclass(frozen=True)

@@ -5,7 +5,7 @@ from fractions import Fraction
 import pytest
 
 from kuifje import Leakage
-from kuifje.wording import BITS, bits, leakage_lines, leakage_rows
+from kuifje.field_words import BITS, bits, leakage_lines, leakage_rows
 
 BAYES = Leakage.parse("gain bayes\nprior 1/8\nposterior 3/8\nquotient 3\ndifference 1/4\n")
 GUESSING = Leakage.parse("gain guessing\nprior 9/2\nposterior 3/2\nquotient 1/3\ndifference -3\n")

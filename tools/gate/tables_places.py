@@ -13,9 +13,9 @@ from .tables_rows import COMMANDS, KEYWORDS, LEXER, REFUSALS, USAGE, Command, Fa
 
 ALWAYS = (0, 4, 12)  # how each command may end, whatever it reads
 NAMED = r"(?<![\w-])WORD(?![\w-])"
-HOSTILE = "hostile/*.py", "tools/gate/hostile/*.py"  # stress tests, and what they allow the program to say
-BESIDE = ".ci/beside", ".ci/ways", "tools/gate/beside.py", "tools/gate/ways.py"  # plain programs that work answers out another way
-PLAIN = ".ci/plain.py", "tools/gate/plain.py"
+HOSTILE = ("tools/gate/hostile/*.py",)  # stress tests, and what they allow the program to say
+BESIDE = ("tools/gate/beside.py", "tools/gate/ways.py")  # plain programs that work answers out another way
+PLAIN = ("tools/gate/plain.py",)
 WRITTEN_COMMANDS = [  # these are written from the table; that no row is lost on the way is seen here
     "README.md",
     "docs/COMMANDS.md",

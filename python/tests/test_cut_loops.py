@@ -103,8 +103,9 @@ def test_what_cannot_be_cut() -> None:
         bounds(Program("var x : 0..1 := 0;\nabout old x;\nwhile x = 1 { skip; }\nwhile x = 1 { skip; }\n"), 3)
     with pytest.raises(ValueError, match="old alone"):
         bounds(Program(ENDING.replace("old x", "x")), 3, "guessing")
-    with pytest.raises(ValueError, match="tries:K"):
-        bounds(program, 3, "many")
+    for gain in ("many", "table:nowhere.json"):
+        with pytest.raises(ValueError, match="tries:K"):
+            bounds(program, 3, gain)
 
 
 def test_a_loop_within_that_chance_ends_is_refused_as_it_is() -> None:

@@ -19,7 +19,7 @@ from dataclasses import dataclass
 from fractions import Fraction
 
 from .arguments import whole
-from .gains import Gain, check_word, gain_of, less_is_worse
+from .gains import Gain, gain_of, less_is_worse
 from .program import Program
 from .source import Source, While, edited, read
 from .texts import GainTable, Inner
@@ -57,19 +57,18 @@ class Bounds:
 def bounds(program: Program, turns: int, gain: Gain = "bayes", *, line: int | None = None, timeout: float | None = None) -> Bounds:
     """Bounds of the posterior vulnerability of a program with a top-level loop that chance ends, which is cut after ``turns`` turns.
 
-    ``gain`` is as for ``Program.leak``. ``line`` is where the loop begins, from 1; it need not be given where the program has one top-level loop.
-    ``timeout`` bounds each question. Raises ``ValueError`` where there is no such loop, or the gain is ``guessing`` and an item of the target isn't
-    ``old``, and ``Refusal`` where a cut program is refused, as for its scale: each turn multiplies that by the weights of what is drawn in it.
+    ``gain`` is as for ``Program.leak``, but no name of a file. ``line`` is where the loop begins, from 1; it need not be given where the program has
+    one top-level loop. ``timeout`` bounds each question. Raises ``ValueError`` where there is no such loop, or the gain is ``guessing`` and an item
+    of the target isn't ``old``, and ``Refusal`` where a cut program is refused, as for its scale: each turn multiplies that by the weights of what is
+    drawn in it.
     """
     turns = whole("turns", turns, 1, MOST_TURNS)
     source = read(program.text.decode())
     loop = _loop(source, line)
     old = source.target.is_initial
+    if isinstance(gain, str) and gain.startswith("table:"):
+        raise ValueError("gain is bayes, tries:K, guessing or a GainTable: bounds look at the numbers of a table, and read no file")
     word, _ = gain_of(gain)
-    if isinstance(gain, str):
-        check_word(gain)
-        if gain.startswith("table:"):
-            raise ValueError("gain is a word or a GainTable; the file of a table is read by kuifje.losses or json")
     if word == "guessing" and not old:
         raise ValueError("the expected number of guesses is bounded where each item of the target is old alone")
     cut = _cut(program, source, loop, turns, f"{source.target}, {{going}}", "skip;")

@@ -191,6 +191,8 @@ def _texts(source: Source, declared: Declaration, parts: int) -> Iterator[tuple[
 
 @dataclass(frozen=True)
 class _Answer:
+    """What is kept of a part, by the whole program's probabilities: how many values have each, before a run and with each trace."""
+
     prior: Weights
     columns: dict[str, Weights]
 
